@@ -1,0 +1,5 @@
+pub mod Numbers
+pub mod Fields
+pub mod Laws
+pub mod Spends
+pub mod Examples

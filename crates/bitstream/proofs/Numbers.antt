@@ -1,0 +1,37 @@
+-- The number that a field's bits are. Assumes nothing.
+use Prim.Native.Nat.{ℕ, zero, suc, _+_, _*_, _^_, _≤_, _<_}
+use native.Mathlib.Omega.{arith}
+use native.Mathlib.Nat.{pow-suc}
+use native.Mathlib.Numerals.{add-one}
+use mathlib.Core.Path.{_≡_, refl, ap₂}
+use mathlib.Core.List.{List}
+use lib.Pow.{pow-mono}
+use Rattle.bitstream.specs.Bits.{bitAt, number}
+
+pub bit-lt : (p : List ℕ) (i : ℕ) → bitAt p i < 2
+unfolding bitAt
+bit-lt p i = omega arith
+
+-- n bits are below 2 ^ n
+pub number-lt : (p : List ℕ) (i n : ℕ) → number p i n < 2 ^ n
+unfolding number
+number-lt p i zero = omega arith
+number-lt p i (suc n) = rw pow-suc (omega (arith, number-lt p i n, bit-lt p (i + n)))
+
+-- one bit more
+pub number-more : (p : List ℕ) (i n : ℕ) → number p i (n + 1) ≡ number p i n * 2 + bitAt p (i + n)
+unfolding number
+number-more p i n = rw add-one
+
+-- at most 32 bits fit a u32, and so does what a turn of the bit loop computes
+pub number-fits : (p : List ℕ) (i n : ℕ) → n ≤ 32 → number p i n < 2 ^ 32
+number-fits p i n h = omega (arith, number-lt p i n, pow-mono h)
+
+pub turn-fits : (p : List ℕ) (i k : ℕ) → k < 32 → number p i k * 2 + bitAt p (i + k) < 2 ^ 32
+turn-fits p i k h = rw (number-more p i k) at (number-fits p i (k + 1) (omega arith))
+
+-- packets that agree up to the field's end have the same number there
+pub number-same : (p q : List ℕ) (i n : ℕ) → ((k : ℕ) → k < i + n → bitAt p k ≡ bitAt q k) → number p i n ≡ number q i n
+unfolding number
+number-same p q i zero h = refl
+number-same p q i (suc n) h = ap₂ (λ (x y : ℕ). x * 2 + y) (number-same p q i n (λ k l. h k (omega arith))) (h (i + n) (omega arith))
