@@ -27,7 +27,7 @@ k-raw n e h = record { n = n; reads = e; bound = h }
 
 -- a parameter, `k-of (c .fits .x) h`, and any number that was written and fits
 abbrev pub k-of : {w : Width} {z : ℤ} {b : ℕ} → SFits w z → Size z b → Known w z b
-k-of {w} {z} f h = k-raw (ofZ w z) (toZ-ofZ w z f) h
+k-of {w} {z} f h = record { n = ofZ w z; reads = toZ-ofZ w z f; bound = h }
 
 -- a parameter of which nothing is known but its type
 abbrev pub k-any : {w : Width} {z : ℤ} → SFits w z → Known w z (2 ^ hbits w)
@@ -35,7 +35,7 @@ k-any {w} {z} f = k-of f (size (natAbs-le z (f .sfits)))
 
 -- a call's result: `k-call (c .f .ok) (c .f .ensures) h`
 abbrev pub k-call : {w : Width} {y z : ℤ} {b : ℕ} → mag y < 2 ^ hbits w → y ≡ z → Size z b → Known w z b
-k-call {w} {y} f e h = k-raw (ofZ w y) (toZ-ofZ w y (record { sfits = f }) ∙ e) h
+k-call {w} {y} f e h = record { n = ofZ w y; reads = toZ-ofZ w y (record { sfits = f }) ∙ e; bound = h }
 
 -- the same, where the callee ensures the bound: `k-got (c .f .ok) e (c .f .ensures .1)`
 abbrev pub k-got : {w : Width} {y z : ℤ} {b : ℕ} → mag y < 2 ^ hbits w → y ≡ z → natAbs y ≤ b → Known w z b
@@ -43,11 +43,11 @@ k-got {b = b} f e h = k-call f e (subst (λ (v : ℤ). Size v b) e (size h))
 
 -- bits that are known to be the number n
 abbrev pub k-bits : {w : Width} {m n b : ℕ} → m ≡ n → n ≤ b → T (ltb b (2 ^ hbits w)) → Known w (pos n) b
-k-bits {w} {m} {n} {b} e h t = k-raw m (ap (toZ w) e ∙ toZ-pos w n (lt-of-le-of-lt h (ltb→lt b (2 ^ hbits w) t))) (size h)
+k-bits {w} {m} {n} {b} e h t = record { n = m; reads = ap (toZ w) e ∙ toZ-pos w n (lt-of-le-of-lt h (ltb→lt b (2 ^ hbits w) t)); bound = size h }
 
 -- an unsigned number that was cast
 abbrev pub k-nat : {w : Width} (n b : ℕ) → n ≤ b → T (ltb b (2 ^ hbits w)) → Known w (pos n) b
-k-nat n b h t = k-bits (λ _. n) h t
+k-nat {w} n b h t = record { n = n; reads = toZ-pos w n (lt-of-le-of-lt h (ltb→lt b (2 ^ hbits w) t)); bound = size h }
 
 -- a literal that is not negative
 abbrev pub k-lit : {w : Width} (n : ℕ) → T (ltb n (2 ^ hbits w)) → Known w (pos n) n
@@ -59,11 +59,11 @@ k-neg {w} k t = k-of (record { sfits = ltb→lt k (2 ^ hbits w) t }) (size (le-r
 
 -- a larger bound
 abbrev pub k-up : {w : Width} {z : ℤ} {a : ℕ} (b : ℕ) → Known w z a → T (leb a b) → Known w z b
-k-up {a = a} b p t = k-raw (p .n) (p .reads) (size-up (p .bound) (leb→le a b t))
+k-up {a = a} b p t = record { n = p .n; reads = p .reads; bound = size-up (p .bound) (leb→le a b t) }
 
 -- the same number, written another way
 abbrev pub k-is : {w : Width} {y z : ℤ} {b : ℕ} → Known w y b → y ≡ z → Known w z b
-k-is {b = b} p e = k-raw (p .n) (p .reads ∙ e) (subst (λ (v : ℤ). Size v b) e (p .bound))
+k-is {b = b} p e = record { n = p .n; reads = p .reads ∙ e; bound = subst (λ (v : ℤ). Size v b) e (p .bound) }
 
 -- ---- what an operation writes, y, which is z
 
@@ -71,13 +71,13 @@ pub fits-as : {w : Width} {y z : ℤ} → y ≡ z → SFits w z → SFits w y
 fits-as {w} e f = subst (SFits w) (sym e) f
 
 abbrev pub k-wrote : {w : Width} {y z : ℤ} {b : ℕ} → y ≡ z → SFits w z → Size z b → Known w z b
-k-wrote {w} {y} e f h = k-raw (ofZ w y) (toZ-ofZ w y (fits-as e f) ∙ e) h
-
-abbrev pub k-made : {w : Width} {y z : ℤ} {b : ℕ} → y ≡ z → Size z b → T (ltb b (2 ^ hbits w)) → Known w z b
-k-made {w} e h t = k-wrote e (size-fits w h t) h
+k-wrote {w} {y} e f h = record { n = ofZ w y; reads = toZ-ofZ w y (fits-as e f) ∙ e; bound = h }
 
 pub fits-at : {w : Width} {y z : ℤ} {b : ℕ} → y ≡ z → Size z b → T (ltb b (2 ^ hbits w)) → SFits w y
 fits-at {w} e h t = fits-as e (size-fits w h t)
+
+abbrev pub k-made : {w : Width} {y z : ℤ} {b : ℕ} → y ≡ z → Size z b → T (ltb b (2 ^ hbits w)) → Known w z b
+k-made {w} {y} e h t = record { n = ofZ w y; reads = toZ-ofZ w y (fits-at e h t) ∙ e; bound = h }
 
 -- ---- operations on two numbers
 
