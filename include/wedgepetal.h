@@ -7,7 +7,11 @@
  * must not overlap another list of the same call. Nothing else is asked.
  *
  * Each call returns 0 if it is accepted, else the number of its refusal. A
- * refused call writes nothing.
+ * refused call writes nothing. A wrong length is found before all else, then
+ * a fault of the packet or the session, then that the frame has no such thing.
+ *
+ * Blocks and macro blocks are counted from the lower left corner: x to the
+ * right, y up. Planes are 0 (Y'), 1 (Cb) and 2 (Cr).
  */
 #ifndef WEDGEPETAL_H
 #define WEDGEPETAL_H
@@ -22,14 +26,14 @@ extern "C" {
 /* The numbers of refusals. */
 enum {
     WEDGEPETAL_ACCEPTED = 0,
-    WEDGEPETAL_LENGTH = 1,         /* a lent list has another length than the published one */
+    WEDGEPETAL_LENGTH = 1,          /* a lent list has another length than the published one */
     WEDGEPETAL_NOT_THIS_HEADER = 2, /* the type byte or "theora" is not the wanted one */
-    WEDGEPETAL_VERSION = 3,        /* VMAJ is not 3, or VMIN is not 2 */
-    WEDGEPETAL_PACKET_END = 4,     /* a read passes the end of the packet */
-    WEDGEPETAL_FIELD_RANGE = 5,    /* an identification field breaks its range */
-    WEDGEPETAL_RESERVED = 6,       /* PF is 1, or the 3 last identification bits are not 0 */
-    WEDGEPETAL_SESSION = 8,        /* the session's identification fields break 5, 6 or their widths */
-    WEDGEPETAL_ABSENT = 255        /* the frame has no such block, macro block or sample */
+    WEDGEPETAL_VERSION = 3,         /* VMAJ is not 3, or VMIN is not 2 */
+    WEDGEPETAL_PACKET_END = 4,      /* a read passes the end of the packet */
+    WEDGEPETAL_FIELD_RANGE = 5,     /* an identification field breaks its range */
+    WEDGEPETAL_RESERVED = 6,        /* PF is 1, or the 3 last identification bits are not 0 */
+    WEDGEPETAL_SESSION = 8,         /* the session's identification fields break 5, 6 or their widths */
+    WEDGEPETAL_ABSENT = 255         /* the frame has no such block, macro block or sample */
 };
 
 /* A session is a list of 17 numbers: the identification fields, and whether

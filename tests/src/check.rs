@@ -11,6 +11,9 @@ const GUARD: usize = 4;
 /// The longest list that is lent to be written.
 const LONGEST: usize = 20;
 
+/// How many bytes of a packet are printed; longer packets go on with zeros.
+const SHOWN: usize = 256;
+
 /// What lies in lent memory before a call.
 const PATTERN: [u64; LONGEST + 2 * GUARD] = {
     let mut pattern = [0; LONGEST + 2 * GUARD];
@@ -125,7 +128,8 @@ fn describe(
 ) -> String {
     let mut text = format!("call:     wedgepetal_{}\n", KINDS[call.kind()]);
     if let Call::Identification { packet } = call {
-        let _ = writeln!(text, "packet:   {} bytes: {}", packet.len(), hex(packet));
+        let shown = &packet[..packet.len().min(SHOWN)];
+        let _ = writeln!(text, "packet:   {} bytes: {}", packet.len(), hex(shown));
     } else {
         let _ = writeln!(text, "given:    {call:?}");
         let _ = writeln!(text, "session:  {} numbers: {session:?}", session.len());

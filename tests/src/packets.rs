@@ -269,14 +269,15 @@ impl fmt::Display for Report {
     }
 }
 
-/// Compares every single-bit change of a header at every cut, then so many
-/// random packets.
+/// Compares every single-bit change of a header at every cut, a very long
+/// packet, then so many random packets.
 pub fn compare(random: &mut Random, packets: u64) -> Result<Report, Difference> {
     let mut report = Report {
         tally: Tally::new(),
         faults: [[0; 7]; LAYOUT.len()],
     };
     every_bit_and_cut(random, &mut report)?;
+    long_packet(random, &mut report)?;
     for _ in 0..packets {
         let packet = packet(random);
         report.compare(packet.bytes())?;
@@ -300,6 +301,16 @@ fn every_bit_and_cut(random: &mut Random, report: &mut Report) -> Result<(), Dif
         }
     }
     Ok(())
+}
+
+/// A header with zeros behind it, so many that the number of bits passes 32
+/// bits. The zeros take no memory as long as nobody looks at them.
+fn long_packet(random: &mut Random, report: &mut Report) -> Result<(), Difference> {
+    let mut packet = vec![0; (1 << 29) + 5];
+    packet[..HEADER_BYTES].copy_from_slice(&Header::valid(random).bytes());
+    report.compare(&packet)?;
+    packet[HEADER_BYTES - 1] |= 1;
+    report.compare(&packet)
 }
 
 #[cfg(test)]
