@@ -1,0 +1,104 @@
+//! The wrapper over the static library: values that the rules fix.
+#![allow(missing_docs)]
+
+use wedgepetal::{Block, MacroBlock, Refusal, Session, identification, lists};
+
+/// A session of so many macro blocks.
+fn session(fmbw: u64, fmbh: u64, pf: u64) -> Session {
+    Session {
+        vrev: 1,
+        fmbw,
+        fmbh,
+        picw: 16 * fmbw,
+        pich: 16 * fmbh,
+        picx: 0,
+        picy: 0,
+        frn: 25,
+        frd: 1,
+        parn: 0,
+        pard: 0,
+        cs: 0,
+        nombr: 0,
+        qual: 0,
+        kfgshift: 6,
+        pf,
+        references: false,
+    }
+}
+
+fn luma(x: u64, y: u64) -> Block {
+    Block { plane: 0, x, y }
+}
+
+#[test]
+fn block_3_3_is_10() {
+    let session = session(2, 2, 0);
+    assert_eq!(session.block_number(luma(3, 3)), Ok(10));
+    assert_eq!(session.block_at(10), Ok(luma(3, 3)));
+}
+
+#[test]
+fn luma_of_240_by_48_samples() {
+    let session = session(15, 3, 0);
+    assert_eq!(session.block_number(luma(0, 4)), Ok(120));
+    assert_eq!(session.block_number(luma(3, 5)), Ok(124));
+}
+
+#[test]
+fn sizes_beyond_32_bits() {
+    let sizes = session(4096, 4097, 0).sizes().unwrap();
+    assert_eq!(sizes.planes[0].length, 4_296_015_872);
+    assert_eq!(sizes.blocks, 100_687_872);
+    let sizes = session(65535, 65535, 3).sizes().unwrap();
+    assert_eq!(sizes.blocks, 51_538_034_700);
+    assert_eq!(sizes.buffer, 64 * 51_538_034_700);
+}
+
+#[test]
+fn macro_blocks_and_samples() {
+    let session = session(3, 2, 2);
+    let upper_right = MacroBlock { x: 1, y: 1 };
+    assert_eq!(session.macro_block_at(2), Ok(upper_right));
+    assert_eq!(session.macro_block_number(upper_right), Ok(2));
+    let chroma = Block {
+        plane: 1,
+        x: 1,
+        y: 3,
+    };
+    assert_eq!(session.macro_block_of(chroma), Ok(upper_right));
+    let cb = 48 * 32;
+    assert_eq!(
+        session.sample_offset(chroma, 2, 1),
+        Ok(cb + 25 * 24 + 8 + 2)
+    );
+}
+
+#[test]
+fn refusals() {
+    assert_eq!(identification(b""), Err(Refusal::PACKET_END));
+    assert_eq!(session(1, 1, 1).sizes(), Err(Refusal::SESSION));
+    assert_eq!(session(1, 1, 0).block_at(6), Err(Refusal::ABSENT));
+    assert_eq!(lists::sizes(&[0; 17], &mut []), 1);
+    assert_eq!(lists::identification(&[], &mut []), 1);
+}
+
+#[test]
+fn sessions_are_lists() {
+    let mut with_references = session(3, 2, 3);
+    with_references.references = true;
+    let list = with_references.to_list();
+    assert_eq!(list[16], 1);
+    assert_eq!(Session::from_list(&list), with_references);
+}
+
+#[test]
+fn every_number_has_a_meaning() {
+    let unknown = Refusal(14).meaning();
+    for number in (1..=13).chain([255]) {
+        assert_ne!(Refusal(number).meaning(), unknown);
+    }
+    assert_eq!(
+        Refusal::VERSION.to_string(),
+        "refusal 3: VMAJ is not 3, or VMIN is not 2"
+    );
+}

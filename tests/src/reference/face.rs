@@ -1,0 +1,272 @@
+//! The calls of `include/wedgepetal.h`: what each answers for any lists.
+//!
+//! The lengths are judged first (number 1), then the session (number 8) or the
+//! packet, then whether the frame has what is asked for (number 255).
+
+use super::identification::identification;
+use super::members::{Block, macro_block_of};
+use super::order::{Grid, Place};
+use super::samples::sample_offset;
+use super::session::{Fields, SESSION_NUMBERS};
+use super::sizes::{Plane, Sizes, sizes};
+
+/// A call without its lists of numbers.
+#[derive(Clone, Copy, Debug)]
+pub enum Call<'a> {
+    /// `wedgepetal_identification`
+    Identification {
+        /// The packet.
+        packet: &'a [u8],
+    },
+    /// `wedgepetal_sizes`
+    Sizes,
+    /// `wedgepetal_block_at`
+    BlockAt {
+        /// In coded order.
+        number: u64,
+    },
+    /// `wedgepetal_block_number`
+    BlockNumber {
+        /// Plane and place.
+        block: Block,
+    },
+    /// `wedgepetal_macro_block_at`
+    MacroBlockAt {
+        /// In coded order.
+        number: u64,
+    },
+    /// `wedgepetal_macro_block_number`
+    MacroBlockNumber {
+        /// The macro block.
+        place: Place,
+    },
+    /// `wedgepetal_macro_block_of`
+    MacroBlockOf {
+        /// Plane and place.
+        block: Block,
+    },
+    /// `wedgepetal_sample_offset`
+    SampleOffset {
+        /// Plane and place.
+        block: Block,
+        /// From the left, 0 to 7.
+        column: u64,
+        /// From the bottom, 0 to 7.
+        row: u64,
+    },
+}
+
+/// The calls' names, in the order of `Call::kind`.
+pub const KINDS: [&str; 8] = [
+    "identification",
+    "sizes",
+    "block_at",
+    "block_number",
+    "macro_block_at",
+    "macro_block_number",
+    "macro_block_of",
+    "sample_offset",
+];
+
+impl Call<'_> {
+    /// Which call this is, as an index into `KINDS`.
+    pub fn kind(&self) -> usize {
+        match self {
+            Call::Identification { .. } => 0,
+            Call::Sizes => 1,
+            Call::BlockAt { .. } => 2,
+            Call::BlockNumber { .. } => 3,
+            Call::MacroBlockAt { .. } => 4,
+            Call::MacroBlockNumber { .. } => 5,
+            Call::MacroBlockOf { .. } => 6,
+            Call::SampleOffset { .. } => 7,
+        }
+    }
+
+    /// How many numbers the call writes.
+    pub fn output_length(&self) -> usize {
+        match self {
+            Call::Identification { .. } => SESSION_NUMBERS,
+            Call::Sizes => 16,
+            Call::BlockAt { .. } => 3,
+            Call::MacroBlockAt { .. } | Call::MacroBlockOf { .. } => 2,
+            Call::BlockNumber { .. }
+            | Call::MacroBlockNumber { .. }
+            | Call::SampleOffset { .. } => 1,
+        }
+    }
+}
+
+/// What a call answers.
+#[derive(Clone, Debug, PartialEq, Eq)]
+pub enum Answer {
+    /// Accepted; the numbers that it writes.
+    Accepted(Numbers),
+    /// Refused by this number; nothing is written.
+    Refused(u32),
+}
+
+/// Up to 17 numbers.
+#[derive(Clone, Debug, PartialEq, Eq)]
+pub struct Numbers {
+    numbers: [u64; SESSION_NUMBERS],
+    length: usize,
+}
+
+impl Answer {
+    /// Accepted with these numbers.
+    pub fn accepted(list: &[u64]) -> Answer {
+        let mut numbers = [0; SESSION_NUMBERS];
+        numbers[..list.len()].copy_from_slice(list);
+        Answer::Accepted(Numbers {
+            numbers,
+            length: list.len(),
+        })
+    }
+
+    /// 0 or the number of the refusal.
+    pub fn number(&self) -> u32 {
+        match self {
+            Answer::Accepted(_) => 0,
+            Answer::Refused(number) => *number,
+        }
+    }
+}
+
+impl Numbers {
+    /// The numbers as a list.
+    pub fn list(&self) -> &[u64] {
+        &self.numbers[..self.length]
+    }
+}
+
+/// What a call answers, given its session's list (if it takes one) and the
+/// length of the list that it is lent to write.
+pub fn answer(call: Call, session: &[u64], output_length: usize) -> Answer {
+    if output_length != call.output_length() {
+        return Answer::Refused(1);
+    }
+    if let Call::Identification { packet } = call {
+        return match identification(packet) {
+            Ok(fields) => Answer::accepted(&fields.session(0)),
+            Err(fault) => Answer::Refused(fault.number),
+        };
+    }
+    let Ok(list) = session.try_into() else {
+        return Answer::Refused(1);
+    };
+    let fields = Fields::of_session(list);
+    if !fields.sound() {
+        return Answer::Refused(8);
+    }
+    answer_for(call, &fields).unwrap_or(Answer::Refused(255))
+}
+
+/// What a call on a sound session answers, or none if the frame has no such thing.
+fn answer_for(call: Call, fields: &Fields) -> Option<Answer> {
+    let frame = sizes(fields);
+    let macro_blocks = Grid::macro_blocks(fields.fmbw, fields.fmbh);
+    let answer = match call {
+        Call::Identification { .. } => unreachable!("takes no session"),
+        Call::Sizes => Answer::accepted(&frame.list()),
+        Call::BlockAt { number } => {
+            let (plane, (x, y)) = block_at(&frame, number)?;
+            Answer::accepted(&[plane, x, y])
+        }
+        Call::BlockNumber { block } => Answer::accepted(&[block_number(&frame, block)?]),
+        Call::MacroBlockAt { number } => {
+            let (x, y) = macro_blocks.place(number)?;
+            Answer::accepted(&[x, y])
+        }
+        Call::MacroBlockNumber { place } => Answer::accepted(&[macro_blocks.number(place)?]),
+        Call::MacroBlockOf { block } => {
+            block_number(&frame, block)?;
+            let (x, y) = macro_block_of(fields.pf, block);
+            Answer::accepted(&[x, y])
+        }
+        Call::SampleOffset { block, column, row } => {
+            block_number(&frame, block)?;
+            if column > 7 || row > 7 {
+                return None;
+            }
+            Answer::accepted(&[sample_offset(&frame, block, column, row)])
+        }
+    };
+    Some(answer)
+}
+
+/// The blocks of a plane.
+pub fn grid(plane: &Plane) -> Grid {
+    Grid::blocks(plane.across, plane.up)
+}
+
+/// The block of a number in coded order; the planes follow on.
+fn block_at(frame: &Sizes, number: u64) -> Option<Block> {
+    let mut rest = number;
+    for (plane, size) in (0..).zip(&frame.planes) {
+        let grid = grid(size);
+        if rest < grid.count() {
+            return Some((plane, grid.place(rest)?));
+        }
+        rest -= grid.count();
+    }
+    None
+}
+
+/// The number of a block in coded order; the planes follow on.
+fn block_number(frame: &Sizes, (plane, place): Block) -> Option<u64> {
+    let plane = usize::try_from(plane).ok().filter(|plane| *plane < 3)?;
+    let before: u64 = frame.planes[..plane].iter().map(|p| grid(p).count()).sum();
+    Some(before + grid(&frame.planes[plane]).number(place)?)
+}
+
+#[cfg(test)]
+mod tests {
+    use super::*;
+
+    /// A session of 3 by 2 macro blocks in 4:2:0.
+    fn session() -> [u64; SESSION_NUMBERS] {
+        let fields = Fields {
+            fmbw: 3,
+            fmbh: 2,
+            frn: 1,
+            frd: 1,
+            ..Fields::default()
+        };
+        fields.session(1)
+    }
+
+    #[test]
+    fn lengths_come_first() {
+        assert_eq!(answer(Call::Sizes, &[0; 17], 15), Answer::Refused(1));
+        assert_eq!(answer(Call::Sizes, &[0; 16], 16), Answer::Refused(1));
+        assert_eq!(answer(Call::Sizes, &[0; 17], 16), Answer::Refused(8));
+        let call = Call::Identification { packet: &[] };
+        assert_eq!(answer(call, &[], 16), Answer::Refused(1));
+        assert_eq!(answer(call, &[], 17), Answer::Refused(4));
+    }
+
+    #[test]
+    fn planes_follow_on() {
+        let at = |number| answer(Call::BlockAt { number }, &session(), 3);
+        assert_eq!(at(23), Answer::accepted(&[0, 5, 2]));
+        assert_eq!(at(24), Answer::accepted(&[1, 0, 0]));
+        assert_eq!(at(35), Answer::accepted(&[2, 2, 0]));
+        assert_eq!(at(36), Answer::Refused(255));
+    }
+
+    #[test]
+    fn what_the_frame_lacks_is_255() {
+        let number = |block| answer(Call::BlockNumber { block }, &session(), 1).number();
+        assert_eq!(number((2, (2, 1))), 0);
+        assert_eq!(number((2, (3, 1))), 255);
+        assert_eq!(number((3, (0, 0))), 255);
+        let sample = |column, row| {
+            let block = (1, (0, 0));
+            answer(Call::SampleOffset { block, column, row }, &session(), 1)
+        };
+        assert_eq!(sample(7, 7), Answer::accepted(&[1536 + 24 * 7 + 7]));
+        assert_eq!(sample(8, 0), Answer::Refused(255));
+        assert_eq!(sample(0, 8), Answer::Refused(255));
+    }
+}

@@ -1,0 +1,19 @@
+//! An independent implementation of the identification header, the sizes and
+//! the block orders, written from the rules alone.
+//!
+//! It is meant to be read beside the rules, not to be fast: it reads bit by
+//! bit, walks the super blocks and the curve as they are described, and counts
+//! where the library computes. Both profiles of this workspace check every sum
+//! and product for overflow.
+
+pub mod bits;
+pub mod face;
+pub mod identification;
+pub mod members;
+pub mod order;
+pub mod samples;
+pub mod session;
+pub mod sizes;
+
+#[cfg(test)]
+mod table;

@@ -1,0 +1,200 @@
+//! The identification fields that a session holds, and when they are sound.
+
+/// How many numbers stand for a session: 16 fields and whether references exist.
+pub const SESSION_NUMBERS: usize = 17;
+
+/// The fields' names, in the order of a session's list.
+pub const NAMES: [&str; SESSION_NUMBERS] = [
+    "VREV",
+    "FMBW",
+    "FMBH",
+    "PICW",
+    "PICH",
+    "PICX",
+    "PICY",
+    "FRN",
+    "FRD",
+    "PARN",
+    "PARD",
+    "CS",
+    "NOMBR",
+    "QUAL",
+    "KFGSHIFT",
+    "PF",
+    "references",
+];
+
+/// The fields' widths in bits, in the order of a session's list.
+pub const WIDTHS: [u32; 16] = [8, 16, 16, 24, 24, 8, 8, 32, 32, 24, 24, 8, 24, 6, 5, 2];
+
+/// The identification fields.
+#[derive(Clone, Debug, Default, PartialEq, Eq)]
+pub struct Fields {
+    /// Version revision.
+    pub vrev: u64,
+    /// Frame width in macro blocks.
+    pub fmbw: u64,
+    /// Frame height in macro blocks.
+    pub fmbh: u64,
+    /// Picture width.
+    pub picw: u64,
+    /// Picture height.
+    pub pich: u64,
+    /// Picture offset from the left.
+    pub picx: u64,
+    /// Picture offset from the bottom.
+    pub picy: u64,
+    /// Frame rate numerator.
+    pub frn: u64,
+    /// Frame rate denominator.
+    pub frd: u64,
+    /// Aspect ratio numerator.
+    pub parn: u64,
+    /// Aspect ratio denominator.
+    pub pard: u64,
+    /// Colour space.
+    pub cs: u64,
+    /// Nominal bit rate.
+    pub nombr: u64,
+    /// Quality hint.
+    pub qual: u64,
+    /// Key frame number shift.
+    pub kfgshift: u64,
+    /// Pixel format.
+    pub pf: u64,
+}
+
+impl Fields {
+    /// The fields in the order of a session's list.
+    pub fn numbers(&self) -> [u64; 16] {
+        [
+            self.vrev,
+            self.fmbw,
+            self.fmbh,
+            self.picw,
+            self.pich,
+            self.picx,
+            self.picy,
+            self.frn,
+            self.frd,
+            self.parn,
+            self.pard,
+            self.cs,
+            self.nombr,
+            self.qual,
+            self.kfgshift,
+            self.pf,
+        ]
+    }
+
+    /// The session's list with these fields.
+    pub fn session(&self, references: u64) -> [u64; SESSION_NUMBERS] {
+        let mut list = [references; SESSION_NUMBERS];
+        list[..16].copy_from_slice(&self.numbers());
+        list
+    }
+
+    /// The fields of a session's list.
+    pub fn of_session(list: &[u64; SESSION_NUMBERS]) -> Fields {
+        Fields {
+            vrev: list[0],
+            fmbw: list[1],
+            fmbh: list[2],
+            picw: list[3],
+            pich: list[4],
+            picx: list[5],
+            picy: list[6],
+            frn: list[7],
+            frd: list[8],
+            parn: list[9],
+            pard: list[10],
+            cs: list[11],
+            nombr: list[12],
+            qual: list[13],
+            kfgshift: list[14],
+            pf: list[15],
+        }
+    }
+
+    /// Whether every field fits its width.
+    fn fit(&self) -> bool {
+        let numbers = self.numbers();
+        (0..16).all(|i| u128::from(numbers[i]) < 1 << WIDTHS[i])
+    }
+
+    /// Whether no field breaks number 5. The fields fit their widths.
+    fn in_range(&self) -> bool {
+        self.fmbw > 0
+            && self.fmbh > 0
+            && self.picw <= 16 * self.fmbw
+            && self.pich <= 16 * self.fmbh
+            && self.picx <= 16 * self.fmbw - self.picw
+            && self.picy <= 16 * self.fmbh - self.pich
+            && self.frn > 0
+            && self.frd > 0
+    }
+
+    /// Whether the fields break neither 5 nor 6 nor their widths.
+    pub fn sound(&self) -> bool {
+        self.fit() && self.in_range() && self.pf != 1
+    }
+}
+
+#[cfg(test)]
+mod tests {
+    use super::*;
+
+    /// Fields of 3 by 2 macro blocks.
+    fn small() -> Fields {
+        Fields {
+            fmbw: 3,
+            fmbh: 2,
+            picw: 40,
+            pich: 32,
+            picx: 8,
+            frn: 25,
+            frd: 1,
+            ..Fields::default()
+        }
+    }
+
+    /// The small fields with one number of the list changed.
+    fn changed(index: usize, value: u64) -> Fields {
+        let mut list = small().session(0);
+        list[index] = value;
+        Fields::of_session(&list)
+    }
+
+    #[test]
+    fn lists_go_both_ways() {
+        let list: [u64; SESSION_NUMBERS] = std::array::from_fn(|i| i as u64 + 100);
+        assert_eq!(Fields::of_session(&list).session(116), list);
+    }
+
+    #[test]
+    fn every_width_is_a_limit() {
+        assert!(small().sound());
+        for (index, width) in WIDTHS.into_iter().enumerate() {
+            assert!(!changed(index, 1 << width).sound(), "{}", NAMES[index]);
+            assert!(!changed(index, u64::MAX).sound(), "{}", NAMES[index]);
+        }
+        for free in [0, 7, 8, 9, 10, 11, 12, 13, 14, 15] {
+            let limit = (1 << WIDTHS[free]) - 1;
+            assert!(changed(free, limit).sound(), "{}", NAMES[free]);
+        }
+    }
+
+    #[test]
+    fn ranges_are_limits() {
+        for index in [1, 2, 7, 8] {
+            assert!(!changed(index, 0).sound(), "{}", NAMES[index]);
+        }
+        assert!(changed(5, 8).sound());
+        assert!(!changed(5, 9).sound());
+        assert!(!changed(6, 1).sound());
+        assert!(!changed(3, 41).sound());
+        assert!(!changed(4, 33).sound());
+        assert!(changed(4, 0).sound());
+        assert!(!changed(15, 1).sound());
+    }
+}

@@ -1,0 +1,47 @@
+//! The values that the rules' table fixes for these parts.
+
+use super::bits::BitReader;
+use super::order::Grid;
+use super::session::Fields;
+use super::sizes::{Sizes, sizes};
+
+fn frame(fmbw: u64, fmbh: u64, pf: u64) -> Sizes {
+    sizes(&Fields {
+        fmbw,
+        fmbh,
+        pf,
+        ..Fields::default()
+    })
+}
+
+#[test]
+fn b1_read_3_then_5_bits() {
+    let mut reader = BitReader::new(&[0xB1]);
+    assert_eq!((reader.read(3), reader.read(5)), (Ok(5), Ok(17)));
+}
+
+#[test]
+fn block_3_3_is_10() {
+    assert_eq!(Grid::blocks(4, 4).number((3, 3)), Some(10));
+    assert_eq!(Grid::blocks(4, 4).walk()[10], (3, 3));
+}
+
+#[test]
+fn luma_of_240_by_48_samples() {
+    let luma = frame(15, 3, 0).planes[0];
+    let grid = Grid::blocks(luma.across, luma.up);
+    assert_eq!(grid.number((0, 4)), Some(120));
+    assert_eq!(grid.number((3, 5)), Some(124));
+}
+
+#[test]
+fn sizes_of_4096_by_4097_macro_blocks() {
+    let frame = frame(4096, 4097, 0);
+    assert_eq!(frame.planes[0].length, 4_296_015_872);
+    assert_eq!(frame.nbs, 100_687_872);
+}
+
+#[test]
+fn blocks_of_65535_squared_444() {
+    assert_eq!(frame(65535, 65535, 3).nbs, 51_538_034_700);
+}

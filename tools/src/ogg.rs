@@ -1,0 +1,364 @@
+//! Ogg pages, as far as the first packet of each logical stream.
+
+use std::collections::BTreeMap;
+use std::fmt;
+use std::io::{self, ErrorKind, Read};
+
+/// The bytes of a page before its lacing values.
+const PAGE_HEADER: usize = 27;
+
+/// The flag of a page that goes on with a packet of the page before.
+const CONTINUED: u8 = 1;
+
+/// The flag of a logical stream's first page.
+const FIRST: u8 = 2;
+
+/// The flag of a logical stream's last page.
+const LAST: u8 = 4;
+
+/// How much of a packet is kept. An identification header has 42 bytes, and
+/// what follows them is ignored.
+const KEPT: usize = 4096;
+
+/// What is wrong with a recording, and at which of its bytes.
+#[derive(Debug)]
+pub enum Fault {
+    /// It could not be read.
+    Read(io::Error),
+    /// No page begins here.
+    NoPage(u64),
+    /// The page that begins here has another version than 0.
+    Version(u64),
+    /// The page that begins here is cut short.
+    Cut(u64),
+    /// The page that begins here has a wrong checksum.
+    Checksum(u64),
+    /// It ends before a stream's first packet is complete.
+    Ends,
+}
+
+impl fmt::Display for Fault {
+    fn fmt(&self, f: &mut fmt::Formatter<'_>) -> fmt::Result {
+        match self {
+            Fault::Read(error) => write!(f, "cannot be read: {error}"),
+            Fault::NoPage(0) => write!(f, "not an Ogg recording: it does not begin with a page"),
+            Fault::NoPage(place) => write!(f, "damaged: no Ogg page begins at byte {place}"),
+            Fault::Version(place) => write!(f, "the Ogg page at byte {place} is not of version 0"),
+            Fault::Ends => write!(f, "cut short: it ends inside a stream's first packet"),
+            Fault::Cut(place) => write!(f, "cut short in the Ogg page at byte {place}"),
+            Fault::Checksum(place) => {
+                write!(
+                    f,
+                    "damaged: the checksum of the page at byte {place} is wrong"
+                )
+            }
+        }
+    }
+}
+
+/// The first packet of a logical stream.
+#[derive(Debug, PartialEq, Eq)]
+pub struct FirstPacket {
+    /// The stream's serial number.
+    pub serial: u32,
+    /// The packet's bytes, at most the first 4096.
+    pub bytes: Vec<u8>,
+}
+
+/// One page.
+struct Page {
+    flags: u8,
+    serial: u32,
+    lacing: Vec<u8>,
+    body: Vec<u8>,
+}
+
+/// Gives the first packets of a recording's logical streams, one by one.
+pub struct FirstPackets<R> {
+    pages: Pages<R>,
+    /// Packets that are not yet complete, by serial number.
+    open: BTreeMap<u32, Vec<u8>>,
+    done: bool,
+}
+
+impl<R: Read> FirstPackets<R> {
+    /// Reads a recording from its beginning.
+    pub fn new(reader: R) -> FirstPackets<R> {
+        FirstPackets {
+            pages: Pages { reader, place: 0 },
+            open: BTreeMap::new(),
+            done: false,
+        }
+    }
+
+    /// Takes a page in; gives the packet that it completes. The streams'
+    /// first pages come before all others, so that reading can stop when no
+    /// packet is open and a later page comes.
+    fn take(&mut self, page: Page) -> Option<FirstPacket> {
+        if page.flags & FIRST != 0 {
+            self.open.insert(page.serial, Vec::new());
+        } else if self.open.is_empty() {
+            self.done = true;
+            return None;
+        } else if page.flags & CONTINUED == 0 {
+            return None;
+        }
+        let mut bytes = self.open.remove(&page.serial)?;
+        let (length, complete) = first_packet(&page.lacing);
+        let room = KEPT - bytes.len();
+        bytes.extend(page.body.iter().take(length.min(room)));
+        if complete || page.flags & LAST != 0 {
+            let serial = page.serial;
+            return Some(FirstPacket { serial, bytes });
+        }
+        self.open.insert(page.serial, bytes);
+        None
+    }
+}
+
+impl<R: Read> Iterator for FirstPackets<R> {
+    type Item = Result<FirstPacket, Fault>;
+
+    fn next(&mut self) -> Option<Self::Item> {
+        while !self.done {
+            match self.pages.next() {
+                Ok(Some(page)) => {
+                    if let Some(packet) = self.take(page) {
+                        return Some(Ok(packet));
+                    }
+                }
+                Ok(None) => {
+                    self.done = true;
+                    if !self.open.is_empty() {
+                        return Some(Err(Fault::Ends));
+                    }
+                }
+                Err(fault) => {
+                    self.done = true;
+                    return Some(Err(fault));
+                }
+            }
+        }
+        None
+    }
+}
+
+/// How many bytes of a page belong to its first packet, and whether the packet
+/// ends there: at the first lacing value below 255.
+fn first_packet(lacing: &[u8]) -> (usize, bool) {
+    let mut length = 0;
+    for value in lacing {
+        length += usize::from(*value);
+        if *value < 255 {
+            return (length, true);
+        }
+    }
+    (length, false)
+}
+
+/// The pages of a recording.
+struct Pages<R> {
+    reader: R,
+    /// The byte place of the next page.
+    place: u64,
+}
+
+impl<R: Read> Pages<R> {
+    /// The next page, or none at the end.
+    fn next(&mut self) -> Result<Option<Page>, Fault> {
+        let mut header = [0; PAGE_HEADER];
+        let got = fill(&mut self.reader, &mut header).map_err(Fault::Read)?;
+        if got == 0 && self.place > 0 {
+            return Ok(None);
+        }
+        let pattern = got.min(4);
+        if got == 0 || header[..pattern] != b"OggS"[..pattern] {
+            return Err(Fault::NoPage(self.place));
+        }
+        if got < PAGE_HEADER {
+            return Err(Fault::Cut(self.place));
+        }
+        if header[4] != 0 {
+            return Err(Fault::Version(self.place));
+        }
+        let lacing = self.bytes(usize::from(header[26]))?;
+        let body = self.bytes(lacing.iter().map(|value| usize::from(*value)).sum())?;
+        if number(&header[22..26]) != page_checksum(&header, &lacing, &body) {
+            return Err(Fault::Checksum(self.place));
+        }
+        self.place += (PAGE_HEADER + lacing.len() + body.len()) as u64;
+        Ok(Some(Page {
+            flags: header[5],
+            serial: number(&header[14..18]),
+            lacing,
+            body,
+        }))
+    }
+
+    /// So many bytes of the present page.
+    fn bytes(&mut self, length: usize) -> Result<Vec<u8>, Fault> {
+        let mut bytes = vec![0; length];
+        let got = fill(&mut self.reader, &mut bytes).map_err(Fault::Read)?;
+        if got < length {
+            return Err(Fault::Cut(self.place));
+        }
+        Ok(bytes)
+    }
+}
+
+/// Reads until the buffer is full or the input ends; gives how many bytes came.
+fn fill(reader: &mut impl Read, buffer: &mut [u8]) -> io::Result<usize> {
+    let mut got = 0;
+    while got < buffer.len() {
+        match reader.read(&mut buffer[got..]) {
+            Ok(0) => break,
+            Ok(count) => got += count,
+            Err(error) if error.kind() == ErrorKind::Interrupted => {}
+            Err(error) => return Err(error),
+        }
+    }
+    Ok(got)
+}
+
+/// A number of up to 4 bytes, the least significant byte first.
+fn number(bytes: &[u8]) -> u32 {
+    bytes
+        .iter()
+        .rev()
+        .fold(0, |sum, byte| sum << 8 | u32::from(*byte))
+}
+
+/// The checksum of a page, taken with zeros in the place of the checksum.
+fn page_checksum(header: &[u8; PAGE_HEADER], lacing: &[u8], body: &[u8]) -> u32 {
+    let sum = checksum(0, &header[..22]);
+    let sum = checksum(sum, &[0; 4]);
+    let sum = checksum(sum, &header[26..]);
+    checksum(checksum(sum, lacing), body)
+}
+
+/// Ogg's checksum of more bytes: polynomial 04C11DB7, most significant bit first.
+fn checksum(sum: u32, bytes: &[u8]) -> u32 {
+    bytes.iter().fold(sum, |sum, byte| {
+        (0..8).fold(sum ^ u32::from(*byte) << 24, |sum, _| {
+            let out = sum & 0x8000_0000 != 0;
+            sum << 1 ^ if out { 0x04C1_1DB7 } else { 0 }
+        })
+    })
+}
+
+/// A recording of one logical stream with one short packet, below 255 bytes.
+pub fn recording(serial: u32, packet: &[u8]) -> Vec<u8> {
+    let mut header = [0; PAGE_HEADER];
+    header[..4].copy_from_slice(b"OggS");
+    header[5] = FIRST | LAST;
+    header[14..18].copy_from_slice(&serial.to_le_bytes());
+    header[26] = 1;
+    let lacing = [packet.len() as u8];
+    let sum = page_checksum(&header, &lacing, packet);
+    header[22..26].copy_from_slice(&sum.to_le_bytes());
+    [&header[..], &lacing, packet].concat()
+}
+
+#[cfg(test)]
+mod tests {
+    use super::*;
+
+    /// A page with any flags, lacing values and body.
+    fn page(flags: u8, serial: u32, lacing: &[u8], body: &[u8]) -> Vec<u8> {
+        let mut header = [0; PAGE_HEADER];
+        header[..4].copy_from_slice(b"OggS");
+        header[5] = flags;
+        header[14..18].copy_from_slice(&serial.to_le_bytes());
+        header[26] = lacing.len() as u8;
+        let sum = page_checksum(&header, lacing, body);
+        header[22..26].copy_from_slice(&sum.to_le_bytes());
+        [&header[..], lacing, body].concat()
+    }
+
+    fn packets(bytes: &[u8]) -> Vec<Result<FirstPacket, Fault>> {
+        FirstPackets::new(bytes).collect()
+    }
+
+    fn good(bytes: &[u8]) -> Vec<(u32, Vec<u8>)> {
+        let packets = packets(bytes).into_iter();
+        packets
+            .map(|packet| packet.map(|p| (p.serial, p.bytes)).unwrap())
+            .collect()
+    }
+
+    #[test]
+    fn a_known_checksum() {
+        // The published check value of this polynomial with a zero start.
+        assert_eq!(checksum(0, b"123456789"), 0x89A1_897F);
+    }
+
+    #[test]
+    fn own_recordings_read_back() {
+        let bytes = recording(7, b"abc");
+        assert_eq!(good(&bytes), [(7, b"abc".to_vec())]);
+    }
+
+    #[test]
+    fn two_streams_and_later_pages() {
+        let mut bytes = page(FIRST, 1, &[2], b"ab");
+        bytes.extend(page(FIRST, 2, &[1, 1], b"cd"));
+        bytes.extend(page(0, 1, &[1], b"x"));
+        bytes.extend(b"what follows is not looked at");
+        assert_eq!(good(&bytes), [(1, b"ab".to_vec()), (2, b"c".to_vec())]);
+    }
+
+    #[test]
+    fn a_packet_over_two_pages() {
+        let long = [5; 255];
+        let mut bytes = page(FIRST, 1, &[255], &long);
+        bytes.extend(page(FIRST, 2, &[1], b"z"));
+        bytes.extend(page(CONTINUED, 1, &[2, 1], b"abc"));
+        let mut first = long.to_vec();
+        first.extend(b"ab");
+        assert_eq!(good(&bytes), [(2, b"z".to_vec()), (1, first)]);
+    }
+
+    #[test]
+    fn only_the_beginning_of_a_packet_is_kept() {
+        let body = vec![1; 255 * 255];
+        let mut bytes = page(FIRST, 1, &[255; 255], &body);
+        bytes.extend(page(CONTINUED, 1, &[3], b"abc"));
+        assert_eq!(good(&bytes), [(1, vec![1; KEPT])]);
+    }
+
+    #[test]
+    fn cut_recordings_are_faults() {
+        let bytes = recording(7, b"abcdefgh");
+        for length in 0..bytes.len() {
+            let packets = packets(&bytes[..length]);
+            assert_eq!(packets.len(), 1);
+            assert!(packets[0].is_err(), "{length}");
+        }
+    }
+
+    #[test]
+    fn a_packet_without_its_end_is_a_fault() {
+        let bytes = page(FIRST, 1, &[255], &[0; 255]);
+        assert!(matches!(packets(&bytes)[..], [Err(Fault::Ends)]));
+        assert!(packets(&page(FIRST, 1, &[], &[])).len() == 1);
+    }
+
+    #[test]
+    fn damaged_recordings_are_faults() {
+        let bytes = recording(7, b"abcdefgh");
+        for bit in 0..8 * bytes.len() {
+            let mut damaged = bytes.clone();
+            damaged[bit / 8] ^= 1 << (bit % 8);
+            let packets = packets(&damaged);
+            assert!(packets.iter().any(Result::is_err), "{bit}");
+        }
+    }
+
+    #[test]
+    fn other_files_are_faults() {
+        assert!(matches!(packets(b"RIFF....")[0], Err(Fault::NoPage(0))));
+        let mut bytes = page(FIRST, 1, &[255], &[0; 255]);
+        bytes.extend(b"junk");
+        assert!(matches!(packets(&bytes)[0], Err(Fault::NoPage(283))));
+    }
+}

@@ -1,0 +1,82 @@
+//! What `wedgepetal info` prints of a recording.
+
+use std::fmt::{self, Write};
+use wedgepetal::{Session, Sizes};
+
+/// The fields and sizes of a session as text.
+pub fn report(session: &Session, sizes: &Sizes) -> String {
+    let mut text = String::new();
+    // Writing to a string does not fail.
+    let _ = write_fields(&mut text, session);
+    let _ = write_sizes(&mut text, sizes);
+    text
+}
+
+/// One line for each field.
+fn write_fields(out: &mut String, s: &Session) -> fmt::Result {
+    let line = |out: &mut String, name: &str, value: u64, note: &str| {
+        writeln!(
+            out,
+            "  {}",
+            format!("{name:9} {value:<12} {note}").trim_end()
+        )
+    };
+    writeln!(out, "identification fields")?;
+    line(out, "VREV", s.vrev, "revision of version 3.2")?;
+    let note = format!("frame width in macro blocks ({} samples)", 16 * s.fmbw);
+    line(out, "FMBW", s.fmbw, &note)?;
+    let note = format!("frame height in macro blocks ({} samples)", 16 * s.fmbh);
+    line(out, "FMBH", s.fmbh, &note)?;
+    line(out, "PICW", s.picw, "picture width in samples")?;
+    line(out, "PICH", s.pich, "picture height in samples")?;
+    line(out, "PICX", s.picx, "picture offset from the left")?;
+    line(out, "PICY", s.picy, "picture offset from the bottom")?;
+    let rate = s.frn as f64 / s.frd as f64;
+    let note = format!("frame rate, numerator ({rate:.3} frames a second)");
+    line(out, "FRN", s.frn, &note)?;
+    line(out, "FRD", s.frd, "frame rate, denominator")?;
+    line(out, "PARN", s.parn, "aspect ratio of a sample, numerator")?;
+    line(out, "PARD", s.pard, "aspect ratio of a sample, denominator")?;
+    line(out, "CS", s.cs, colour_space(s.cs))?;
+    line(out, "NOMBR", s.nombr, "nominal bits a second")?;
+    line(out, "QUAL", s.qual, "quality hint")?;
+    line(out, "KFGSHIFT", s.kfgshift, "shift of the key frame number")?;
+    line(out, "PF", s.pf, pixel_format(s.pf))
+}
+
+/// The name of a colour space.
+fn colour_space(cs: u64) -> &'static str {
+    match cs {
+        0 => "colour space undefined",
+        1 => "colour space Rec. 470M",
+        2 => "colour space Rec. 470BG",
+        _ => "colour space reserved",
+    }
+}
+
+/// The name of a pixel format.
+fn pixel_format(pf: u64) -> &'static str {
+    match pf {
+        0 => "pixel format 4:2:0",
+        2 => "pixel format 4:2:2",
+        3 => "pixel format 4:4:4",
+        _ => "pixel format reserved",
+    }
+}
+
+/// The counts of a frame and one line for each plane.
+fn write_sizes(out: &mut String, sizes: &Sizes) -> fmt::Result {
+    writeln!(out, "sizes of a frame")?;
+    writeln!(out, "  macro blocks (NMBS)   {}", sizes.macro_blocks)?;
+    writeln!(out, "  blocks (NBS)          {}", sizes.blocks)?;
+    writeln!(out, "  super blocks (NSBS)   {}", sizes.super_blocks)?;
+    writeln!(out, "  bytes of a buffer     {}", sizes.buffer)?;
+    for (name, plane) in ["Y'", "Cb", "Cr"].iter().zip(&sizes.planes) {
+        writeln!(
+            out,
+            "  plane {name}: {} by {} blocks, {} bytes at {}",
+            plane.blocks_across, plane.blocks_up, plane.length, plane.offset
+        )?;
+    }
+    Ok(())
+}
