@@ -1,0 +1,215 @@
+-- How `tree` goes, by what its fields are, and the list of the nodes that `grow` stores. Assumes nothing.
+use Prim.Native.Nat.{ℕ, zero, suc, _+_, _-_, _≤_, _<_}
+use native.Mathlib.Nat.{zero-add}
+use native.Mathlib.Omega.{arith}
+use native.Mathlib.Numerals.{add-one}
+use mathlib.Core.Path.{_≡_, refl, sym, ap, ap₂, _∙_}
+use mathlib.Core.List.{List, [], _∷_, _++_, append-assoc, append-nil}
+use mathlib.Core.Bool.{true, false}
+use lib.ListN.{length, getD, take, drop, set, replicate, length-append, length-replicate, replicate-append-replicate}
+use lib.Seq.{take-suc, append-snoc, set-split, set-at, take-at, drop-at, drop-append-add, drop-drop, length-take-le, paste-suc, take-append-add, drop-length}
+use borrow.Author.Tests.{eq-eqb, ne-eqb, lt-ltb, le-ltb}
+use Rattle.bitstream.specs.Reading.{Outcome, got, refused, after, field}
+use Rattle.bitstream.proofs.Fields.{no-mix, field-cases, judged-end, judged-fails, judged-passes}
+use Rattle.huffman.specs.Tree.{Tree, leaf, fork, leaves, size, allowed, leafBit, leafToken, tree, huffmanTree, flat, nodesOf}
+use Rattle.huffman.specs.Answer.{asPlace, nodesAfter, asGrown, Stored}
+use Rattle.huffman.specs.declared.Place.the-variants as place
+use Rattle.huffman.specs.declared.Grown.{Grown}
+use Rattle.huffman.specs.declared.Grown.the-variants.{Done, Refused}
+use Rattle.huffman.proofs.Trees.{branches, proper-size, read-proper}
+
+-- a field refuses by 4 at its first bit alone
+pub field-refused : (n : ℕ) (p : List ℕ) (i : ℕ) {k e : ℕ} → field n p i ≡ refused k e → field n p i ≡ refused 4 i
+field-refused n p i h = field-cases n p i (λ _ f. no-mix (sym f ∙ h)) (λ _ f. f)
+
+-- ---- the steps, by the leaf bit
+module _ (d seen : ℕ) (p : List ℕ) (i : ℕ) where
+  bit-end : field 1 p i ≡ refused 4 i → leafBit d seen p i ≡ refused 4 i
+  unfolding leafBit
+  bit-end f = judged-end 1 (allowed d seen) 7 p i f
+
+  bit-fails : {b e : ℕ} → field 1 p i ≡ got b e → allowed d seen b ≡ false → leafBit d seen p i ≡ refused 7 i
+  unfolding leafBit
+  bit-fails f t = judged-fails 1 (allowed d seen) 7 p i f t
+
+  bit-passes : {b e : ℕ} → field 1 p i ≡ got b e → allowed d seen b ≡ true → leafBit d seen p i ≡ got b e
+  unfolding leafBit
+  bit-passes f t = judged-passes 1 (allowed d seen) 7 p i f t
+
+module _ (seen : ℕ) (p : List ℕ) (i : ℕ) where
+  bit-refused : (d : ℕ) {k e : ℕ} → leafBit d seen p i ≡ refused k e → tree d seen p i ≡ refused k e
+  unfolding tree
+  bit-refused zero f = rw f
+  bit-refused (suc d) f = rw f
+
+  pub tree-end : (d : ℕ) → field 1 p i ≡ refused 4 i → tree d seen p i ≡ refused 4 i
+  tree-end d f = bit-refused d (bit-end d seen p i f)
+
+  pub tree-full : (d : ℕ) {b e : ℕ} → field 1 p i ≡ got b e → b ≡ 1 → 32 ≤ seen → tree d seen p i ≡ refused 7 i
+  tree-full d f h l = bit-refused d (bit-fails d seen p i f (rw (eq-eqb _ _ h) (le-ltb seen 32 l)))
+
+  pub tree-deep : (d : ℕ) {b e : ℕ} → field 1 p i ≡ got b e → (b ≡ 1 → ⊥) → d ≡ 0 → tree d seen p i ≡ refused 7 i
+  tree-deep d f h z = bit-refused d (bit-fails d seen p i f (rw (ne-eqb _ _ h) (le-ltb 0 d (omega arith))))
+
+  pub tree-leaf : (d : ℕ) {b e : ℕ} → field 1 p i ≡ got b e → b ≡ 1 → seen < 32 → tree d seen p i ≡ leafToken p e
+  unfolding tree
+  tree-leaf zero f h l = rw (bit-passes zero seen p i f (rw (eq-eqb _ _ h) (lt-ltb seen 32 l)))
+  tree-leaf (suc d) f h l = rw (bit-passes (suc d) seen p i f (rw (eq-eqb _ _ h) (lt-ltb seen 32 l)), eq-eqb _ _ h)
+
+  fork-suc : (d : ℕ) {b e : ℕ} → field 1 p i ≡ got b e → (b ≡ 1 → ⊥) → tree (suc d) seen p i ≡ branches d seen p e
+  unfolding tree
+  fork-suc d f h = rw (bit-passes (suc d) seen p i f (rw (ne-eqb _ _ h) (lt-ltb 0 (suc d) (omega arith))), ne-eqb _ _ h)
+
+  tree-fork : (d : ℕ) {b e : ℕ} → field 1 p i ≡ got b e → (b ≡ 1 → ⊥) → (d ≡ 0 → ⊥) → tree d seen p i ≡ branches (d - 1) seen p e
+  tree-fork d f h z = ap (λ (k : ℕ). tree k seen p i) (omega arith) ∙ fork-suc (d - 1) f h
+
+  pub fork-refused : (d : ℕ) {b e k j : ℕ} → field 1 p i ≡ got b e → (b ≡ 1 → ⊥) → (d ≡ 0 → ⊥) → tree (d - 1) seen p e ≡ refused k j → tree d seen p i ≡ refused k j
+  fork-refused d f h z r = tree-fork d f h z ∙ rw r
+
+  pub fork-left : (d : ℕ) {b e j : ℕ} {l : Tree} → field 1 p i ≡ got b e → (b ≡ 1 → ⊥) → (d ≡ 0 → ⊥) → tree (d - 1) seen p e ≡ got l j
+      → tree d seen p i ≡ after (tree (d - 1) (seen + leaves l) p j) (λ r e. got (fork l r) e)
+  fork-left d f h z r = tree-fork d f h z ∙ rw r
+
+module _ (p : List ℕ) (i : ℕ) where
+  pub token-end : field 5 p i ≡ refused 4 i → leafToken p i ≡ refused 4 i
+  unfolding leafToken
+  token-end f = rw f
+
+  pub token-got : {t e : ℕ} → field 5 p i ≡ got t e → leafToken p i ≡ got (leaf t) e
+  unfolding leafToken
+  token-got f = rw f
+
+-- ---- what an answer says
+pub grown-done : (base seen : ℕ) (o : Outcome Tree) {r : Grown} {place mid count : ℕ} → r ≡ asGrown base seen o → r ≡ Done place mid count
+    → (t : Tree) × (o ≡ got t place) × (mid ≡ base + size t) × (count ≡ seen + leaves t)
+grown-done base seen (got t e) a h = (t, cc, cc, cc)
+grown-done base seen (refused k e) a h = let z : _≡_ {A = ℕ} 0 1 = cc in absurd (omega arith)
+
+pub grown-refused : (base seen : ℕ) (o : Outcome Tree) {r : Grown} {k e : ℕ} → r ≡ asGrown base seen o → r ≡ Refused k e → o ≡ refused k e
+grown-refused base seen (got t d) a h = let z : _≡_ {A = ℕ} 0 1 = cc in absurd (omega arith)
+grown-refused base seen (refused j d) a h = cc
+
+grown-fork : (base seen : ℕ) (l : Tree) (o : Outcome Tree) → asGrown (base + 1 + size l) (seen + leaves l) o ≡ asGrown base seen (after o (λ r e. got (fork l r) e))
+grown-fork base seen l (got r e) = ap₂ (λ (x y : ℕ). Done e x y) (omega arith) (omega arith)
+grown-fork base seen l (refused k e) = refl
+
+-- ---- the list of nodes
+pub flat-length : (base : ℕ) (t : Tree) → length (flat base t) ≡ size t
+unfolding flat
+flat-length base (leaf t) = refl
+flat-length base (fork l r) = simp length-append (omega (arith, flat-length (base + 1) l, flat-length (base + 1 + size l) r))
+
+pub stored-leaf : (base : ℕ) (old : List ℕ) (t : ℕ) → base < length old → set old base t ≡ take base old ++ flat base (leaf t) ++ drop (base + 1) old
+unfolding flat
+stored-leaf base old t h = set-split old base t h ∙ rw (add-one base) (sym (append-snoc (take base old) t (drop (suc base) old)))
+
+put-before : (a l d : List ℕ) (x v n : ℕ) → length a ≡ n → set (a ++ (x ∷ []) ++ l ++ d) n v ≡ (a ++ v ∷ l) ++ d
+put-before a l d x v n h = simp append-assoc (set-at a x (l ++ d) v n h)
+
+module _ (base : ℕ) (old new₁ new₂ : List ℕ) (l r : Tree) (h : base < length old) where
+  abbrev mid : ℕ
+  mid = base + 1 + size l
+
+  abbrev head : List ℕ
+  head = take base old ++ (128 + mid) ∷ flat (base + 1) l
+
+  head-length : length head ≡ mid
+  head-length = simp (length-append, length-take-le base old (omega arith), flat-length) (omega arith)
+
+  -- the nodes of the 0 branch are there, and the fork is put before them
+  left-stored : new₁ ≡ take (base + 1) old ++ flat (base + 1) l ++ drop mid old → set new₁ base (128 + mid) ≡ head ++ drop mid old
+  left-stored e =
+      let s : take (base + 1) old ≡ take base old ++ getD old base 0 ∷ [] = rw (add-one base) (take-suc old base 0 h) in
+      rw (e, s) (put-before (take base old) (flat (base + 1) l) (drop mid old) _ (128 + mid) base (length-take-le base old (omega arith)))
+
+  stored-fork : new₁ ≡ take (base + 1) old ++ flat (base + 1) l ++ drop mid old
+      → new₂ ≡ take mid (set new₁ base (128 + mid)) ++ flat mid r ++ drop (mid + size r) (set new₁ base (128 + mid))
+      → new₂ ≡ take base old ++ flat base (fork l r) ++ drop (base + size (fork l r)) old
+  unfolding flat
+  stored-fork e₁ e₂ =
+      let s = left-stored e₁ in
+      let t : take mid (head ++ drop mid old) ≡ head = take-at head (drop mid old) mid head-length in
+      let d : drop (mid + size r) (head ++ drop mid old) ≡ drop (mid + size r) old
+      = ap (λ (k : ℕ). drop (k + size r) (head ++ drop mid old)) (sym head-length) ∙ drop-append-add head (drop mid old) (size r) ∙ drop-drop (size r) mid old in
+      let n : base + size (fork l r) ≡ mid + size r = omega arith in
+      e₂ ∙ rw (s, t, d, n) (simp append-assoc)
+
+-- ---- what a return of `grow` has to show
+module _ (base seen : ℕ) (old new : List ℕ) (o : Outcome Tree) where
+  pub on-refusal : {k e : ℕ} → o ≡ refused k e → (Refused k e ≡ asGrown base seen o) × Stored base old new o
+  on-refusal h = rw h (refl, tt)
+
+  pub on-tree : {t : Tree} {e : ℕ} → o ≡ got t e → new ≡ take base old ++ flat base t ++ drop (base + size t) old
+      → (Done e (base + size t) (seen + leaves t) ≡ asGrown base seen o) × Stored base old new o
+  on-tree h s = rw h (refl, s)
+
+  pub stored-got : {t : Tree} {e : ℕ} → o ≡ got t e → Stored base old new o → new ≡ take base old ++ flat base t ++ drop (base + size t) old
+  stored-got h s = rw h at s
+
+-- the 0 branch, the fork before it, and what the call for the 1 branch answers and leaves
+at-fork : (base seen : ℕ) (old new₁ new₂ : List ℕ) (l : Tree) (o : Outcome Tree) {r : Grown} → base < length old
+    → new₁ ≡ take (base + 1) old ++ flat (base + 1) l ++ drop (base + 1 + size l) old
+    → r ≡ asGrown (base + 1 + size l) (seen + leaves l) o
+    → Stored (base + 1 + size l) (set new₁ base (128 + (base + 1 + size l))) new₂ o
+    → (r ≡ asGrown base seen (after o (λ t e. got (fork l t) e))) × Stored base old new₂ (after o (λ t e. got (fork l t) e))
+at-fork base seen old new₁ new₂ l (got t e) h s a b = (a ∙ grown-fork base seen l (got t e), stored-fork base old new₁ new₂ l t h s b)
+at-fork base seen old new₁ new₂ l (refused k e) h s a b = (a, tt)
+
+pub on-fork : (base seen mid count : ℕ) (old new₁ new₂ : List ℕ) (l : Tree) (o : ℕ → Outcome Tree) {r : Grown} (all : Outcome Tree) → base < length old
+    → new₁ ≡ take (base + 1) old ++ flat (base + 1) l ++ drop (base + 1 + size l) old
+    → mid ≡ base + 1 + size l → count ≡ seen + leaves l
+    → all ≡ after (o (seen + leaves l)) (λ t e. got (fork l t) e)
+    → r ≡ asGrown mid count (o count)
+    → Stored mid (set new₁ base (128 + mid)) new₂ (o count)
+    → (r ≡ asGrown base seen all) × Stored base old new₂ all
+on-fork base seen mid count old new₁ new₂ l o all h s e₁ e₂ w a b =
+    rw w (at-fork base seen old new₁ new₂ l (o (seen + leaves l)) h s (rw (e₁, e₂) at a) (rw (e₁, e₂) at b))
+
+-- ---- filling a table from a list's front
+abbrev pub filled : List ℕ → List ℕ → ℕ → List ℕ
+filled d s i = take i s ++ drop i d
+
+pub filled-more : (d s : List ℕ) (i : ℕ) → i < length d → i < length s → set (filled d s i) i (getD s i 0) ≡ filled d s (i + 1)
+filled-more d s i h l = rw (add-one i) (simp zero-add at (paste-suc d 0 s i 0 (rw zero-add h) l))
+
+pub filled-all : (d s : List ℕ) → filled d s (length d) ≡ take (length d) s
+filled-all d s = rw drop-length (append-nil _)
+
+-- ---- the whole tree: the front of the scratch memory is its table
+zeros-split : (k n : ℕ) → k ≤ n → replicate n 0 ≡ replicate k 0 ++ replicate (n - k) (zero)
+zeros-split k n h = let e : n ≡ k + (n - k) = omega arith in ap (λ (m : ℕ). replicate m 0) e ∙ sym (replicate-append-replicate k (n - k) 0)
+
+drop-zeros : (k n : ℕ) → k ≤ n → drop k (replicate n 0) ≡ replicate (n - k) (zero)
+drop-zeros k n h = ap (λ (l : List ℕ). drop k l) (zeros-split k n h) ∙ drop-at (replicate k 0) (replicate (n - k) 0) k (length-replicate k 0)
+
+take-zeros : (k n : ℕ) → k ≤ n → take k (replicate n 0) ≡ replicate k (zero)
+take-zeros k n h = ap (λ (l : List ℕ). take k l) (zeros-split k n h) ∙ take-at (replicate k 0) (replicate (n - k) 0) k (length-replicate k 0)
+
+table-front : (t : Tree) → size t ≤ 63 → take 64 (flat 0 t ++ drop (size t) (replicate 97 0)) ≡ nodesOf t
+unfolding nodesOf
+table-front t h =
+    let n : 64 ≡ length (flat 0 t) + (64 - size t) = omega (arith, flat-length 0 t) in
+    ap (λ (k : ℕ). take k (flat 0 t ++ drop (size t) (replicate 97 0))) n ∙ take-append-add (flat 0 t) (drop (size t) (replicate 97 0)) (64 - size t)
+    ∙ ap (λ (l : List ℕ). flat 0 t ++ l) (ap (λ (l : List ℕ). take (64 - size t) l) (drop-zeros (size t) 97 (omega arith)) ∙ take-zeros (64 - size t) (97 - size t) (omega arith))
+
+-- ---- what a return of `read_tree` has to show
+module _ (p : List ℕ) (at : ℕ) (old : List ℕ) where
+  pub tree-refused : {r : Grown} {k e : ℕ} → r ≡ asGrown 0 0 (tree 32 0 p at) → r ≡ Refused k e
+      → (place.Refused k e ≡ asPlace (huffmanTree p at)) × (old ≡ nodesAfter old (huffmanTree p at))
+  unfolding huffmanTree
+  tree-refused a h = rw (grown-refused 0 0 (tree 32 0 p at) a h) (refl, refl)
+
+  pub tree-stored : {r : Grown} {e mid count : ℕ} (scratch new : List ℕ) → length old ≡ 64 → r ≡ asGrown 0 0 (tree 32 0 p at) → r ≡ Done e mid count
+      → Stored 0 (replicate 97 0) scratch (tree 32 0 p at) → new ≡ take (length old) scratch
+      → (place.Next e ≡ asPlace (huffmanTree p at)) × (new ≡ nodesAfter old (huffmanTree p at))
+  unfolding huffmanTree
+  tree-stored {r} {e} scratch new h a d s f =
+      let g = grown-done 0 0 (tree 32 0 p at) a d in
+      go (g .0) (tree 32 0 p at) (g .1) s (table-front (g .0) (proper-size (read-proper p at (g .1))))
+    where
+      go : (t : Tree) (o : Outcome Tree) → o ≡ got t e → Stored 0 (replicate 97 0) scratch o → take 64 (flat 0 t ++ drop (size t) (replicate 97 0)) ≡ nodesOf t
+          → (place.Next e ≡ asPlace o) × (new ≡ nodesAfter old o)
+      go t o x y z =
+          let w = stored-got 0 0 (replicate 97 0) scratch o x y in
+          let k : 0 + size t ≡ size t = omega arith in
+          rw x (refl, f ∙ rw (h, w, k) z)

@@ -1,0 +1,36 @@
+-- What the code answers and leaves, as outcomes of the reading algebra.
+use Prim.Native.Nat.{ℕ, _+_, _-_}
+use mathlib.Core.Path.{_≡_}
+use mathlib.Core.List.{List, _++_}
+use lib.Dec.{eqb}
+use lib.ListN.{take, drop}
+use Rattle.bitstream.specs.Reading.{Outcome, got, refused, choose}
+use Rattle.huffman.specs.Tree.{Tree, leaves, size, flat, nodesOf}
+use Rattle.huffman.specs.declared.Place.{Place}
+use Rattle.huffman.specs.declared.Place.the-variants.{Next, Refused}
+use Rattle.huffman.specs.declared.Grown.{Grown}
+use Rattle.huffman.specs.declared.Grown.the-variants as grown
+
+-- the place behind a tree, or the refusal
+abbrev pub asPlace : Outcome Tree → Place
+asPlace (got t e) = Next e
+asPlace (refused k e) = Refused k e
+
+-- the table after a tree was read into it: a refusal leaves it as it was
+abbrev pub nodesAfter : List ℕ → Outcome Tree → List ℕ
+nodesAfter old (got t e) = nodesOf t
+nodesAfter old (refused k e) = old
+
+-- a part of a tree: the place behind it, the index behind its nodes, and how many leaves were seen with it
+abbrev pub asGrown : ℕ → ℕ → Outcome Tree → Grown
+asGrown base seen (got t e) = grown.Done e (base + size t) (seen + leaves t)
+asGrown base seen (refused k e) = grown.Refused k e
+
+-- its nodes stand at base, and all else is as it was; after a refusal the nodes are open, and no caller looks at them
+abbrev pub Stored : ℕ → List ℕ → List ℕ → Outcome Tree → Type 0
+Stored base old new (got t e) = new ≡ take base old ++ flat base t ++ drop (base + size t) old
+Stored base old new (refused k e) = Unit {0}
+
+-- the node after the bit b at the node n, a fork whose entry is v
+abbrev pub branch : ℕ → ℕ → ℕ → ℕ
+branch n v b = choose (eqb b 0) (n + 1) (v - 128)

@@ -1,0 +1,3 @@
+pub mod Tree
+pub mod Code
+pub mod Answer

@@ -1,0 +1,127 @@
+// Huffman trees: one is read from a setup packet into a table of 64 nodes, and tokens are read by the codes of such a table.
+use bitstream::Field;
+ghost use mathlib.Core.Path.{_≡_};
+ghost use Prim.Native.Nat.{ℕ, _+_, _-_, _*_, _<_, _≤_, _^_};
+ghost use lib.ListN.{length, take};
+ghost use Rattle.bitstream.specs.Bits.{bits, bitAt};
+ghost use Rattle.bitstream.specs.Answer.{asField};
+ghost use Rattle.huffman.specs.Tree.{tree, huffmanTree};
+ghost use Rattle.huffman.specs.Code.{tokenCode, treeOf, Formed};
+ghost use Rattle.huffman.specs.Answer.{asPlace, nodesAfter, asGrown, Stored, branch};
+
+// The bit place behind a tree, or the number of the refusal and the place of the field at fault.
+pub enum Place {
+    Next(usize),
+    Refused(u32, usize),
+}
+
+// A part of a tree: the bit place behind it, the index behind its nodes, how many leaves were seen; or the refusal.
+enum Grown {
+    Done(usize, usize, usize),
+    Refused(u32, usize),
+}
+
+// The part of a tree at the bit place `at`, below which codes may grow by `depth` bits, with `seen` leaves before it.
+// Its nodes go to `out` at `base`: before it stand at most a leaf and a closed fork for each leaf seen, and the open forks above.
+fn grow(packet: &[u8], at: usize, depth: usize, seen: usize, out: &mut [u8], base: usize) -> Grown
+    requires { ⌜ (length (now packet) ≤ 2 ^ 58) × (97 ≤ length (now out)) × (depth ≤ 32) × (seen ≤ 32) × (base ≤ 2 * seen + (32 - depth)) ⌝ }
+    ensures { λ r. ⌜ r ≡ asGrown base seen (tree depth seen (now (packet .entry)) at) ⌝ }
+    ensures { λ r. ⌜ Stored base (now (out .entry)) (now (out .exit)) (tree depth seen (now (packet .entry)) at) ⌝ }
+{
+    let first = bitstream::read(packet, at, 1);
+    let Field::Got(b, next) = first else {
+        return Grown::Refused(4, at);
+    };
+    if b == 1 {
+        if 32 <= seen {
+            return Grown::Refused(7, at);
+        }
+        let token = bitstream::read(packet, next, 5);
+        let Field::Got(t, after) = token else {
+            return Grown::Refused(4, next);
+        };
+        out[base] = t as u8;
+        return Grown::Done(after, base + 1, seen + 1);
+    }
+    if depth == 0 {
+        return Grown::Refused(7, at);
+    }
+    let left = grow(packet, next, depth - 1, seen, out, base + 1);
+    match left {
+        Grown::Refused(k, e) => Grown::Refused(k, e),
+        Grown::Done(place, mid, count) => {
+            out[base] = 128 + mid as u8;
+            grow(packet, place, depth - 1, count, out, mid)
+        }
+    }
+}
+
+// Fills `nodes` from the front of `from`.
+fn fill_from(nodes: &mut [u8], from: &[u8])
+    requires { ⌜ length (now nodes) ≤ length (now from) ⌝ }
+    ensures { λ _. ⌜ now (nodes .exit) ≡ take (length (now (nodes .entry))) (now (from .entry)) ⌝ }
+{
+    let mut i = 0;
+    while i < nodes.len() {
+        nodes[i] = from[i];
+        i += 1;
+    }
+}
+
+// The tree at the bit place `at`, into a table of nodes, which a refusal leaves as it was.
+pub fn read_tree(packet: &[u8], at: usize, nodes: &mut [u8]) -> Place
+    requires { ⌜ (length (now packet) ≤ 2 ^ 58) × (length (now nodes) ≡ 64) ⌝ }
+    ensures { λ r. ⌜ r ≡ asPlace (huffmanTree (now (packet .entry)) at) ⌝ }
+    ensures { λ r. ⌜ now (nodes .exit) ≡ nodesAfter (now (nodes .entry)) (huffmanTree (now (packet .entry)) at) ⌝ }
+{
+    // A tree that is refused in the end may come to 97 nodes; an accepted one has at most 63.
+    let mut scratch = [0u8; 97];
+    let grown = grow(packet, at, 32, 0, &mut scratch, 0);
+    match grown {
+        Grown::Refused(k, e) => Place::Refused(k, e),
+        Grown::Done(end, _, _) => {
+            fill_from(nodes, &scratch);
+            Place::Next(end)
+        }
+    }
+}
+
+// The bit at a place.
+fn bit(packet: &[u8], at: usize) -> u8
+    requires { ⌜ at < bits (now packet) ⌝ }
+    ensures { λ r. ⌜ r ≡ bitAt (now (packet .entry)) at ⌝ }
+{
+    (packet[at / 8] >> (7 - at % 8)) % 2
+}
+
+// The node after the bit `b` at the fork `node` with the entry `value`.
+fn next_node(node: usize, value: u8, b: u8) -> usize
+    requires { ⌜ (node < 64) × (128 ≤ value) ⌝ }
+    ensures { λ r. ⌜ r ≡ branch node value b ⌝ }
+{
+    if b == 0 {
+        return node + 1;
+    }
+    value as usize - 128
+}
+
+// The token whose code stands at the bit place `at`, by the table of nodes; a code that is cut is refused by 4 at its first bit.
+pub fn read_code(packet: &[u8], at: usize, nodes: &[u8]) -> Field
+    requires { ⌜ (length (now packet) ≤ 2 ^ 58) × Formed (now nodes) ⌝ }
+    ensures { λ r. ⌜ r ≡ asField (tokenCode (treeOf (now (nodes .entry))) (now (packet .entry)) at) ⌝ }
+{
+    let total = packet.len() * 8;
+    let mut node: usize = 0;
+    let mut place = at;
+    let mut value = nodes[0];
+    while 128 <= value {
+        if total <= place {
+            return Field::Refused(4, at);
+        }
+        node = next_node(node, value, bit(packet, place));
+        place += 1;
+        value = nodes[node];
+    }
+    let token = value as u32;
+    Field::Got(token, place)
+}
