@@ -1,0 +1,7 @@
+pub mod Sizes
+pub mod Order
+pub mod Rank
+pub mod Tile
+pub mod Frame
+pub mod Macro
+pub mod Sample
