@@ -1,0 +1,127 @@
+-- The laws of the identification header and of its groups. Assumes nothing.
+use Prim.Native.Nat.{ℕ, _+_, _*_, _-_, _^_, _≤_, _<_}
+use native.Mathlib.Omega.{arith}
+use mathlib.Core.Path.{_≡_, refl, sym, ap, _∙_}
+use mathlib.Core.List.{List}
+use mathlib.Core.Bool.{Bool, true, false}
+use lib.ListN.{length}
+use Rattle.bitstream.specs.Reading.{Outcome, got, refused, Parse, pure, bind, field, judged}
+use Rattle.bitstream.proofs.Laws.{Lawful, lawful}
+use Rattle.bitstream.proofs.Spends.{Spends, pure-spends, bind-spends, field-spends, judged-spends}
+use Rattle.headers.specs.declared.Passed.{Passed}
+use Rattle.headers.specs.declared.FrameSize.{FrameSize}
+use Rattle.headers.specs.declared.FrameSizeAnswer.{FrameSizeAnswer}
+use Rattle.headers.specs.declared.Rates.{Rates}
+use Rattle.headers.specs.declared.RatesAnswer.{RatesAnswer}
+use Rattle.headers.specs.declared.Coding.{Coding}
+use Rattle.headers.specs.declared.CodingAnswer.{CodingAnswer}
+use Rattle.headers.specs.Judgement.{isExactly, isPositive, isAtMost, isFormat, asPassed}
+use Rattle.headers.specs.Identification.{version, frameSize, rates, coding, identification, asFrameSize, asRates, asCoding}
+use Rattle.headers.proofs.Judged.{commonHeader-lawful, commonHeader-spends}
+
+-- ---- what an answer says of the outcome o, by its arm
+pub passed-to : {A : Type 0} (o : Outcome A) {r : Passed} {e : ℕ} → r ≡ asPassed o → r ≡ Passed.To e → (a : A) × (o ≡ got a e)
+passed-to (got a d) s g = (a, cc)
+passed-to (refused k d) s g = let z : _≡_ {A = ℕ} 0 1 = cc in absurd (omega arith)
+
+pub passed-refused : {A : Type 0} (o : Outcome A) {r : Passed} {k e : ℕ} → r ≡ asPassed o → r ≡ Passed.Refused k e → o ≡ refused k e
+passed-refused (got a d) s g = let z : _≡_ {A = ℕ} 0 1 = cc in absurd (omega arith)
+passed-refused (refused k d) s g = cc
+
+pub frame-size-is : (o : Outcome FrameSize) {r : FrameSizeAnswer} {f : FrameSize} {e : ℕ} → r ≡ asFrameSize o → r ≡ FrameSizeAnswer.Is f e → o ≡ got f e
+frame-size-is (got f d) s g = cc
+frame-size-is (refused k d) s g = let z : _≡_ {A = ℕ} 0 1 = cc in absurd (omega arith)
+
+pub frame-size-refused : (o : Outcome FrameSize) {r : FrameSizeAnswer} {k e : ℕ} → r ≡ asFrameSize o → r ≡ FrameSizeAnswer.Refused k e → o ≡ refused k e
+frame-size-refused (got f d) s g = let z : _≡_ {A = ℕ} 0 1 = cc in absurd (omega arith)
+frame-size-refused (refused k d) s g = cc
+
+pub rates-is : (o : Outcome Rates) {r : RatesAnswer} {f : Rates} {e : ℕ} → r ≡ asRates o → r ≡ RatesAnswer.Is f e → o ≡ got f e
+rates-is (got f d) s g = cc
+rates-is (refused k d) s g = let z : _≡_ {A = ℕ} 0 1 = cc in absurd (omega arith)
+
+pub rates-refused : (o : Outcome Rates) {r : RatesAnswer} {k e : ℕ} → r ≡ asRates o → r ≡ RatesAnswer.Refused k e → o ≡ refused k e
+rates-refused (got f d) s g = let z : _≡_ {A = ℕ} 0 1 = cc in absurd (omega arith)
+rates-refused (refused k d) s g = cc
+
+pub coding-is : (o : Outcome Coding) {r : CodingAnswer} {f : Coding} {e : ℕ} → r ≡ asCoding o → r ≡ CodingAnswer.Is f e → o ≡ got f e
+coding-is (got f d) s g = cc
+coding-is (refused k d) s g = let z : _≡_ {A = ℕ} 0 1 = cc in absurd (omega arith)
+
+pub coding-refused : (o : Outcome Coding) {r : CodingAnswer} {k e : ℕ} → r ≡ asCoding o → r ≡ CodingAnswer.Refused k e → o ≡ refused k e
+coding-refused (got f d) s g = let z : _≡_ {A = ℕ} 0 1 = cc in absurd (omega arith)
+coding-refused (refused k d) s g = cc
+
+-- ---- Local and Firm
+pub version-lawful : Lawful version
+unfolding version
+version-lawful = search lawful depth 12
+
+pub frameSize-lawful : Lawful frameSize
+unfolding frameSize
+frameSize-lawful = search lawful depth 20
+
+pub rates-lawful : Lawful rates
+unfolding rates
+rates-lawful = search lawful depth 20
+
+pub coding-lawful : Lawful coding
+unfolding coding
+coding-lawful = search lawful depth 20
+
+pub identification-lawful : Lawful identification
+unfolding identification
+identification-lawful = search (lawful, commonHeader-lawful, version-lawful, frameSize-lawful, rates-lawful, coding-lawful) depth 16
+
+-- ---- Spends: the bits of each group, and "42 bytes" in all
+pub version-spends : Spends 24 version
+unfolding version
+version-spends =
+    bind-spends (judged-spends 8 (isExactly 3) 3 (λ e. omega arith)) (λ vmaj.
+    bind-spends (judged-spends 8 (isExactly 2) 3 (λ e. omega arith)) (λ vmin.
+    field-spends 8))
+
+pub frameSize-spends : Spends 96 frameSize
+unfolding frameSize
+frameSize-spends =
+    bind-spends (judged-spends 16 isPositive 5 (λ e. omega arith)) (λ fmbw.
+    bind-spends (judged-spends 16 isPositive 5 (λ e. omega arith)) (λ fmbh.
+    bind-spends (judged-spends 24 (isAtMost (16 * fmbw)) 5 (λ e. omega arith)) (λ picw.
+    bind-spends (judged-spends 24 (isAtMost (16 * fmbh)) 5 (λ e. omega arith)) (λ pich.
+    bind-spends (judged-spends 8 (isAtMost (16 * fmbw - picw)) 5 (λ e. omega arith)) (λ picx.
+    bind-spends (judged-spends 8 (isAtMost (16 * fmbh - pich)) 5 (λ e. omega arith)) (λ picy.
+    pure-spends _))))))
+
+pub rates-spends : Spends 120 rates
+unfolding rates
+rates-spends =
+    bind-spends (judged-spends 32 isPositive 5 (λ e. omega arith)) (λ frn.
+    bind-spends (judged-spends 32 isPositive 5 (λ e. omega arith)) (λ frd.
+    bind-spends (field-spends 24) (λ parn.
+    bind-spends (field-spends 24) (λ pard.
+    bind-spends (field-spends 8) (λ cs.
+    pure-spends _)))))
+
+pub coding-spends : Spends 40 coding
+unfolding coding
+coding-spends =
+    bind-spends (field-spends 24) (λ nombr.
+    bind-spends (field-spends 6) (λ qual.
+    bind-spends (field-spends 5) (λ kfgshift.
+    bind-spends (judged-spends 2 isFormat 6 (λ e. omega arith)) (λ pf.
+    bind-spends (judged-spends 3 (isExactly 0) 6 (λ e. omega arith)) (λ zero-bits.
+    pure-spends _)))))
+
+pub identification-spends : Spends 336 identification
+unfolding identification
+identification-spends =
+    bind-spends (commonHeader-spends 0x80) (λ _.
+    bind-spends version-spends (λ v.
+    bind-spends frameSize-spends (λ f.
+    bind-spends rates-spends (λ r.
+    bind-spends coding-spends (λ c.
+    pure-spends _)))))
+
+-- "42 bytes": number 4 is given only to shorter packets
+pub identification-bytes : (p : List ℕ) (e : ℕ) → identification p 0 ≡ refused 4 e → length p < 42
+identification-bytes p e h = omega (arith, identification-spends .short p 0 e h)

@@ -1,0 +1,5 @@
+pub mod Judged
+pub mod Groups
+pub mod Fitting
+pub mod Accepted
+pub mod Examples

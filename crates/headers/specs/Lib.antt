@@ -1,0 +1,4 @@
+pub mod Judgement
+pub mod Identification
+pub mod Fits
+pub mod Sizes

@@ -1,0 +1,428 @@
+// The session record, the identification header, and the sizes of a session's frames.
+use bitstream::Field;
+use geometry::FrameSizes;
+use geometry::PixelFormat;
+ghost use mathlib.Core.Path.{_≡_};
+ghost use Prim.Native.Nat.{ℕ, _≤_, _<_, _^_};
+ghost use lib.ListN.{length};
+ghost use Rattle.bitstream.specs.Answer.{asField};
+ghost use Rattle.headers.specs.Judgement.{exactly, positive, atMost, formatCode, commonHeader, asPassed};
+ghost use Rattle.headers.specs.Identification.{version, frameSize, rates, coding, identification, asFrameSize, asRates, asCoding, asIdentification};
+ghost use Rattle.headers.specs.Fits.{widthsFit, pictureInside, rangesHold, sessionFits};
+ghost use Rattle.headers.specs.Sizes.{formatOf, sessionSizes};
+// What is known of a recording between its packets: the identification fields, under the specification's names, and whether
+// references exist.
+pub struct Session {
+    pub vrev: u64,
+    pub fmbw: u64,
+    pub fmbh: u64,
+    pub picw: u64,
+    pub pich: u64,
+    pub picx: u64,
+    pub picy: u64,
+    pub frn: u64,
+    pub frd: u64,
+    pub parn: u64,
+    pub pard: u64,
+    pub cs: u64,
+    pub nombr: u64,
+    pub qual: u64,
+    pub kfgshift: u64,
+    pub pf: u64,
+    pub references: bool,
+}
+
+// The fresh session, or the number of the refusal.
+pub enum IdentificationAnswer {
+    Accepted(Session),
+    Refused(u32),
+}
+
+// The place behind what was read, or the number and the place of the refusal.
+pub enum Passed {
+    To(usize),
+    Refused(u32, usize),
+}
+
+// A value that was read, and the place behind it.
+struct Value {
+    is: u32,
+    next: usize,
+}
+
+// `width` bits that must be `want`, else number k.
+pub fn read_exactly(packet: &[u8], at: usize, width: usize, want: u32, k: u32) -> Field
+    requires { ⌜ (length (now packet) ≤ 2 ^ 58) × (width ≤ 32) ⌝ }
+    ensures { λ r. ⌜ r ≡ asField (exactly width want k (now (packet .entry)) at) ⌝ }
+{
+    let field = bitstream::read(packet, at, width);
+    let Field::Got(value, _) = field else {
+        return field;
+    };
+    if value != want {
+        return Field::Refused(k, at);
+    }
+    field
+}
+
+// `width` bits that must be above 0, else number 5.
+fn read_positive(packet: &[u8], at: usize, width: usize) -> Field
+    requires { ⌜ (length (now packet) ≤ 2 ^ 58) × (width ≤ 32) ⌝ }
+    ensures { λ r. ⌜ r ≡ asField (positive width (now (packet .entry)) at) ⌝ }
+{
+    let field = bitstream::read(packet, at, width);
+    let Field::Got(value, _) = field else {
+        return field;
+    };
+    if value <= 0 {
+        return Field::Refused(5, at);
+    }
+    field
+}
+
+// `width` bits that must be at most `most`, else number 5.
+fn read_at_most(packet: &[u8], at: usize, width: usize, most: u32) -> Field
+    requires { ⌜ (length (now packet) ≤ 2 ^ 58) × (width ≤ 32) ⌝ }
+    ensures { λ r. ⌜ r ≡ asField (atMost width most (now (packet .entry)) at) ⌝ }
+{
+    let field = bitstream::read(packet, at, width);
+    let Field::Got(value, _) = field else {
+        return field;
+    };
+    if most < value {
+        return Field::Refused(5, at);
+    }
+    field
+}
+
+// `width` bits that must not be 1, else number 6.
+fn read_format_code(packet: &[u8], at: usize, width: usize) -> Field
+    requires { ⌜ (length (now packet) ≤ 2 ^ 58) × (width ≤ 32) ⌝ }
+    ensures { λ r. ⌜ r ≡ asField (formatCode width (now (packet .entry)) at) ⌝ }
+{
+    let field = bitstream::read(packet, at, width);
+    let Field::Got(value, _) = field else {
+        return field;
+    };
+    if value == 1 {
+        return Field::Refused(6, at);
+    }
+    field
+}
+
+// What every header begins with: its type byte, and "theora".
+pub fn read_common_header(packet: &[u8], at: usize, kind: u32) -> Passed
+    requires { ⌜ length (now packet) ≤ 2 ^ 58 ⌝ }
+    ensures { λ r. ⌜ r ≡ asPassed (commonHeader kind (now (packet .entry)) at) ⌝ }
+{
+    let wanted = [kind, 0x74, 0x68, 0x65, 0x6F, 0x72, 0x61];
+    let mut place = at;
+    let mut i = 0;
+    while i < 7 {
+        match read_exactly(packet, place, 8, wanted[i], 2) {
+            Field::Got(_, next) => place = next,
+            Field::Refused(k, e) => return Passed::Refused(k, e),
+        }
+        i += 1;
+    }
+    Passed::To(place)
+}
+
+fn read_version(packet: &[u8], at: usize) -> Field
+    requires { ⌜ length (now packet) ≤ 2 ^ 58 ⌝ }
+    ensures { λ r. ⌜ r ≡ asField (version (now (packet .entry)) at) ⌝ }
+{
+    let vmaj = match read_exactly(packet, at, 8, 3, 3) {
+        Field::Got(is, next) => Value { is, next },
+        Field::Refused(k, e) => return Field::Refused(k, e),
+    };
+    let vmin = match read_exactly(packet, vmaj.next, 8, 2, 3) {
+        Field::Got(is, next) => Value { is, next },
+        Field::Refused(k, e) => return Field::Refused(k, e),
+    };
+    bitstream::read(packet, vmin.next, 8)
+}
+
+struct FrameSize {
+    fmbw: u64,
+    fmbh: u64,
+    picw: u64,
+    pich: u64,
+    picx: u64,
+    picy: u64,
+}
+
+enum FrameSizeAnswer {
+    Is(FrameSize, usize),
+    Refused(u32, usize),
+}
+
+fn read_frame_size(packet: &[u8], at: usize) -> FrameSizeAnswer
+    requires { ⌜ length (now packet) ≤ 2 ^ 58 ⌝ }
+    ensures { λ r. ⌜ r ≡ asFrameSize (frameSize (now (packet .entry)) at) ⌝ }
+{
+    let fmbw = match read_positive(packet, at, 16) {
+        Field::Got(is, next) => Value { is, next },
+        Field::Refused(k, e) => return FrameSizeAnswer::Refused(k, e),
+    };
+    let fmbh = match read_positive(packet, fmbw.next, 16) {
+        Field::Got(is, next) => Value { is, next },
+        Field::Refused(k, e) => return FrameSizeAnswer::Refused(k, e),
+    };
+    let across = 16 * fmbw.is;
+    let up = 16 * fmbh.is;
+    let picw = match read_at_most(packet, fmbh.next, 24, across) {
+        Field::Got(is, next) => Value { is, next },
+        Field::Refused(k, e) => return FrameSizeAnswer::Refused(k, e),
+    };
+    let pich = match read_at_most(packet, picw.next, 24, up) {
+        Field::Got(is, next) => Value { is, next },
+        Field::Refused(k, e) => return FrameSizeAnswer::Refused(k, e),
+    };
+    let picx = match read_at_most(packet, pich.next, 8, across - picw.is) {
+        Field::Got(is, next) => Value { is, next },
+        Field::Refused(k, e) => return FrameSizeAnswer::Refused(k, e),
+    };
+    let picy = match read_at_most(packet, picx.next, 8, up - pich.is) {
+        Field::Got(is, next) => Value { is, next },
+        Field::Refused(k, e) => return FrameSizeAnswer::Refused(k, e),
+    };
+    FrameSizeAnswer::Is(
+        FrameSize {
+            fmbw: fmbw.is as u64,
+            fmbh: fmbh.is as u64,
+            picw: picw.is as u64,
+            pich: pich.is as u64,
+            picx: picx.is as u64,
+            picy: picy.is as u64,
+        },
+        picy.next,
+    )
+}
+
+struct Rates {
+    frn: u64,
+    frd: u64,
+    parn: u64,
+    pard: u64,
+    cs: u64,
+}
+
+enum RatesAnswer {
+    Is(Rates, usize),
+    Refused(u32, usize),
+}
+
+fn read_rates(packet: &[u8], at: usize) -> RatesAnswer
+    requires { ⌜ length (now packet) ≤ 2 ^ 58 ⌝ }
+    ensures { λ r. ⌜ r ≡ asRates (rates (now (packet .entry)) at) ⌝ }
+{
+    let frn = match read_positive(packet, at, 32) {
+        Field::Got(is, next) => Value { is, next },
+        Field::Refused(k, e) => return RatesAnswer::Refused(k, e),
+    };
+    let frd = match read_positive(packet, frn.next, 32) {
+        Field::Got(is, next) => Value { is, next },
+        Field::Refused(k, e) => return RatesAnswer::Refused(k, e),
+    };
+    let parn = match bitstream::read(packet, frd.next, 24) {
+        Field::Got(is, next) => Value { is, next },
+        Field::Refused(k, e) => return RatesAnswer::Refused(k, e),
+    };
+    let pard = match bitstream::read(packet, parn.next, 24) {
+        Field::Got(is, next) => Value { is, next },
+        Field::Refused(k, e) => return RatesAnswer::Refused(k, e),
+    };
+    let cs = match bitstream::read(packet, pard.next, 8) {
+        Field::Got(is, next) => Value { is, next },
+        Field::Refused(k, e) => return RatesAnswer::Refused(k, e),
+    };
+    RatesAnswer::Is(
+        Rates {
+            frn: frn.is as u64,
+            frd: frd.is as u64,
+            parn: parn.is as u64,
+            pard: pard.is as u64,
+            cs: cs.is as u64,
+        },
+        cs.next,
+    )
+}
+
+struct Coding {
+    nombr: u64,
+    qual: u64,
+    kfgshift: u64,
+    pf: u64,
+}
+
+enum CodingAnswer {
+    Is(Coding, usize),
+    Refused(u32, usize),
+}
+
+fn read_coding(packet: &[u8], at: usize) -> CodingAnswer
+    requires { ⌜ length (now packet) ≤ 2 ^ 58 ⌝ }
+    ensures { λ r. ⌜ r ≡ asCoding (coding (now (packet .entry)) at) ⌝ }
+{
+    let nombr = match bitstream::read(packet, at, 24) {
+        Field::Got(is, next) => Value { is, next },
+        Field::Refused(k, e) => return CodingAnswer::Refused(k, e),
+    };
+    let qual = match bitstream::read(packet, nombr.next, 6) {
+        Field::Got(is, next) => Value { is, next },
+        Field::Refused(k, e) => return CodingAnswer::Refused(k, e),
+    };
+    let kfgshift = match bitstream::read(packet, qual.next, 5) {
+        Field::Got(is, next) => Value { is, next },
+        Field::Refused(k, e) => return CodingAnswer::Refused(k, e),
+    };
+    let pf = match read_format_code(packet, kfgshift.next, 2) {
+        Field::Got(is, next) => Value { is, next },
+        Field::Refused(k, e) => return CodingAnswer::Refused(k, e),
+    };
+    let zero_bits = match read_exactly(packet, pf.next, 3, 0, 6) {
+        Field::Got(is, next) => Value { is, next },
+        Field::Refused(k, e) => return CodingAnswer::Refused(k, e),
+    };
+    CodingAnswer::Is(
+        Coding {
+            nombr: nombr.is as u64,
+            qual: qual.is as u64,
+            kfgshift: kfgshift.is as u64,
+            pf: pf.is as u64,
+        },
+        zero_bits.next,
+    )
+}
+
+// The fresh session of a packet that is short enough for its bit places.
+fn read_session(packet: &[u8]) -> IdentificationAnswer
+    requires { ⌜ length (now packet) ≤ 2 ^ 58 ⌝ }
+    ensures { λ r. ⌜ r ≡ asIdentification (identification (now (packet .entry)) 0) ⌝ }
+{
+    let start = match read_common_header(packet, 0, 0x80) {
+        Passed::To(next) => next,
+        Passed::Refused(k, _) => return IdentificationAnswer::Refused(k),
+    };
+    let vrev = match read_version(packet, start) {
+        Field::Got(is, next) => Value { is, next },
+        Field::Refused(k, _) => return IdentificationAnswer::Refused(k),
+    };
+    match read_frame_size(packet, vrev.next) {
+        FrameSizeAnswer::Refused(k, _) => IdentificationAnswer::Refused(k),
+        FrameSizeAnswer::Is(f, rates_at) => match read_rates(packet, rates_at) {
+            RatesAnswer::Refused(k, _) => IdentificationAnswer::Refused(k),
+            RatesAnswer::Is(r, coding_at) => match read_coding(packet, coding_at) {
+                CodingAnswer::Refused(k, _) => IdentificationAnswer::Refused(k),
+                CodingAnswer::Is(c, _) => IdentificationAnswer::Accepted(Session {
+                    vrev: vrev.is as u64,
+                    fmbw: f.fmbw,
+                    fmbh: f.fmbh,
+                    picw: f.picw,
+                    pich: f.pich,
+                    picx: f.picx,
+                    picy: f.picy,
+                    frn: r.frn,
+                    frd: r.frd,
+                    parn: r.parn,
+                    pard: r.pard,
+                    cs: r.cs,
+                    nombr: c.nombr,
+                    qual: c.qual,
+                    kfgshift: c.kfgshift,
+                    pf: c.pf,
+                    references: false,
+                }),
+            },
+        },
+    }
+}
+
+// Reads an identification header: the fresh session, or the number of the refusal.
+pub fn identification(packet: &[u8]) -> IdentificationAnswer
+    ensures { λ r. ⌜ r ≡ asIdentification (identification (now (packet .entry)) 0) ⌝ }
+{
+    read_session(bitstream::readable(packet))
+}
+
+// Every identification field is within its width.
+fn widths_fit(s: Session) -> bool
+    ensures { λ r. ⌜ r ≡ widthsFit s ⌝ }
+{
+    (s.vrev < 256)
+        & (s.fmbw < 65536)
+        & (s.fmbh < 65536)
+        & (s.picw < 16777216)
+        & (s.pich < 16777216)
+        & (s.picx < 256)
+        & (s.picy < 256)
+        & (s.frn < 4294967296)
+        & (s.frd < 4294967296)
+        & (s.parn < 16777216)
+        & (s.pard < 16777216)
+        & (s.cs < 256)
+        & (s.nombr < 16777216)
+        & (s.qual < 64)
+        & (s.kfgshift < 32)
+        & (s.pf < 4)
+}
+
+// A picture's size and offset along one axis lie in the frame.
+fn picture_inside(frame: u64, size: u64, offset: u64) -> bool
+    ensures { λ r. ⌜ r ≡ pictureInside frame size offset ⌝ }
+{
+    if frame < size {
+        return false;
+    }
+    offset <= frame - size
+}
+
+// 5 and 6 hold of the identification fields.
+fn ranges_hold(s: Session) -> bool
+    requires { ⌜ (s .fmbw < 2 ^ 16) × (s .fmbh < 2 ^ 16) ⌝ }
+    ensures { λ r. ⌜ r ≡ rangesHold s ⌝ }
+{
+    let across = picture_inside(16 * s.fmbw, s.picw, s.picx);
+    let up = picture_inside(16 * s.fmbh, s.pich, s.picy);
+    (0 < s.fmbw) & (0 < s.fmbh) & across & up & (0 < s.frn) & (0 < s.frd) & (s.pf != 1)
+}
+
+// The identification part of number 8: whether the fields keep 5, 6 and their widths.
+pub fn session_fits(s: Session) -> bool
+    ensures { λ r. ⌜ r ≡ sessionFits s ⌝ }
+{
+    if widths_fit(s) {
+        return ranges_hold(s);
+    }
+    false
+}
+
+// The pixel format that a session's PF says.
+pub fn pixel_format(pf: u64) -> PixelFormat
+    ensures { λ r. ⌜ r ≡ formatOf pf ⌝ }
+{
+    if pf == 0 {
+        return PixelFormat::Chroma420;
+    }
+    if pf == 2 {
+        return PixelFormat::Chroma422;
+    }
+    PixelFormat::Chroma444
+}
+
+// The sizes of a session's frames, or number 8.
+pub enum SizesAnswer {
+    Is(FrameSizes),
+    Refused(u32),
+}
+
+pub fn sizes(s: Session) -> SizesAnswer
+    ensures { λ r. ⌜ r ≡ sessionSizes s ⌝ }
+{
+    if session_fits(s) {
+        let format = pixel_format(s.pf);
+        return SizesAnswer::Is(geometry::sizes(format, s.fmbw, s.fmbh));
+    }
+    SizesAnswer::Refused(8)
+}

@@ -1,0 +1,13 @@
+-- The table of document 01, as one statement over one list.
+use mathlib.Core.Path.{_≡_, refl}
+use Rattle.numeric.specs.Cut.{mod16, read16, cut}
+use Rattle.numeric.specs.Divide.{roundOver}
+use Rattle.bitstream.specs.Bits.{bitAt, number}
+use Rattle.bitstream.specs.Reading.{field}
+use Rattle.geometry.specs.Sizes.{blocksOf, total}
+use Rattle.geometry.specs.Order.{ordered, row, tile, inTurn, moved, present, find}
+use Rattle.theora.specs.Table.{threeThenFive, worked, paper}
+
+pub table : worked ≡ paper
+unfolding worked paper threeThenFive field number bitAt ordered row tile inTurn moved present find blocksOf total roundOver cut mod16 read16
+table = refl

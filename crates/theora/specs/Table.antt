@@ -1,0 +1,55 @@
+-- "Table to prove": each row by the project's definitions, and as the paper states it.
+use Prim.Native.Nat.{ℕ}
+use mathlib.Core.List.{List, [], _∷_, map}
+use lib.IntN.{ℤ, pos, negsuc, _+ℤ_}
+use Rattle.numeric.specs.Cut.{cut}
+use Rattle.numeric.specs.Divide.{roundOver}
+use Rattle.bitstream.specs.Reading.{Outcome, got, refused, Parse, pure, bind, field, _>>=_, _>>_}
+use Rattle.geometry.specs.declared.PixelFormat.{PixelFormat}
+use Rattle.geometry.specs.Sizes.{across, up, planeOf, blocksOf}
+use Rattle.geometry.specs.Order.{blockNumber}
+
+-- the values that a reading gets
+abbrev pub readings : Outcome (List ℕ) → List ℤ
+readings (got l e) = map pos l
+readings (refused k e) = []
+
+-- 3 bits, then 5
+unfoldable pub threeThenFive : Parse (List ℕ)
+threeThenFive = do
+  a ← field 3
+  b ← field 5
+  pure (a ∷ b ∷ [])
+
+-- the number of luma block (x, y) of a frame of w by h macro blocks
+abbrev pub lumaNumber : ℕ → ℕ → ℕ → ℕ → ℤ
+lumaNumber w h x y = pos (blockNumber (across PixelFormat.Chroma420 w 0) (up PixelFormat.Chroma420 h 0) x y)
+
+unfoldable pub worked : List (List ℤ)
+worked =
+    readings (threeThenFive (0xB1 ∷ []) 0)
+    ∷ (pos (blockNumber 4 4 3 3) ∷ [])
+    ∷ (lumaNumber 15 3 0 4 ∷ lumaNumber 15 3 3 5 ∷ [])
+    ∷ (pos (planeOf PixelFormat.Chroma420 4096 4097 0 .length) ∷ pos (blocksOf PixelFormat.Chroma420 4096 4097) ∷ [])
+    ∷ (pos (blocksOf PixelFormat.Chroma444 65535 65535) ∷ [])
+    ∷ (roundOver 4 (negsuc 1) ∷ [])
+    ∷ (cut (pos 32767 +ℤ pos 1) ∷ [])
+    ∷ []
+
+unfoldable pub paper : List (List ℤ)
+paper =
+    -- "B1 hex read 3 then 5 bits: 5, 17"
+    (pos 5 ∷ pos 17 ∷ [])
+    -- "block (3,3) is 10"
+    ∷ (pos 10 ∷ [])
+    -- "240×48 luma: (0,4) is 120, (3,5) is 124"
+    ∷ (pos 120 ∷ pos 124 ∷ [])
+    -- "4:2:0 4096×4097 macro blocks: luma 4,296,015,872 bytes, NBS 100,687,872"
+    ∷ (pos 4296015872 ∷ pos 100687872 ∷ [])
+    -- "65,535 squared 4:4:4: NBS 51,538,034,700"
+    ∷ (pos 51538034700 ∷ [])
+    -- "round(−2/4) = −1"
+    ∷ (negsuc 0 ∷ [])
+    -- "DC 32767+1 cut: −32768"
+    ∷ (negsuc 32767 ∷ [])
+    ∷ []
