@@ -4,6 +4,7 @@
 --   FrameLaws: frame-length, frame-there, frame-back, frame-once, the-number (each block of the frame once)
 --   SuperBlockLaws: frame-flat (the order is one super block after the other), super-end
 --   MacroLaws: in-macro (a block and its macro block), macro-in-frame, frame-of-macro, element-in-frame, luma-macro (luma block i: macro block i / 4)
+--   RasterLaws: raster-number-below
 --   SampleLaws: sample-below, sample-once, sample-hit; plane-below, plane-once, plane-hit for one plane
 --   Raster: rows of w one after the other. Lists, Sums: lists in turn and their lengths
 --   Examples: the worked examples
@@ -24,5 +25,6 @@ pub mod LumaMacros
 pub mod FrameLaws
 pub mod SuperBlockLaws
 pub mod MacroLaws
+pub mod RasterLaws
 pub mod SampleLaws
 pub mod Examples

@@ -3,5 +3,6 @@ pub mod Order
 pub mod Rank
 pub mod Tile
 pub mod Frame
+pub mod Raster
 pub mod Macro
 pub mod Sample

@@ -7,6 +7,7 @@ ghost use lib.ListN.{length, getD};
 ghost use Rattle.geometry.specs.Sizes.{chromaAcross, chromaUp, tiles, planeSuperBlocks, macroBlocksOf, blocksOf, superBlocksOf, blocksBefore, blocksEach, planeOf, sizesOf};
 ghost use Rattle.geometry.specs.Order.{at, inTurn, tileNo, blockWalk, codedBlocks, codedMacros};
 ghost use Rattle.geometry.specs.Frame.{block, frameOrder, InFrame, superBlocksBefore, superBlockOf};
+ghost use Rattle.geometry.specs.Raster.{rasterNumber};
 ghost use Rattle.geometry.specs.Macro.{fourOf, blocksOfMacro, macroOf};
 ghost use Rattle.geometry.specs.Sample.{sampleAt, LiesAt};
 
@@ -234,6 +235,15 @@ pub fn block_number(format: PixelFormat, w: u64, h: u64, b: Block) -> u64
 {
     let q = plane_of(format, w, h, b.plane);
     q.offset / 64 + place_number(q.across, q.up, b.x, b.y)
+}
+
+// The raster number of a block: work memory goes by these.
+pub fn raster_number(format: PixelFormat, w: u64, h: u64, b: Block) -> u64
+    requires { ⌜ (w ≤ 65535) × (h ≤ 65535) × InFrame format w h b ⌝ }
+    ensures { λ r. ⌜ (r ≡ rasterNumber format w h b) × (r < blocksOf format w h) ⌝ }
+{
+    let q = plane_of(format, w, h, b.plane);
+    q.offset / 64 + (b.y * q.across + b.x)
 }
 
 // A super block by its plane, and its number there.
