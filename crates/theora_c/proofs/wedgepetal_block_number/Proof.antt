@@ -1,0 +1,36 @@
+-- `theora_c::wedgepetal_block_number` meets its contract. Assumes nothing.
+use borrow.Author.Needs.{needs}
+use mathlib.Core.Path.{ap, _∙_}
+use Rattle.theora_c.specs.Face.{numberReturned}
+use Rattle.theora_c.proofs.Calls.{lengths, made, refused-1}
+use Rattle.theora_c.proofs.wedgepetal_block_number.Statement.{statement}
+use Rattle.theora_c.proofs.wedgepetal_block_number.Tie as tie
+
+session-of-requires : tie.Need-session-of-requires
+session-of-requires c κs = lengths 1 (c .before .before .before .args .session .now) (c .before .before .before .args .number .now) (c .if1 .taken) .0
+
+block-number-requires : tie.Need-block-number-requires
+block-number-requires c κs = search needs
+
+return-number-requires : tie.Need-return-number-requires
+return-number-requires c κs = lengths 1 (c .before .before .before .before .before .before .args .session .now) (c .before .before .before .before .before .before .args .number .now) (c .before .before .before .if1 .taken) .1
+
+same-length : tie.Need-same-length
+same-length c = search needs
+
+returns : tie.Need-returns
+returns c = made 1 (c .before .before .before .before .before .before .before .before .before .args .session .now) (c .before .before .before .before .before .before .before .before .before .args .number .now) _ (c .before .before .before .before .before .before .if1 .taken) (c .before .before .before .before .before .session-of .ensures) (c .before .before .return-number .ensures ∙ ap (numberReturned (c .before .before .before .before .before .before .before .before .before .args .number .now)) (c .before .before .before .before .block-number .ensures))
+
+returns-2 : tie.Need-returns-2
+returns-2 c = refused-1 1 (c .before .before .before .args .session .now) (c .before .before .before .args .number .now) _ (c .if1 .left)
+
+pub wedgepetal-block-number-spec : {M : Type 1} → statement M
+wedgepetal-block-number-spec =
+    tie.close
+    (tie.spec
+    session-of-requires
+    block-number-requires
+    return-number-requires
+    same-length
+    returns
+    returns-2)

@@ -1,0 +1,125 @@
+-- The face for C: sessions and answers as lists of numbers, and what each call returns and leaves.
+use Prim.Native.Nat.{ℕ}
+use mathlib.Core.Bool.{Bool, true, false, not, _&&_}
+use mathlib.Core.List.{List, [], _∷_}
+use lib.Dec.{eqb}
+use lib.ListN.{length, getD}
+use Rattle.bitstream.specs.Reading.{choose}
+use Rattle.geometry.specs.declared.Block.{Block}
+use Rattle.geometry.specs.declared.Place.{Place}
+use Rattle.geometry.specs.declared.FrameSizes.{FrameSizes}
+use Rattle.geometry.specs.Frame.{block}
+use Rattle.headers.specs.declared.Session.{Session}
+use Rattle.headers.specs.declared.IdentificationAnswer.{IdentificationAnswer}
+use Rattle.headers.specs.declared.SizesAnswer.{SizesAnswer}
+use Rattle.headers.specs.Identification.{identification, asIdentification}
+use Rattle.headers.specs.Sizes.{sessionSizes}
+use Rattle.theora.specs.declared.BlockAnswer.{BlockAnswer}
+use Rattle.theora.specs.declared.PlaceAnswer.{PlaceAnswer}
+use Rattle.theora.specs.declared.NumberAnswer.{NumberAnswer}
+use Rattle.theora.specs.Orders.{blockAt, blockNumber, macroBlockAt, macroBlockNumber, macroBlockOf, sampleOffset, asBlock, asPlace, asNumber}
+
+-- what a call returns, and what the list lent for its answer holds afterwards
+pub record Returned : Type 0 where
+  pub number : ℕ
+  pub left : List ℕ
+
+-- 0 and the answer's numbers; or the number of a refusal, and the list as it was
+abbrev pub gives : ℕ → List ℕ → Returned
+gives k l = record { number = k; left = l }
+
+-- "references: 0 is no, any other number is yes"
+abbrev pub flag : Bool → ℕ
+flag true = 1
+flag false = 0
+
+-- a session as 17 numbers, and 17 numbers as a session
+unfoldable pub numbersOf : Session → List ℕ
+numbersOf s =
+    s .vrev ∷ s .fmbw ∷ s .fmbh ∷ s .picw ∷ s .pich ∷ s .picx ∷ s .picy ∷ s .frn ∷ s .frd ∷ s .parn ∷ s .pard ∷ s .cs
+    ∷ s .nombr ∷ s .qual ∷ s .kfgshift ∷ s .pf ∷ flag (s .references) ∷ []
+
+unfoldable pub sessionOf : List ℕ → Session
+sessionOf l = record {
+  vrev = getD l 0 0;
+  fmbw = getD l 1 0;
+  fmbh = getD l 2 0;
+  picw = getD l 3 0;
+  pich = getD l 4 0;
+  picx = getD l 5 0;
+  picy = getD l 6 0;
+  frn = getD l 7 0;
+  frd = getD l 8 0;
+  parn = getD l 9 0;
+  pard = getD l 10 0;
+  cs = getD l 11 0;
+  nombr = getD l 12 0;
+  qual = getD l 13 0;
+  kfgshift = getD l 14 0;
+  pf = getD l 15 0;
+  references = not (eqb (getD l 16 0) 0);
+}
+
+-- the sizes as 16 numbers
+unfoldable pub sizeNumbers : FrameSizes → List ℕ
+sizeNumbers n =
+    n .«macro_blocks» ∷ n .blocks ∷ n .«super_blocks» ∷ n .buffer
+    ∷ n .luma .across ∷ n .luma .up ∷ n .luma .offset ∷ n .luma .length
+    ∷ n .cb .across ∷ n .cb .up ∷ n .cb .offset ∷ n .cb .length
+    ∷ n .cr .across ∷ n .cr .up ∷ n .cr .offset ∷ n .cr .length ∷ []
+
+-- what each case of an answer returns and leaves; 255 says that the frame has no such thing
+abbrev pub sessionReturned : List ℕ → IdentificationAnswer → Returned
+sessionReturned old (IdentificationAnswer.Accepted s) = gives 0 (numbersOf s)
+sessionReturned old (IdentificationAnswer.Refused k) = gives k old
+
+abbrev pub sizesReturned : List ℕ → SizesAnswer → Returned
+sizesReturned old (SizesAnswer.Is n) = gives 0 (sizeNumbers n)
+sizesReturned old (SizesAnswer.Refused k) = gives k old
+
+abbrev pub blockReturned : List ℕ → BlockAnswer → Returned
+blockReturned old (BlockAnswer.Is b) = gives 0 (b .plane ∷ b .x ∷ b .y ∷ [])
+blockReturned old BlockAnswer.Absent = gives 255 old
+blockReturned old (BlockAnswer.Refused k) = gives k old
+
+abbrev pub placeReturned : List ℕ → PlaceAnswer → Returned
+placeReturned old (PlaceAnswer.Is p) = gives 0 (p .x ∷ p .y ∷ [])
+placeReturned old PlaceAnswer.Absent = gives 255 old
+placeReturned old (PlaceAnswer.Refused k) = gives k old
+
+abbrev pub numberReturned : List ℕ → NumberAnswer → Returned
+numberReturned old (NumberAnswer.Is n) = gives 0 (n ∷ [])
+numberReturned old NumberAnswer.Absent = gives 255 old
+numberReturned old (NumberAnswer.Refused k) = gives k old
+
+-- "a lent length differs from the published one" is 1, before all else
+abbrev pub sized : Bool → List ℕ → Returned → Returned
+sized lengths old x = choose lengths x (gives 1 old)
+
+unfoldable pub identificationCall : List ℕ → List ℕ → Returned
+identificationCall packet old = sized (eqb (length old) 17) old (sessionReturned old (asIdentification (identification packet 0)))
+
+-- the calls on a session: its list has 17 numbers, the answer's n
+unfoldable pub onList : ℕ → List ℕ → List ℕ → (Session → Returned) → Returned
+onList n session old call = sized (eqb (length session) 17 && eqb (length old) n) old (call (sessionOf session))
+
+abbrev pub sizesCall : List ℕ → List ℕ → Returned
+sizesCall session old = onList 16 session old (λ s. sizesReturned old (sessionSizes s))
+
+abbrev pub blockAtCall : List ℕ → ℕ → List ℕ → Returned
+blockAtCall session i old = onList 3 session old (λ s. blockReturned old (asBlock (blockAt s i)))
+
+abbrev pub blockNumberCall : List ℕ → ℕ → ℕ → ℕ → List ℕ → Returned
+blockNumberCall session p x y old = onList 1 session old (λ s. numberReturned old (asNumber (blockNumber s (block p x y))))
+
+abbrev pub macroBlockAtCall : List ℕ → ℕ → List ℕ → Returned
+macroBlockAtCall session i old = onList 2 session old (λ s. placeReturned old (asPlace (macroBlockAt s i)))
+
+abbrev pub macroBlockNumberCall : List ℕ → ℕ → ℕ → List ℕ → Returned
+macroBlockNumberCall session x y old = onList 1 session old (λ s. numberReturned old (asNumber (macroBlockNumber s x y)))
+
+abbrev pub macroBlockOfCall : List ℕ → ℕ → ℕ → ℕ → List ℕ → Returned
+macroBlockOfCall session p x y old = onList 2 session old (λ s. placeReturned old (asPlace (macroBlockOf s (block p x y))))
+
+abbrev pub sampleOffsetCall : List ℕ → ℕ → ℕ → ℕ → ℕ → ℕ → List ℕ → Returned
+sampleOffsetCall session p x y c r old = onList 1 session old (λ s. numberReturned old (asNumber (sampleOffset s (block p x y) c r)))

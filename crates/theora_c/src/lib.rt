@@ -1,0 +1,286 @@
+// The face for C and other languages: include/wedgepetal.h says what each call is for.
+use headers::IdentificationAnswer;
+use headers::Session;
+use headers::SizesAnswer;
+use theora::BlockAnswer;
+use theora::NumberAnswer;
+use theora::PlaceAnswer;
+ghost use mathlib.Core.Path.{_≡_};
+ghost use Prim.Native.Nat.{ℕ};
+ghost use lib.ListN.{length};
+ghost use Rattle.theora_c.specs.Face.{gives, flag, numbersOf, sessionOf, sessionReturned, sizesReturned, blockReturned, placeReturned, numberReturned, identificationCall, sizesCall, blockAtCall, blockNumberCall, macroBlockAtCall, macroBlockNumberCall, macroBlockOfCall, sampleOffsetCall};
+
+// ---- lists of numbers
+
+fn flag_number(b: bool) -> u64
+    ensures { λ r. ⌜ r ≡ flag b ⌝ }
+{
+    if b { 1 } else { 0 }
+}
+
+// The session that a list of 17 numbers says.
+fn session_of(list: &[u64]) -> Session
+    requires { ⌜ length (now list) ≡ 17 ⌝ }
+    ensures { λ r. ⌜ r ≡ sessionOf (now (list .entry)) ⌝ }
+{
+    Session {
+        vrev: list[0],
+        fmbw: list[1],
+        fmbh: list[2],
+        picw: list[3],
+        pich: list[4],
+        picx: list[5],
+        picy: list[6],
+        frn: list[7],
+        frd: list[8],
+        parn: list[9],
+        pard: list[10],
+        cs: list[11],
+        nombr: list[12],
+        qual: list[13],
+        kfgshift: list[14],
+        pf: list[15],
+        references: list[16] != 0,
+    }
+}
+
+// Stores the numbers of an accepted call, which returns 0.
+fn store(list: &mut [u64], numbers: &[u64]) -> u32
+    requires { ⌜ length (now list) ≡ length (now numbers) ⌝ }
+    ensures { λ r. ⌜ gives r (now (list .exit)) ≡ gives 0 (now (numbers .entry)) ⌝ }
+{
+    let mut i = 0;
+    while i < numbers.len() {
+        list[i] = numbers[i];
+        i += 1;
+    }
+    0
+}
+
+// ---- what an answer returns and leaves
+
+fn return_session(answer: IdentificationAnswer, list: &mut [u64]) -> u32
+    requires { ⌜ length (now list) ≡ 17 ⌝ }
+    ensures { λ r. ⌜ gives r (now (list .exit)) ≡ sessionReturned (now (list .entry)) answer ⌝ }
+{
+    match answer {
+        IdentificationAnswer::Accepted(s) => {
+            let references = flag_number(s.references);
+            let numbers = [
+                s.vrev,
+                s.fmbw,
+                s.fmbh,
+                s.picw,
+                s.pich,
+                s.picx,
+                s.picy,
+                s.frn,
+                s.frd,
+                s.parn,
+                s.pard,
+                s.cs,
+                s.nombr,
+                s.qual,
+                s.kfgshift,
+                s.pf,
+                references,
+            ];
+            store(list, &numbers)
+        }
+        IdentificationAnswer::Refused(k) => k,
+    }
+}
+
+fn return_sizes(answer: SizesAnswer, list: &mut [u64]) -> u32
+    requires { ⌜ length (now list) ≡ 16 ⌝ }
+    ensures { λ r. ⌜ gives r (now (list .exit)) ≡ sizesReturned (now (list .entry)) answer ⌝ }
+{
+    match answer {
+        SizesAnswer::Is(n) => {
+            let y = n.luma;
+            let cb = n.cb;
+            let cr = n.cr;
+            let numbers = [
+                n.macro_blocks,
+                n.blocks,
+                n.super_blocks,
+                n.buffer,
+                y.across,
+                y.up,
+                y.offset,
+                y.length,
+                cb.across,
+                cb.up,
+                cb.offset,
+                cb.length,
+                cr.across,
+                cr.up,
+                cr.offset,
+                cr.length,
+            ];
+            store(list, &numbers)
+        }
+        SizesAnswer::Refused(k) => k,
+    }
+}
+
+fn return_block(answer: BlockAnswer, list: &mut [u64]) -> u32
+    requires { ⌜ length (now list) ≡ 3 ⌝ }
+    ensures { λ r. ⌜ gives r (now (list .exit)) ≡ blockReturned (now (list .entry)) answer ⌝ }
+{
+    match answer {
+        BlockAnswer::Is(b) => {
+            let numbers = [b.plane, b.x, b.y];
+            store(list, &numbers)
+        }
+        BlockAnswer::Absent => 255,
+        BlockAnswer::Refused(k) => k,
+    }
+}
+
+fn return_place(answer: PlaceAnswer, list: &mut [u64]) -> u32
+    requires { ⌜ length (now list) ≡ 2 ⌝ }
+    ensures { λ r. ⌜ gives r (now (list .exit)) ≡ placeReturned (now (list .entry)) answer ⌝ }
+{
+    match answer {
+        PlaceAnswer::Is(p) => {
+            let numbers = [p.x, p.y];
+            store(list, &numbers)
+        }
+        PlaceAnswer::Absent => 255,
+        PlaceAnswer::Refused(k) => k,
+    }
+}
+
+fn return_number(answer: NumberAnswer, list: &mut [u64]) -> u32
+    requires { ⌜ length (now list) ≡ 1 ⌝ }
+    ensures { λ r. ⌜ gives r (now (list .exit)) ≡ numberReturned (now (list .entry)) answer ⌝ }
+{
+    match answer {
+        NumberAnswer::Is(n) => {
+            let numbers = [n];
+            store(list, &numbers)
+        }
+        NumberAnswer::Absent => 255,
+        NumberAnswer::Refused(k) => k,
+    }
+}
+
+// ---- the calls
+
+#[no_mangle]
+pub extern "C" fn wedgepetal_identification(packet: &[u8], session: &mut [u64]) -> u32
+    ensures { λ r. ⌜ gives r (now (session .exit)) ≡ identificationCall (now (packet .entry)) (now (session .entry)) ⌝ }
+{
+    if session.len() == 17 {
+        return return_session(headers::identification(packet), session);
+    }
+    1
+}
+
+#[no_mangle]
+pub extern "C" fn wedgepetal_sizes(session: &[u64], sizes: &mut [u64]) -> u32
+    ensures { λ r. ⌜ gives r (now (sizes .exit)) ≡ sizesCall (now (session .entry)) (now (sizes .entry)) ⌝ }
+{
+    if (session.len() == 17) & (sizes.len() == 16) {
+        return return_sizes(headers::sizes(session_of(session)), sizes);
+    }
+    1
+}
+
+#[no_mangle]
+pub extern "C" fn wedgepetal_block_at(session: &[u64], number: u64, block: &mut [u64]) -> u32
+    ensures { λ r. ⌜ gives r (now (block .exit)) ≡ blockAtCall (now (session .entry)) number (now (block .entry)) ⌝ }
+{
+    if (session.len() == 17) & (block.len() == 3) {
+        return return_block(theora::block_at(session_of(session), number), block);
+    }
+    1
+}
+
+#[no_mangle]
+pub extern "C" fn wedgepetal_block_number(
+    session: &[u64],
+    plane: u64,
+    x: u64,
+    y: u64,
+    number: &mut [u64],
+) -> u32
+    ensures { λ r. ⌜ gives r (now (number .exit)) ≡ blockNumberCall (now (session .entry)) plane x y (now (number .entry)) ⌝ }
+{
+    if (session.len() == 17) & (number.len() == 1) {
+        return return_number(
+            theora::block_number(session_of(session), plane, x, y),
+            number,
+        );
+    }
+    1
+}
+
+#[no_mangle]
+pub extern "C" fn wedgepetal_macro_block_at(session: &[u64], number: u64, place: &mut [u64]) -> u32
+    ensures { λ r. ⌜ gives r (now (place .exit)) ≡ macroBlockAtCall (now (session .entry)) number (now (place .entry)) ⌝ }
+{
+    if (session.len() == 17) & (place.len() == 2) {
+        return return_place(theora::macro_block_at(session_of(session), number), place);
+    }
+    1
+}
+
+#[no_mangle]
+pub extern "C" fn wedgepetal_macro_block_number(
+    session: &[u64],
+    x: u64,
+    y: u64,
+    number: &mut [u64],
+) -> u32
+    ensures { λ r. ⌜ gives r (now (number .exit)) ≡ macroBlockNumberCall (now (session .entry)) x y (now (number .entry)) ⌝ }
+{
+    if (session.len() == 17) & (number.len() == 1) {
+        return return_number(
+            theora::macro_block_number(session_of(session), x, y),
+            number,
+        );
+    }
+    1
+}
+
+#[no_mangle]
+pub extern "C" fn wedgepetal_macro_block_of(
+    session: &[u64],
+    plane: u64,
+    x: u64,
+    y: u64,
+    place: &mut [u64],
+) -> u32
+    ensures { λ r. ⌜ gives r (now (place .exit)) ≡ macroBlockOfCall (now (session .entry)) plane x y (now (place .entry)) ⌝ }
+{
+    if (session.len() == 17) & (place.len() == 2) {
+        return return_place(
+            theora::macro_block_of(session_of(session), plane, x, y),
+            place,
+        );
+    }
+    1
+}
+
+#[no_mangle]
+pub extern "C" fn wedgepetal_sample_offset(
+    session: &[u64],
+    plane: u64,
+    x: u64,
+    y: u64,
+    column: u64,
+    row: u64,
+    offset: &mut [u64],
+) -> u32
+    ensures { λ r. ⌜ gives r (now (offset .exit)) ≡ sampleOffsetCall (now (session .entry)) plane x y column row (now (offset .entry)) ⌝ }
+{
+    if (session.len() == 17) & (offset.len() == 1) {
+        return return_number(
+            theora::sample_offset(session_of(session), plane, x, y, column, row),
+            offset,
+        );
+    }
+    1
+}
