@@ -1,0 +1,2 @@
+-- Laws: packing loses nothing of a record in its range.
+pub mod Laws

@@ -1,0 +1,4 @@
+pub mod Facts
+pub mod Frame
+pub mod Zero
+pub mod Examples

@@ -1,0 +1,3 @@
+pub mod Filter
+pub mod Flags
+pub mod Plane

@@ -1,0 +1,387 @@
+// The residual of a block: its coefficients dequantised, and the inverse transform.
+ghost use mathlib.Core.Path.{_≡_};
+ghost use mathlib.Core.List.{map};
+ghost use Prim.Native.Nat.{_+_, _*_, _≤_, _<_};
+ghost use lib.IntN.{natAbs, _+ℤ_, _-ℤ_};
+ghost use lib.ListN.{length, getD, replicate};
+ghost use Rattle.transform.specs.Line.{times, timesC4, firstTerms, lastTerms, outputs, Within, transformedLine};
+ghost use Rattle.transform.specs.Block.{lineAt, putLine, transformLine, rows, columns, inverse};
+ghost use Rattle.transform.specs.Residual.{zigZag, dequantized, dcOnly, rounded, values, residual};
+
+const C1: u16 = 64277;
+
+const C2: u16 = 60547;
+
+const C3: u16 = 54491;
+
+const C4: u16 = 46341;
+
+const C5: u16 = 36410;
+
+const C6: u16 = 25080;
+
+const C7: u16 = 12785;
+
+// Eight numbers that are transformed together: a row or a column of a block.
+pub struct Line {
+    pub x0: i16,
+    pub x1: i16,
+    pub x2: i16,
+    pub x3: i16,
+    pub x4: i16,
+    pub x5: i16,
+    pub x6: i16,
+    pub x7: i16,
+}
+
+// Four terms of a line's outputs.
+pub struct Terms {
+    pub t0: i32,
+    pub t1: i32,
+    pub t2: i32,
+    pub t3: i32,
+}
+
+fn times(c: u16, x: i16) -> i32
+    ensures { λ r. ⌜ (r ≡ times c x) × (natAbs r ≤ 32768) ⌝ }
+{
+    (x as i32 * c as i32) >> 16
+}
+
+fn times_c4(x: i32) -> i32
+    ensures { λ r. ⌜ (r ≡ timesC4 x) × (natAbs r ≤ 32768) ⌝ }
+{
+    times(C4, numeric::cut16(x))
+}
+
+fn weighted_sum(c: u16, x: i16, d: u16, y: i16) -> i32
+    ensures { λ r. ⌜ (r ≡ times c x +ℤ times d y) × (natAbs r ≤ 65536) ⌝ }
+{
+    times(c, x) + times(d, y)
+}
+
+fn weighted_difference(c: u16, x: i16, d: u16, y: i16) -> i32
+    ensures { λ r. ⌜ (r ≡ times c x -ℤ times d y) × (natAbs r ≤ 65536) ⌝ }
+{
+    times(c, x) - times(d, y)
+}
+
+// What outputs 0 to 3, and 7 to 4, begin with.
+fn first_terms(l: Line) -> Terms
+    ensures { λ r. ⌜ (r ≡ firstTerms l) × Within r ⌝ }
+{
+    let x0 = l.x0 as i32;
+    let x4 = l.x4 as i32;
+    let x2 = l.x2;
+    let x6 = l.x6;
+    let a = times_c4(x0 + x4);
+    let b = times_c4(x0 - x4);
+    let c = weighted_difference(C6, x2, C2, x6);
+    let d = weighted_sum(C2, x2, C6, x6);
+    Terms {
+        t0: a + d,
+        t1: b + c,
+        t2: b - c,
+        t3: a - d,
+    }
+}
+
+// What is added in outputs 0 to 3, and subtracted in 7 to 4.
+fn last_terms(l: Line) -> Terms
+    ensures { λ r. ⌜ (r ≡ lastTerms l) × Within r ⌝ }
+{
+    let x1 = l.x1;
+    let x3 = l.x3;
+    let x5 = l.x5;
+    let x7 = l.x7;
+    let e = weighted_difference(C7, x1, C1, x7);
+    let k = weighted_difference(C3, x5, C5, x3);
+    let g = weighted_sum(C5, x5, C3, x3);
+    let h = weighted_sum(C1, x1, C7, x7);
+    let k4 = times_c4(e - k);
+    let g4 = times_c4(h - g);
+    Terms {
+        t0: h + g,
+        t1: g4 + k4,
+        t2: g4 - k4,
+        t3: e + k,
+    }
+}
+
+// The outputs: the first terms with the last ones added, and the same with them subtracted.
+fn outputs(f: Terms, g: Terms) -> Line
+    requires { ⌜ Within f × Within g ⌝ }
+    ensures { λ r. ⌜ r ≡ outputs f g ⌝ }
+{
+    let f0 = f.t0;
+    let f1 = f.t1;
+    let f2 = f.t2;
+    let f3 = f.t3;
+    let g0 = g.t0;
+    let g1 = g.t1;
+    let g2 = g.t2;
+    let g3 = g.t3;
+    Line {
+        x0: numeric::cut16(f0 + g0),
+        x1: numeric::cut16(f1 + g1),
+        x2: numeric::cut16(f2 + g2),
+        x3: numeric::cut16(f3 + g3),
+        x4: numeric::cut16(f3 - g3),
+        x5: numeric::cut16(f2 - g2),
+        x6: numeric::cut16(f1 - g1),
+        x7: numeric::cut16(f0 - g0),
+    }
+}
+
+fn transformed_line(l: Line) -> Line
+    ensures { λ r. ⌜ r ≡ transformedLine l ⌝ }
+{
+    outputs(first_terms(l), last_terms(l))
+}
+
+// The line that starts at `at` and has every `step`th number.
+fn line_at(s: &[i16], at: usize, step: usize) -> Line
+    requires { ⌜ at + step * 7 < length (now s) ⌝ }
+    ensures { λ r. ⌜ r ≡ lineAt (now (s .entry)) at step ⌝ }
+{
+    let i1 = at + step;
+    let i2 = at + step * 2;
+    let i3 = at + step * 3;
+    let i4 = at + step * 4;
+    let i5 = at + step * 5;
+    let i6 = at + step * 6;
+    let i7 = at + step * 7;
+    Line {
+        x0: s[at],
+        x1: s[i1],
+        x2: s[i2],
+        x3: s[i3],
+        x4: s[i4],
+        x5: s[i5],
+        x6: s[i6],
+        x7: s[i7],
+    }
+}
+
+fn put_line(s: &mut [i16], at: usize, step: usize, l: Line)
+    requires { ⌜ at + step * 7 < length (now s) ⌝ }
+    ensures { λ _. ⌜ now (s .exit) ≡ putLine (now (s .entry)) at step l ⌝ }
+{
+    let i1 = at + step;
+    let i2 = at + step * 2;
+    let i3 = at + step * 3;
+    let i4 = at + step * 4;
+    let i5 = at + step * 5;
+    let i6 = at + step * 6;
+    let i7 = at + step * 7;
+    let x0 = l.x0;
+    let x1 = l.x1;
+    let x2 = l.x2;
+    let x3 = l.x3;
+    let x4 = l.x4;
+    let x5 = l.x5;
+    let x6 = l.x6;
+    let x7 = l.x7;
+    s[at] = x0;
+    s[i1] = x1;
+    s[i2] = x2;
+    s[i3] = x3;
+    s[i4] = x4;
+    s[i5] = x5;
+    s[i6] = x6;
+    s[i7] = x7;
+}
+
+// One line of the transform, in place.
+fn transform_line(s: &mut [i16], at: usize, step: usize)
+    requires { ⌜ at + step * 7 < length (now s) ⌝ }
+    ensures { λ _. ⌜ now (s .exit) ≡ transformLine (now (s .entry)) at step ⌝ }
+{
+    let l = transformed_line(line_at(s, at, step));
+    put_line(s, at, step, l);
+}
+
+fn transform_rows(s: &mut [i16])
+    requires { ⌜ length (now s) ≡ 64 ⌝ }
+    ensures { λ _. ⌜ now (s .exit) ≡ rows 8 (now (s .entry)) ⌝ }
+{
+    let mut i: usize = 0;
+    while i < 8 {
+        transform_line(s, i * 8, 1);
+        i += 1;
+    }
+}
+
+fn transform_columns(s: &mut [i16])
+    requires { ⌜ length (now s) ≡ 64 ⌝ }
+    ensures { λ _. ⌜ now (s .exit) ≡ columns 8 (now (s .entry)) ⌝ }
+{
+    let mut i: usize = 0;
+    while i < 8 {
+        transform_line(s, i, 8);
+        i += 1;
+    }
+}
+
+// The inverse transform of 64 values, in place: rows, then columns.
+fn inverse_transform(s: &mut [i16])
+    requires { ⌜ length (now s) ≡ 64 ⌝ }
+    ensures { λ _. ⌜ now (s .exit) ≡ inverse (now (s .entry)) ⌝ }
+{
+    transform_rows(s);
+    transform_columns(s);
+}
+
+// The position in zig-zag order of each coefficient in natural order.
+const ZIG_ZAG: [u8; 64] = [
+    0,
+    1,
+    5,
+    6,
+    14,
+    15,
+    27,
+    28,
+    2,
+    4,
+    7,
+    13,
+    16,
+    26,
+    29,
+    42,
+    3,
+    8,
+    12,
+    17,
+    25,
+    30,
+    41,
+    43,
+    9,
+    11,
+    18,
+    24,
+    31,
+    40,
+    44,
+    53,
+    10,
+    19,
+    23,
+    32,
+    39,
+    45,
+    52,
+    54,
+    20,
+    22,
+    33,
+    38,
+    46,
+    51,
+    55,
+    60,
+    21,
+    34,
+    37,
+    47,
+    50,
+    56,
+    59,
+    61,
+    35,
+    36,
+    48,
+    49,
+    57,
+    58,
+    62,
+    63,
+];
+
+fn zig_zag(i: usize) -> usize
+    requires { ⌜ i < 64 ⌝ }
+    ensures { λ r. ⌜ (r ≡ getD zigZag i 0) × (r < 64) ⌝ }
+{
+    ZIG_ZAG[i] as usize
+}
+
+fn dequantized(c: i16, q: u16) -> i16
+    ensures { λ r. ⌜ r ≡ dequantized c q ⌝ }
+{
+    numeric::cut16(c as i32 * q as i32)
+}
+
+// The dequantised values in natural order, from the 64 coefficients in zig-zag order that start at `at`. The first is DC's, whose quantizer is `q`.
+fn dequantize(coefs: &[i16], at: usize, dc: i16, q: u16, matrix: &[u16], out: &mut [i16])
+    requires { ⌜ (at + 64 ≤ length (now coefs)) × (length (now matrix) ≡ 64) × (length (now out) ≡ 64) ⌝ }
+    ensures { λ _. ⌜ now (out .exit) ≡ values (now (coefs .entry)) at dc q (now (matrix .entry)) ⌝ }
+{
+    let first = dequantized(dc, q);
+    out[0] = first;
+    let mut i: usize = 1;
+    while i < 64 {
+        let z = at + zig_zag(i);
+        let x = dequantized(coefs[z], matrix[i]);
+        out[i] = x;
+        i += 1;
+    }
+}
+
+fn dc_only(c: i16, q: u16) -> i16
+    ensures { λ r. ⌜ r ≡ dcOnly c q ⌝ }
+{
+    numeric::cut16((c as i32 * q as i32 + 15) >> 5)
+}
+
+fn fill(s: &mut [i16], v: i16)
+    requires { ⌜ length (now s) ≡ 64 ⌝ }
+    ensures { λ _. ⌜ now (s .exit) ≡ replicate 64 v ⌝ }
+{
+    let mut i: usize = 0;
+    while i < 64 {
+        s[i] = v;
+        i += 1;
+    }
+}
+
+fn rounded(x: i16) -> i16
+    ensures { λ r. ⌜ r ≡ rounded x ⌝ }
+{
+    ((x as i32 + 8) >> 4) as i16
+}
+
+fn round_all(s: &mut [i16])
+    requires { ⌜ length (now s) ≡ 64 ⌝ }
+    ensures { λ _. ⌜ now (s .exit) ≡ map rounded (now (s .entry)) ⌝ }
+{
+    let mut i: usize = 0;
+    while i < 64 {
+        let x = rounded(s[i]);
+        s[i] = x;
+        i += 1;
+    }
+}
+
+// The 64 residuals of a block, row 0 lowest. `dc` takes the place of the first coefficient, and `q` is its quantizer; `last` is the position of the block's last visit.
+pub fn residual(
+    coefs: &[i16],
+    at: usize,
+    dc: i16,
+    last: u8,
+    q: u16,
+    matrix: &[u16],
+    out: &mut [i16],
+)
+    requires { ⌜ (at + 64 ≤ length (now coefs)) × (length (now matrix) ≡ 64) × (length (now out) ≡ 64) ⌝ }
+    ensures { λ _. ⌜ now (out .exit) ≡ residual (now (coefs .entry)) at dc last q (now (matrix .entry)) ⌝ }
+{
+    if last < 2 {
+        fill(out, dc_only(dc, q));
+        return;
+    }
+    dequantize(coefs, at, dc, q, matrix, out);
+    inverse_transform(out);
+    round_all(out);
+}

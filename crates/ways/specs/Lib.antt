@@ -1,0 +1,4 @@
+pub mod Loops
+pub mod Raster
+pub mod Ways
+pub mod Corner
