@@ -3,3 +3,4 @@ pub mod Fields
 pub mod Laws
 pub mod Spends
 pub mod Examples
+pub mod Lists

@@ -1,10 +1,10 @@
 -- Every accepted identification header gives a session that fits, without references. Assumes nothing.
-use Prim.Native.Nat.{ℕ, _*_, _-_, _^_}
+use Prim.Native.Nat.{ℕ, _*_, _-_}
 use mathlib.Core.Path.{_≡_, refl, sym, ap, _∙_}
 use mathlib.Core.List.{List}
 use mathlib.Core.Bool.{Bool, true, false}
 use borrow.Author.Tests.{lt-ltb}
-use Rattle.bitstream.specs.Reading.{Outcome, got, refused, Parse, after, pure, bind, field, judged}
+use Rattle.bitstream.specs.Reading.{Outcome, got, refused, after, field, judged}
 use Rattle.bitstream.proofs.Fields.{no-mix, field-lt}
 use Rattle.headers.specs.declared.Session.{Session}
 use Rattle.headers.specs.declared.FrameSize.{FrameSize}

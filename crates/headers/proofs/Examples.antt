@@ -1,10 +1,10 @@
 -- Worked examples of the identification header.
 use Prim.Native.Nat.{ℕ}
 use mathlib.Core.Path.{_≡_, refl}
-use mathlib.Core.Bool.{true, false}
+use mathlib.Core.Bool.{false}
 use mathlib.Core.List.{List, [], _∷_, _++_}
 use Rattle.bitstream.specs.Bits.{bitAt, number}
-use Rattle.bitstream.specs.Reading.{Outcome, got, refused, field, judged}
+use Rattle.bitstream.specs.Reading.{got, refused, field, judged}
 use Rattle.headers.specs.declared.Session.{Session}
 use Rattle.headers.specs.Judgement.{spelled, theora, commonHeader}
 use Rattle.headers.specs.Identification.{version, frameSize, rates, coding, identification}

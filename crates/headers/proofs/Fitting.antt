@@ -1,14 +1,14 @@
 -- Sessions that fit: what their fields are, and that every accepted identification header gives one. Assumes nothing.
-use Prim.Native.Nat.{ℕ, zero, suc, _*_, _-_, _^_, _≤_, _<_}
+use Prim.Native.Nat.{ℕ, zero, suc, _-_, _^_, _≤_, _<_}
 use native.Mathlib.Omega.{arith}
-use mathlib.Core.Path.{_≡_, refl, sym, ap, _∙_}
+use mathlib.Core.Path.{_≡_, refl, sym, _∙_}
 use mathlib.Core.List.{List, [], _∷_}
 use lib.ListN.{length, getD}
 use lib.Dec.{lit<}
 use mathlib.Core.Bool.{Bool, true, false, _&&_, false≢true, and-true, and-assoc}
-use borrow.Author.Tests.{lt-ltb, ltb-true}
+use borrow.Author.Tests.{ltb-true}
 use Rattle.headers.specs.declared.Session.{Session}
-use Rattle.headers.specs.Fits.{within, all, widthsFit, rangesHold, sessionFits}
+use Rattle.headers.specs.Fits.{all, widthsFit, rangesHold, sessionFits}
 
 -- tests joined by `&` in the code, from the left
 abbrev pub chain : Bool → List Bool → Bool
@@ -23,6 +23,11 @@ chain-and a (b ∷ bs) = chain-and (a && b) bs ∙ and-assoc a b (all bs)
 pub chain-all : (b : Bool) (bs : List Bool) → chain b bs ≡ all (b ∷ bs)
 unfolding all
 chain-all b bs = chain-and b bs
+
+-- two tests that hold
+pub and-both : (a b : Bool) → (a && b) ≡ true → (a ≡ true) × (b ≡ true)
+and-both true b h = (refl, h)
+and-both false b h = absurd (false≢true h)
 
 -- a list of tests that hold: each of them
 pub all-at : (bs : List Bool) (k : ℕ) → all bs ≡ true → k < length bs → getD bs k false ≡ true
@@ -42,11 +47,7 @@ ranges-macro-blocks s h = (ltb-true _ _ (all-at _ 0 h (lit< tt)), ltb-true _ _ (
 
 fits-both : (s : Session) → sessionFits s ≡ true → (widthsFit s ≡ true) × (rangesHold s ≡ true)
 unfolding sessionFits
-fits-both s h = both (widthsFit s) (rangesHold s) h
-  where
-    both : (a b : Bool) → (a && b) ≡ true → (a ≡ true) × (b ≡ true)
-    both true b h = (refl, h)
-    both false b h = absurd (false≢true h)
+fits-both s h = and-both (widthsFit s) (rangesHold s) h
 
 -- a frame has 1 to 65,535 macro blocks each way
 pub fits-macro-blocks : (s : Session) → sessionFits s ≡ true → (0 < s .fmbw) × (s .fmbw ≤ 65535) × (0 < s .fmbh) × (s .fmbh ≤ 65535)

@@ -1,11 +1,10 @@
 -- The laws of the identification header and of its groups. Assumes nothing.
-use Prim.Native.Nat.{ℕ, _+_, _*_, _-_, _^_, _≤_, _<_}
+use Prim.Native.Nat.{ℕ, _*_, _-_, _<_}
 use native.Mathlib.Omega.{arith}
-use mathlib.Core.Path.{_≡_, refl, sym, ap, _∙_}
+use mathlib.Core.Path.{_≡_}
 use mathlib.Core.List.{List}
-use mathlib.Core.Bool.{Bool, true, false}
 use lib.ListN.{length}
-use Rattle.bitstream.specs.Reading.{Outcome, got, refused, Parse, pure, bind, field, judged}
+use Rattle.bitstream.specs.Reading.{Outcome, got, refused}
 use Rattle.bitstream.proofs.Laws.{Lawful, lawful}
 use Rattle.bitstream.proofs.Spends.{Spends, pure-spends, bind-spends, field-spends, judged-spends}
 use Rattle.headers.specs.declared.Passed.{Passed}

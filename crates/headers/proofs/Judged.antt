@@ -1,5 +1,5 @@
 -- What the answer of a judged field says, and of bytes that must stand there. Assumes nothing.
-use Prim.Native.Nat.{ℕ, suc, _+_, _*_, _^_, _≤_, _<_}
+use Prim.Native.Nat.{ℕ, _+_, _*_, _^_, _<_}
 use native.Mathlib.Omega.{arith}
 use native.Mathlib.Nat.{suc-mul}
 use native.Mathlib.Numerals.{add-one}
@@ -8,14 +8,13 @@ use mathlib.Core.List.{List, [], _∷_}
 use mathlib.Core.Bool.{Bool, true, false}
 use lib.ListN.{length, drop, getD}
 use lib.Seq.{drop-cons}
-use Rattle.bitstream.specs.Reading.{Outcome, got, refused, Parse, after, pure, bind, field, judged}
+use Rattle.bitstream.specs.Reading.{Outcome, got, refused, field, judged}
 use Rattle.bitstream.specs.Answer.{asField}
 use Rattle.bitstream.specs.declared.Field.{Field}
 use Rattle.bitstream.proofs.Fields.{no-mix, field-lt, read-got, read-refused, judged-end, judged-fails, judged-passes}
 use Rattle.bitstream.proofs.Laws.{Lawful, pure-lawful, bind-lawful, judged-lawful}
 use Rattle.bitstream.proofs.Spends.{Spends, spends-more, pure-spends, bind-spends, judged-spends}
-use Rattle.headers.specs.declared.Passed.{Passed}
-use Rattle.headers.specs.Judgement.{isExactly, exactly, spelled, theora, commonHeader, asPassed}
+use Rattle.headers.specs.Judgement.{isExactly, exactly, spelled, theora, commonHeader}
 
 -- the answer r of `read`, judged: a failing read; a value that fails the test; one that passes it
 module _ (n : ℕ) (test : ℕ → Bool) (k : ℕ) (p : List ℕ) (i : ℕ) {r : Field} (read : r ≡ asField (field n p i)) where

@@ -1,6 +1,6 @@
 -- The identification header, field by field.
 use Prim.Native.Nat.{ℕ, _-_, _*_}
-use mathlib.Core.Bool.{Bool, true, false}
+use mathlib.Core.Bool.{false}
 use Rattle.bitstream.specs.Reading.{Outcome, got, refused, Parse, pure, bind, field, _>>=_, _>>_}
 use Rattle.headers.specs.declared.Session.{Session}
 use Rattle.headers.specs.declared.FrameSize.{FrameSize}

@@ -1,9 +1,9 @@
 -- The judgements of header fields: "header fields are judged at once".
-use Prim.Native.Nat.{ℕ, _^_}
-use mathlib.Core.Bool.{Bool, not, _&&_}
+use Prim.Native.Nat.{ℕ}
+use mathlib.Core.Bool.{Bool, not}
 use mathlib.Core.List.{List, [], _∷_}
 use lib.Dec.{leb, ltb, eqb}
-use Rattle.bitstream.specs.Reading.{Outcome, got, refused, Parse, pure, bind, field, judged, _>>=_, _>>_}
+use Rattle.bitstream.specs.Reading.{Outcome, got, refused, Parse, pure, judged, _>>_}
 use Rattle.headers.specs.declared.Passed.{Passed}
 use Rattle.headers.specs.declared.Passed.the-variants.{To, Refused}
 

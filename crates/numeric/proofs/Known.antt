@@ -9,7 +9,7 @@ use native.Mathlib.Nat.{le-refl, le-trans, le-of-eq, lt-of-le-of-lt}
 use lib.Dec.{T, ltb, leb, ltb→lt, leb→le}
 use lib.IntN.{ℤ, pos, negsuc, _+ℤ_, _-ℤ_, _*ℤ_, natAbs}
 use lib.Signed.{nonNeg, natAbs-le, mag, quotZ, shrZ, ltZ, leZ}
-use mir.Syntax.{Width}
+use mir.Syntax.{Width, w16, w32}
 use mir.Val.{bits, hbits, SFits, Fits, ofZ, toZ}
 use mir.ValLaws.{toZ-ofZ, toZ-pos}
 use Rattle.numeric.proofs.Magnitude.{Size, size, size-up, size-add, size-sub, size-mul, size-shr, size-quot, size-div, size-fits}
@@ -163,3 +163,10 @@ ask-up w {b = b} e h t = record { sfits = lt-of-le-of-lt (le-trans (le-of-eq e) 
 -- a number that was written is read back, from the bare bound that an element, a field (`struct-told`) or a call (`.ok`) gives. z is explicit: antt does not find it under `mag`
 pub back : (w : Width) (z : ℤ) → mag z < 2 ^ hbits w → toZ w (ofZ w z) ≡ z
 back w z h = toZ-ofZ w z (record { sfits = h })
+
+-- a number of 16 bits that was cast to 32, `k-wide (c .fits .x)`, and the cast's need
+abbrev pub k-wide : {z : ℤ} → SFits w16 z → Known w32 z 32768
+k-wide f = k-cast w32 (k-any f) tt
+
+pub ask-wide : {z : ℤ} → SFits w16 z → SFits w32 (toZ w16 (ofZ w16 z))
+ask-wide f = ask-cast w32 (k-any f) tt

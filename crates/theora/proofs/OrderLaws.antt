@@ -2,10 +2,9 @@
 use Prim.Native.Nat.{ℕ, _≤_, _<_}
 use native.Mathlib.Omega.{arith}
 use mathlib.Core.Path.{_≡_, refl, sym, ap, _∙_}
-use mathlib.Core.List.{List}
 use mathlib.Core.Bool.{Bool, true, false, _&&_, false≢true}
 use lib.Dec.{ltb, eqb}
-use lib.ListN.{length, getD}
+use lib.ListN.{getD}
 use borrow.Author.Tests.{ltb-true, lt-ltb, eqb-true, eq-eqb}
 use Rattle.geometry.specs.declared.PixelFormat.{PixelFormat}
 use Rattle.geometry.specs.declared.Block.{Block}
@@ -17,26 +16,23 @@ use Rattle.geometry.specs.Macro.{macroOf}
 use Rattle.geometry.specs.Sample.{sampleAt}
 use Rattle.geometry.proofs.FrameLaws.{frame-length, frame-back, frame-once}
 use Rattle.geometry.proofs.PlaneOrders.{macro-order}
+use Rattle.headers.proofs.Fitting.{and-both}
 use Rattle.headers.specs.declared.Session.{Session}
 use Rattle.headers.specs.Fits.{sessionFits}
 use Rattle.headers.specs.Sizes.{formatOf}
-use Rattle.theora.specs.Found.{Found, is, absent, refused, onSession, element, position}
+use Rattle.theora.specs.Found.{is, absent, refused, onSession, element, position}
 use Rattle.theora.specs.Orders.{isBlock, isPlace, hasBlock, blockAt, blockNumber, macroBlockAt, macroBlockNumber, macroBlockOf, sampleOffset}
 use Rattle.theora.proofs.FoundLaws.{fits-on, unfit-on, element-is, element-absent, position-is, position-absent}
 
 -- ---- tests
-both : (a b : Bool) → (a && b) ≡ true → (a ≡ true) × (b ≡ true)
-both true b h = (refl, h)
-both false b h = absurd (false≢true h)
-
 not-true : (b : Bool) → (b ≡ true → ⊥) → b ≡ false
 not-true true h = absurd (h refl)
 not-true false h = refl
 
 pub is-block : (b q : Block) → isBlock b q ≡ true → q ≡ b
 is-block b q h =
-    let k = both (eqb (q .plane) (b .plane) && eqb (q .x) (b .x)) (eqb (q .y) (b .y)) h in
-    let j = both (eqb (q .plane) (b .plane)) (eqb (q .x) (b .x)) (k .0) in
+    let k = and-both (eqb (q .plane) (b .plane) && eqb (q .x) (b .x)) (eqb (q .y) (b .y)) h in
+    let j = and-both (eqb (q .plane) (b .plane)) (eqb (q .x) (b .x)) (k .0) in
     let p = eqb-true _ _ (j .0) in
     let x = eqb-true _ _ (j .1) in
     let y = eqb-true _ _ (k .1) in
@@ -47,7 +43,7 @@ same-block b q e = rw (eq-eqb _ _ (ap (λ (c : Block). c .plane) e), eq-eqb _ _ 
 
 pub is-place : (x y : ℕ) (q : Place) → isPlace x y q ≡ true → q ≡ at x y
 is-place x y q h =
-    let k = both (eqb (q .x) x) (eqb (q .y) y) h in
+    let k = and-both (eqb (q .x) x) (eqb (q .y) y) h in
     let a = eqb-true _ _ (k .0) in
     let b = eqb-true _ _ (k .1) in
     λ i. record { x = a i; y = b i }
@@ -59,15 +55,15 @@ module _ (f : PixelFormat) (w h : ℕ) (b : Block) where
   pub has-in-frame : hasBlock f w h b ≡ true → InFrame f w h b
   unfolding hasBlock
   has-in-frame t =
-      let k = both (ltb (b .plane) 3 && ltb (b .x) (across f w (b .plane))) (ltb (b .y) (up f h (b .plane))) t in
-      let j = both (ltb (b .plane) 3) (ltb (b .x) (across f w (b .plane))) (k .0) in
+      let k = and-both (ltb (b .plane) 3 && ltb (b .x) (across f w (b .plane))) (ltb (b .y) (up f h (b .plane))) t in
+      let j = and-both (ltb (b .plane) 3) (ltb (b .x) (across f w (b .plane))) (k .0) in
       record { of-three = ltb-true _ _ (j .0); column = ltb-true _ _ (j .1); row = ltb-true _ _ (k .1) }
 
   -- the test of `sample_offset`
   pub sample-inside : (c r : ℕ) → (hasBlock f w h b && ltb c 8 && ltb r 8) ≡ true → InFrame f w h b × (c < 8) × (r < 8)
   sample-inside c r t =
-      let k = both (hasBlock f w h b && ltb c 8) (ltb r 8) t in
-      let j = both (hasBlock f w h b) (ltb c 8) (k .0) in
+      let k = and-both (hasBlock f w h b && ltb c 8) (ltb r 8) t in
+      let j = and-both (hasBlock f w h b) (ltb c 8) (k .0) in
       (has-in-frame (j .0), ltb-true _ _ (j .1), ltb-true _ _ (k .1))
 
   in-frame-has : InFrame f w h b → hasBlock f w h b ≡ true

@@ -7,7 +7,7 @@ use Rattle.geometry.specs.declared.Block.{Block}
 use Rattle.geometry.specs.declared.Place.{Place}
 use Rattle.geometry.specs.Sizes.{across, up}
 use Rattle.geometry.specs.Order.{codedMacros}
-use Rattle.geometry.specs.Frame.{block, frameOrder}
+use Rattle.geometry.specs.Frame.{frameOrder}
 use Rattle.geometry.specs.Macro.{macroOf}
 use Rattle.geometry.specs.Sample.{sampleAt}
 use Rattle.headers.specs.declared.Session.{Session}

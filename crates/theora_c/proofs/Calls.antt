@@ -1,11 +1,12 @@
 -- The calls by the lengths of their lists. Assumes nothing.
 use Prim.Native.Nat.{ℕ}
-use mathlib.Core.Path.{_≡_, refl, sym, ap, _∙_}
-use mathlib.Core.Bool.{Bool, true, false, _&&_, false≢true}
+use mathlib.Core.Path.{_≡_, ap, _∙_}
+use mathlib.Core.Bool.{Bool, true, false, _&&_}
 use mathlib.Core.List.{List, [], _∷_}
 use lib.Dec.{eqb}
 use lib.ListN.{length}
 use borrow.Author.Tests.{eqb-true}
+use Rattle.headers.proofs.Fitting.{and-both}
 use Rattle.headers.specs.declared.Session.{Session}
 use Rattle.theora_c.specs.Face.{Returned, gives, flag, numbersOf, sessionOf, onList}
 
@@ -18,11 +19,7 @@ with-flag s n e = rw e
 
 module _ (n : ℕ) (session old : List ℕ) where
   pub lengths : (eqb (length session) 17 && eqb (length old) n) ≡ true → (length session ≡ 17) × (length old ≡ n)
-  lengths t = both (eqb (length session) 17) (eqb (length old) n) (λ s. eqb-true _ _ s) (λ s. eqb-true _ _ s) t
-    where
-      both : {A B : Type 0} (a b : Bool) → (a ≡ true → A) → (b ≡ true → B) → (a && b) ≡ true → A × B
-      both true b f g t = (f refl, g t)
-      both false b f g t = absurd (false≢true t)
+  lengths t = let k = and-both (eqb (length session) 17) (eqb (length old) n) t in (eqb-true _ _ (k .0), eqb-true _ _ (k .1))
 
   -- a call that is made on the session s of the list, and one whose lists have other lengths
   pub made : (call : Session → Returned) {s : Session} {x : Returned} → (eqb (length session) 17 && eqb (length old) n) ≡ true → s ≡ sessionOf session → x ≡ call s → x ≡ onList n session old call

@@ -5,8 +5,6 @@ use mathlib.Core.List.{List, [], _∷_}
 use lib.Dec.{eqb}
 use lib.ListN.{length, getD}
 use Rattle.bitstream.specs.Reading.{choose}
-use Rattle.geometry.specs.declared.Block.{Block}
-use Rattle.geometry.specs.declared.Place.{Place}
 use Rattle.geometry.specs.declared.FrameSizes.{FrameSizes}
 use Rattle.geometry.specs.Frame.{block}
 use Rattle.headers.specs.declared.Session.{Session}

@@ -1,5 +1,4 @@
 -- `headers::picture_inside` meets its contract. Assumes nothing.
-use borrow.Author.Needs.{needs}
 use borrow.Author.Tests.{lt-leb, le-leb}
 use mathlib.Core.Path.{sym}
 use Rattle.headers.specs.Fits.{pictureInside}

@@ -6,7 +6,6 @@ use mathlib.Core.Path.{_≡_, refl, sym, ap, _∙_}
 use mathlib.Core.List.{_∷_}
 use lib.ListN.{drop, getD}
 use lib.Dec.{lit≤}
-use Rattle.bitstream.specs.Reading.{got, refused}
 use Rattle.bitstream.proofs.Fields.{read-got, read-refused}
 use Rattle.headers.specs.Judgement.{exactly, spelled, theora, commonHeader, asPassed}
 use Rattle.headers.proofs.Judged.{spelled-next, spelled-refused}

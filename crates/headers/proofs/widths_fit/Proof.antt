@@ -1,5 +1,4 @@
 -- `headers::widths_fit` meets its contract. Assumes nothing.
-use borrow.Author.Needs.{needs}
 use Rattle.headers.specs.Fits.{widthsFit}
 use Rattle.headers.proofs.Fitting.{chain-all}
 use Rattle.headers.proofs.widths_fit.Statement.{statement}

@@ -5,17 +5,14 @@ use lib.IntN.{pos, _*ℤ_, _+ℤ_}
 use mir.Syntax.{w16, w32}
 use Rattle.numeric.specs.Cut.{cut}
 use Rattle.numeric.specs.Divide.{floorShift}
-use Rattle.numeric.proofs.Known.{Known, back, k-any, k-nat, k-lit, k-cast, ask-cast, k-mul, ask-mul, k-add, ask-add, k-shr}
+use Rattle.numeric.proofs.Known.{Known, k-wide, ask-wide, back, k-nat, k-lit, k-mul, ask-mul, k-add, ask-add, k-shr}
 use Rattle.transform.specs.Residual.{dcOnly}
 use Rattle.transform.proofs.dc_only.Statement.{statement}
 use Rattle.transform.proofs.dc_only.Tie as tie
 
 module _ (c : tie.Start) where
-  abbrev c16 : Known w16 (c .args .c) 32768
-  c16 = k-any (c .fits .c)
-
   abbrev x : Known w32 (c .args .c) 32768
-  x = k-cast w32 c16 tt
+  x = k-wide (c .fits .c)
 
   abbrev q : Known w32 (pos (c .args .q)) 65535
   q = k-nat (c .args .q) 65535 (omega arith) tt
@@ -30,7 +27,7 @@ module _ (c : tie.Start) where
   shifted = k-shr 5 67107841 biased tt tt tt
 
 cast-cut16 : tie.Need-cast-cut16
-cast-cut16 c = ask-cast w32 (c16 c) tt
+cast-cut16 c = ask-wide (c .fits .c)
 
 cast-cut16-2 : tie.Need-cast-cut16-2
 cast-cut16-2 c = search needs

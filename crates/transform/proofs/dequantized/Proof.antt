@@ -4,17 +4,14 @@ use native.Mathlib.Omega.{arith}
 use lib.IntN.{pos, _*ℤ_}
 use mir.Syntax.{w16, w32}
 use Rattle.numeric.specs.Cut.{cut}
-use Rattle.numeric.proofs.Known.{Known, back, k-any, k-nat, k-cast, ask-cast, k-mul, ask-mul}
+use Rattle.numeric.proofs.Known.{Known, k-wide, ask-wide, back, k-nat, k-mul, ask-mul}
 use Rattle.transform.specs.Residual.{dequantized}
 use Rattle.transform.proofs.dequantized.Statement.{statement}
 use Rattle.transform.proofs.dequantized.Tie as tie
 
 module _ (c : tie.Start) where
-  abbrev c16 : Known w16 (c .args .c) 32768
-  c16 = k-any (c .fits .c)
-
   abbrev x : Known w32 (c .args .c) 32768
-  x = k-cast w32 c16 tt
+  x = k-wide (c .fits .c)
 
   abbrev q : Known w32 (pos (c .args .q)) 65535
   q = k-nat (c .args .q) 65535 (omega arith) tt
@@ -23,7 +20,7 @@ module _ (c : tie.Start) where
   product = k-mul x q tt
 
 cast-cut16 : tie.Need-cast-cut16
-cast-cut16 c = ask-cast w32 (c16 c) tt
+cast-cut16 c = ask-wide (c .fits .c)
 
 cast-cut16-2 : tie.Need-cast-cut16-2
 cast-cut16-2 c = search needs

@@ -3,7 +3,7 @@ use mathlib.Core.Path.{_≡_, ap, ap₂, _∙_}
 use lib.IntN.{ℤ, _+ℤ_, _-ℤ_}
 use mir.Syntax.{w16, w32}
 use mir.Val.{toZ, ofZ}
-use Rattle.numeric.proofs.Known.{Known, back, k-any, k-cast, ask-cast, k-got, k-add, k-sub, ask-add, ask-sub, ask-size}
+use Rattle.numeric.proofs.Known.{Known, k-wide, ask-wide, back, k-got, k-add, k-sub, ask-add, ask-sub, ask-size}
 use Rattle.transform.specs.declared.Line.{Line}
 use Rattle.transform.specs.Line as L
 use Rattle.transform.specs.Line.{C2, C6, times, timesC4, firstTerms}
@@ -11,17 +11,11 @@ use Rattle.transform.proofs.first_terms.Statement.{statement}
 use Rattle.transform.proofs.first_terms.Tie as tie
 
 -- the line's numbers
-abbrev x0-16 : (c : tie.After-struct-told) → Known w16 (c .before .before .args .l .x0) 32768
-x0-16 c = k-any (record { sfits = c .struct-told .given .0 .1 })
-
 abbrev x0 : (c : tie.After-struct-told) → Known w32 (c .before .before .args .l .x0) 32768
-x0 c = k-cast w32 (x0-16 c) tt
-
-abbrev x4-16 : (c : tie.After-struct-told2) → Known w16 (c .before .before .before .before .args .l .x4) 32768
-x4-16 c = k-any (record { sfits = c .struct-told2 .given .1 .1 .1 .1 .0 .1 })
+x0 c = k-wide (record { sfits = c .struct-told .given .0 .1 })
 
 abbrev x4 : (c : tie.After-struct-told2) → Known w32 (c .before .before .before .before .args .l .x4) 32768
-x4 c = k-cast w32 (x4-16 c) tt
+x4 c = k-wide (record { sfits = c .struct-told2 .given .1 .1 .1 .1 .0 .1 })
 
 module _ (c : tie.After-struct-told4) where
   abbrev l : Line
@@ -73,10 +67,10 @@ module _ (c : tie.After-weighted-sum) where
   k = k-got (c .before .weighted-difference .ok) (C-is (c .before)) (c .before .weighted-difference .ensures .1)
 
 cast-x0 : tie.Need-cast-x0
-cast-x0 c = ask-cast w32 (x0-16 c) tt
+cast-x0 c = ask-wide {z = c .before .before .args .l .x0} (record { sfits = c .struct-told .given .0 .1 })
 
 cast-x4 : tie.Need-cast-x4
-cast-x4 c = ask-cast w32 (x4-16 c) tt
+cast-x4 c = ask-wide {z = c .before .before .before .before .args .l .x4} (record { sfits = c .struct-told2 .given .1 .1 .1 .1 .0 .1 })
 
 add-times-c4 : tie.Need-add-times-c4
 add-times-c4 c = ask-add (x0 (c .before .before .before .before)) (x4 (c .before .before)) tt

@@ -1,24 +1,21 @@
 use borrow.Author.Needs.{needs}
 use native.Mathlib.Omega.{arith}
 use lib.IntN.{pos}
-use mir.Syntax.{w16, w32}
-use Rattle.numeric.proofs.Known.{Known, k-any, k-cast, ask-cast, k-nat, k-mul, ask-mul, k-shr, ask-size}
+use mir.Syntax.{w32}
+use Rattle.numeric.proofs.Known.{Known, k-wide, ask-wide, k-nat, k-mul, ask-mul, k-shr, ask-size}
 use Rattle.transform.specs.Line.{times}
 use Rattle.transform.proofs.times.Statement.{statement}
 use Rattle.transform.proofs.times.Tie as tie
 
 module _ (c : tie.Start) where
-  abbrev x16 : Known w16 (c .args .x) 32768
-  x16 = k-any (c .fits .x)
-
   abbrev x : Known w32 (c .args .x) 32768
-  x = k-cast w32 x16 tt
+  x = k-wide (c .fits .x)
 
   abbrev k : Known w32 (pos (c .args .c)) 65535
   k = k-nat (c .args .c) 65535 (omega arith) tt
 
 cast-result : tie.Need-cast-result
-cast-result c = ask-cast w32 (x16 c) tt
+cast-result c = ask-wide (c .fits .x)
 
 cast-result-2 : tie.Need-cast-result-2
 cast-result-2 c = search needs

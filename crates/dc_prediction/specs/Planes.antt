@@ -1,0 +1,81 @@
+-- DC prediction of a frame: the blocks of each plane in raster order, by their raster numbers.
+use mathlib.Core.Bool.{Bool, true, cond, _&&_}
+use mathlib.Core.List.{List, [], _∷_}
+use mathlib.Core.Path.{_≡_}
+use Prim.Native.Nat.{ℕ, zero, suc, _+_, _-_, _*_, _≤_, _<_}
+use lib.Dec.{ltb}
+use lib.IntN.{ℤ, pos, _+ℤ_}
+use lib.ListN.{getD, set}
+use Rattle.numeric.specs.Cut.{cut}
+use Rattle.block_record.specs.declared.BlockRecord.{BlockRecord}
+use Rattle.block_record.specs.Record.{referenceOf}
+use Rattle.dc_prediction.specs.declared.LastDc.{LastDc}
+use Rattle.dc_prediction.specs.Neighbours.{recordAt, neighbourBack, predicted}
+
+-- the DC of every block, by raster number, and the last DC of each reference
+pub record State : Type 0 where
+  pub dc : List ℤ
+  pub last : LastDc
+
+abbrev pub stateOf : List ℤ → LastDc → State
+stateOf dc last = record { dc = dc; last = last }
+
+-- "at first 0"
+abbrev pub atFirst : LastDc
+atFirst = record { values = pos 0 ∷ pos 0 ∷ pos 0 ∷ [] }
+
+-- the steps 0, 1, .. n - 1, one after the other
+unfoldable pub upTo : {A : Type 0} → ℕ → (ℕ → A → A) → A → A
+upTo zero step a = a
+upTo (suc n) step a = step n (upTo n step a)
+
+module _ (records : List BlockRecord) where
+  -- the prediction of block b, which is number x of its row, for the reference r; the row has `across` blocks, and `below` says whether a row lies below it
+  unfoldable pub prediction : ℕ → Bool → ℕ → ℕ → ℕ → State → ℤ
+  prediction across below b x r s =
+      predicted
+      (neighbourBack records (s .dc) r (ltb 0 x) b 1)
+      (neighbourBack records (s .dc) r (below && ltb 0 x) b (across + 1))
+      (neighbourBack records (s .dc) r below b across)
+      (neighbourBack records (s .dc) r (below && ltb (x + 1) across) b (across - 1))
+      (getD (s .last .values) r (pos 0))
+
+  -- a coded block: "The sum is cut to 16 bits", and is the last DC of its reference r
+  unfoldable pub codedStep : ℕ → Bool → ℕ → ℕ → ℕ → State → State
+  codedStep across below b x r s =
+      let v = cut (getD (s .dc) b (pos 0) +ℤ prediction across below b x r s) in
+      stateOf (set (s .dc) b v) (record { values = set (s .last .values) r v })
+
+  -- block x of the row that starts with block number `start`
+  unfoldable pub blockStep : ℕ → ℕ → Bool → ℕ → State → State
+  blockStep start across below x s =
+      let k = recordAt records (start + x) in
+      cond (k .coded) (codedStep across below (start + x) x (referenceOf (k .prediction)) s) s
+
+  unfoldable pub row : ℕ → ℕ → Bool → State → State
+  row start across below s = upTo across (blockStep start across below) s
+
+  -- "raster order per plane": the plane whose first block has the number `first`
+  unfoldable pub plane : ℕ → ℕ → ℕ → List ℤ → List ℤ
+  plane first across up dc =
+      upTo up (λ y. row (first + y * across) across (ltb 0 y)) (stateOf dc atFirst) .dc
+
+  -- luma has `up` rows of `across` blocks, each chroma plane `chromaUp` rows of `chromaAcross`; "Planes follow on"
+  unfoldable pub predictedDc : ℕ → ℕ → ℕ → ℕ → List ℤ → List ℤ
+  predictedDc across up chromaAcross chromaUp dc =
+      plane (up * across + chromaUp * chromaAcross) chromaAcross chromaUp
+      (plane (up * across) chromaAcross chromaUp (plane 0 across up dc))
+
+-- where a block and its neighbours lie, for a list of n numbers
+pub record Within (across : ℕ) (below : Bool) (b x n : ℕ) : Type 0 where
+  pub inside : b < n
+  pub narrow : across ≤ n
+  pub in-row : x < across
+  pub left : x ≤ b
+  pub under : below ≡ true → across + x ≤ b
+
+-- a row lies in lists of n and m numbers, with the row below it
+pub record RowFits (start across : ℕ) (below : Bool) (n m : ℕ) : Type 0 where
+  pub in-dc : start + across ≤ n
+  pub in-records : start + across ≤ m
+  pub under : below ≡ true → across ≤ start

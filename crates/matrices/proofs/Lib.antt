@@ -1,0 +1,4 @@
+pub mod Ranges
+pub mod Values
+pub mod Matrices
+pub mod Examples

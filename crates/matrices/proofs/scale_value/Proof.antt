@@ -1,0 +1,36 @@
+-- `matrices::scale_value` meets its contract. Assumes nothing.
+use Prim.Native.Nat.{ℕ, _+_, _-_, _*_, _/_, _≤_, _<_, _^_}
+use native.Mathlib.Omega.{arith}
+use mathlib.Core.Path.{_≡_, refl, ap, sym, _∙_}
+use Rattle.matrices.proofs.Values.{product-fits, scaled-high, scaled-low, scaled-middle}
+use borrow.Author.Needs.{needs}
+use Rattle.matrices.proofs.scale_value.Statement.{statement}
+use Rattle.matrices.proofs.scale_value.Tie as tie
+use Rattle.matrices.proofs.scale_value.Reads as reads
+use Rattle.matrices.proofs.scale_value.Lts as lts
+
+mul-whole : tie.Need-mul-whole
+mul-whole c = omega (arith, product-fits (c .args .scale) (c .args .value) (c .pre .1) (c .pre .2))
+
+mul-whole-2 : tie.Need-mul-whole-2
+mul-whole-2 c = omega (arith, product-fits (c .args .scale) (c .args .value) (c .pre .1) (c .pre .2))
+
+returns : tie.Need-returns
+returns c = let a = c .before .args in scaled-high (a .low) (a .scale) (a .value) (c .before .pre .0) (c .if1 .taken)
+
+cast-result : tie.Need-cast-result
+cast-result c = search needs
+
+returns-2 : tie.Need-returns-2
+returns-2 c = let a = c .before .before .args in scaled-low (a .low) (a .scale) (a .value) (c .before .before .pre .0) (c .before .if1 .left) (c .if2 .taken)
+
+cast-result-2 : tie.Need-cast-result-2
+cast-result-2 c = search needs
+
+returns-3 : tie.Need-returns-3
+returns-3 c = let a = c .before .before .args in scaled-middle (a .low) (a .scale) (a .value) (c .before .before .pre .0) (c .before .if1 .left) (c .if2 .left)
+
+pub scale-value-spec : {M : Type 1} → statement M
+scale-value-spec =
+    tie.close
+    (tie.spec mul-whole mul-whole-2 returns cast-result returns-2 cast-result-2 returns-3)

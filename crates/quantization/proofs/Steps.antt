@@ -1,0 +1,232 @@
+-- How the parts of the quantization parameters go, by what their fields are. Assumes nothing.
+use Prim.Native.Nat.{ℕ, zero, suc, _+_, _-_, _*_, _/_, _^_, _≤_, _<_}
+use native.Mathlib.Omega.{arith}
+use native.Mathlib.Nat.{pow-suc}
+use native.Mathlib.Numerals.{add-one}
+use mathlib.Core.Path.{_≡_, refl, sym, ap, _∙_}
+use mathlib.Core.List.{List, [], _∷_, _++_}
+use mathlib.Core.Bool.{Bool, true, false}
+use lib.Dec.{eqb, ltb, leb}
+use lib.ListN.{length, getD, take, drop, set, replicate, length-append, length-set}
+use lib.Seq.{take-suc-set, drop-set-lt, drop-drop, drop-cons}
+use borrow.Author.Tests.{ltb-true, ltb-false, leb-true, leb-false, lt-ltb, le-ltb, le-leb, lt-leb, eq-eqb, ne-eqb}
+use Rattle.bitstream.specs.Bits.{bits, number}
+use Rattle.bitstream.specs.Reading.{Outcome, got, refused, Parse, after, pure, bind, guard, pick, choose, field, judged, many, until}
+use Rattle.bitstream.proofs.Fields.{no-mix, field-got, field-end, judged-end, judged-fails, judged-passes}
+use Rattle.bitstream.proofs.Laws.{bind-got}
+use Rattle.quantization.specs.Parameters.{Ranges, Quantization, Begun, withRange, digits, ilog, scales, matrixCount, baseMatrix, index, rangeSize, range, newSet, origin, none, setFrom, moreSets, quantization}
+use Rattle.quantization.specs.Layout.{over, padded, laid}
+use Rattle.quantization.specs.Answer.{asPlace, Filled, SetFilled, Held, HeldMore, SetAnswer, SetsHeld, Stored, asParameters, Loaded}
+use Rattle.quantization.specs.declared.Place.{Place}
+use Rattle.quantization.specs.declared.Place.the-variants.{At, Refused}
+use Rattle.quantization.specs.declared.Parameters.{Parameters}
+use Rattle.quantization.specs.declared.Parameters.the-variants.{Read, Refused as NotRead}
+use Rattle.quantization.proofs.Loops.{place-at, place-refused, many-first, many-later, many-cons}
+use Rattle.quantization.proofs.Layouts.{over-zeros, over-parts}
+
+-- ---- the number of binary digits
+pub Digits : ℕ → ℕ → ℕ → Type 0
+Digits n left k = (fuel : ℕ) × (left ≤ fuel) × (k + left ≤ n) × (ilog n ≡ k + digits fuel left)
+
+pub digits-start : (n : ℕ) → Digits n n 0
+unfolding Digits ilog
+digits-start n = (n, omega arith, omega arith, omega arith)
+
+pub digits-fits : (n left k : ℕ) → Digits n left k → k + left ≤ n
+unfolding Digits
+digits-fits n left k d = d .2
+
+pub digits-more : (n left k : ℕ) → 0 < left → Digits n left k → Digits n (left / 2) (k + 1)
+unfolding Digits digits
+digits-more n left k h (zero, a, b, e) = absurd (omega arith)
+digits-more n left k h (suc fuel, a, b, e) = (fuel, omega arith, omega arith, e ∙ rw (ne-eqb left 0 (λ z. absurd (omega arith))) (omega arith))
+
+digits-zero : (k : ℕ) → digits k 0 ≡ 0
+unfolding digits
+digits-zero zero = refl
+digits-zero (suc k) = refl
+
+pub digits-done : (n left k : ℕ) → left ≤ 0 → Digits n left k → k ≡ ilog n
+unfolding Digits
+digits-done n left k h (fuel, a, b, e) = let z : left ≡ 0 = omega arith in sym (e ∙ rw z (omega (arith, digits-zero fuel)))
+
+digits-le : (k n b : ℕ) → n < 2 ^ b → digits k n ≤ b
+unfolding digits
+digits-le zero n b h = omega arith
+digits-le (suc k) n zero h = let z : n ≡ 0 = omega arith in rw z (omega arith)
+digits-le (suc k) n (suc b) h = go (eqb n 0) (digits-le k (n / 2) b (let w : n < 2 ^ b * 2 = rw (← pow-suc 2 b) h in omega arith))
+  where
+    go : (t : Bool) → digits k (n / 2) ≤ b → choose t 0 (1 + digits k (n / 2)) ≤ suc b
+    go true l = omega arith
+    go false l = omega arith
+
+-- a number below 2 ^ b has at most b digits
+pub ilog-le : (n b : ℕ) → n < 2 ^ b → ilog n ≤ b
+unfolding ilog
+ilog-le n b h = digits-le n n b h
+
+-- ---- scales, the count, an index, a size
+module _ (p : List ℕ) (i : ℕ) where
+  pub scales-end : {k e : ℕ} → field 4 p i ≡ refused k e → scales p i ≡ refused k e
+  unfolding scales
+  scales-end f = rw f
+
+  pub scales-got : {v e : ℕ} → field 4 p i ≡ got v e → scales p i ≡ many 64 (field (v + 1)) p e
+  unfolding scales
+  scales-got f = rw f
+
+  pub count-end : {k e : ℕ} → field 9 p i ≡ refused k e → matrixCount p i ≡ refused k e
+  unfolding matrixCount
+  count-end f = rw (judged-end 9 (λ v. leb (v + 1) 384) 7 p i f)
+
+  pub count-big : {v e : ℕ} → field 9 p i ≡ got v e → 384 < v + 1 → matrixCount p i ≡ refused 7 i
+  unfolding matrixCount
+  count-big f h = rw (judged-fails 9 (λ v. leb (v + 1) 384) 7 p i f (lt-leb _ _ h))
+
+  pub count-got : {v e : ℕ} → field 9 p i ≡ got v e → v + 1 ≤ 384 → matrixCount p i ≡ got (v + 1) e
+  unfolding matrixCount
+  count-got f h = rw (judged-passes 9 (λ v. leb (v + 1) 384) 7 p i f (le-leb _ _ h))
+
+module _ (n : ℕ) (p : List ℕ) (i : ℕ) where
+  pub index-end : {k e : ℕ} → field (ilog (n - 1)) p i ≡ refused k e → index n p i ≡ refused k e
+  unfolding index
+  index-end f = judged-end _ _ _ p i f
+
+  pub index-big : {v e : ℕ} → field (ilog (n - 1)) p i ≡ got v e → n ≤ v → index n p i ≡ refused 7 i
+  unfolding index
+  index-big f h = judged-fails _ _ _ p i f (le-ltb _ _ h)
+
+  pub index-got : {v e : ℕ} → field (ilog (n - 1)) p i ≡ got v e → v < n → index n p i ≡ got v e
+  unfolding index
+  index-got f h = judged-passes _ _ _ p i f (lt-ltb _ _ h)
+
+module _ (qi : ℕ) (p : List ℕ) (i : ℕ) where
+  pub size-end : {k e : ℕ} → field (ilog (62 - qi)) p i ≡ refused k e → rangeSize qi p i ≡ refused k e
+  unfolding rangeSize
+  size-end f = judged-end _ _ _ p i f
+
+  pub size-big : {v e : ℕ} → field (ilog (62 - qi)) p i ≡ got v e → 63 < qi + (v + 1) → rangeSize qi p i ≡ refused 7 i
+  unfolding rangeSize
+  size-big f h = judged-fails _ _ _ p i f (lt-leb _ _ h)
+
+  pub size-got : {v e : ℕ} → field (ilog (62 - qi)) p i ≡ got v e → qi + (v + 1) ≤ 63 → rangeSize qi p i ≡ got v e
+  unfolding rangeSize
+  size-got f h = judged-passes _ _ _ p i f (le-leb _ _ h)
+
+-- a judged field that was got has passed its test
+judged-true : (n : ℕ) (test : ℕ → Bool) (k : ℕ) (p : List ℕ) (i : ℕ) {v e : ℕ} → judged n test k p i ≡ got v e → test v ≡ true
+unfolding judged
+judged-true n test k p i {v} {e} h =
+    let u = bind-got (field n) (λ a. bind (guard (test a) k i) (λ _. pure a)) p i h in
+    go (u .0) (u .1) (test (u .0)) refl (u .3)
+  where
+    go : (a d : ℕ) (t : Bool) → test a ≡ t → bind (guard t k i) (λ _. pure a) p d ≡ got v e → test v ≡ true
+    go a d true t r = let z : a ≡ v = cc in ap test (sym z) ∙ t
+    go a d false t r = no-mix (sym r)
+
+pub index-lt : (n : ℕ) (p : List ℕ) (i : ℕ) {v e : ℕ} → index n p i ≡ got v e → v < n
+unfolding index
+index-lt n p i h = ltb-true _ _ (judged-true _ _ _ p i h)
+
+pub size-le : (qi : ℕ) (p : List ℕ) (i : ℕ) {v e : ℕ} → rangeSize qi p i ≡ got v e → qi + (v + 1) ≤ 63
+unfolding rangeSize
+size-le qi p i h = leb-true _ _ (judged-true _ _ _ p i h)
+
+pub count-range : (p : List ℕ) (i : ℕ) {n e : ℕ} → matrixCount p i ≡ got n e → (1 ≤ n) × (n ≤ 384)
+unfolding matrixCount
+count-range p i {n} {e} h =
+    let u = bind-got (judged 9 (λ v. leb (v + 1) 384) 7) (λ v. pure (v + 1)) p i h in
+    let l : u .0 + 1 ≤ 384 = leb-true _ _ (judged-true 9 (λ v. leb (v + 1) 384) 7 p i (u .2)) in
+    let g = u .3 in
+    let z : u .0 + 1 ≡ n = cc in
+    (omega arith, omega arith)
+
+-- ---- the base matrices: where they are whole, their numbers are those of the packet, and else the first that is not there whole is refused
+bytes-end : (n : ℕ) (p : List ℕ) (i : ℕ) → i ≤ bits p → bits p - i < n * 8 → many n (field 8) p i ≡ refused 4 (i + (bits p - i) / 8 * 8)
+bytes-end zero p i h l = absurd (omega arith)
+bytes-end (suc n) p i h l = go (ltb (bits p - i) 8) refl (λ a b. bytes-end n p (i + 8) a b)
+  where
+    go : (t : Bool) → ltb (bits p - i) 8 ≡ t → (i + 8 ≤ bits p → bits p - (i + 8) < n * 8 → many n (field 8) p (i + 8) ≡ refused 4 (i + 8 + (bits p - (i + 8)) / 8 * 8)) → many (suc n) (field 8) p i ≡ refused 4 (i + (bits p - i) / 8 * 8)
+    go true t ih =
+        let s : bits p - i < 8 = ltb-true _ _ t in
+        let e : i + (bits p - i) / 8 * 8 ≡ i = omega arith in
+        rw e (many-first n (field 8) p i (field-end 8 p i (omega arith)))
+    go false t ih =
+        let s : 8 ≤ bits p - i = ltb-false _ _ t in
+        let e : i + (bits p - i) / 8 * 8 ≡ i + 8 + (bits p - (i + 8)) / 8 * 8 = omega arith in
+        rw e (many-later n (field 8) p i (field-got 8 p i (omega arith)) (ih (omega arith) (omega arith)))
+
+-- the numbers of a list of n, of 8 bits each, from the place i on
+pub record Numbers (p : List ℕ) (i n : ℕ) (l : List ℕ) : Type 0 where
+  pub long : length l ≡ n
+  pub each : (c : ℕ) → c < n → getD l c 0 ≡ number p (i + c * 8) 8
+
+bytes-got : (n : ℕ) (p : List ℕ) (i : ℕ) → i + n * 8 ≤ bits p → (l : List ℕ) × (many n (field 8) p i ≡ got l (i + n * 8)) × Numbers p i n l
+unfolding many
+bytes-got zero p i h = ([], ap (got []) (omega arith), record { long = refl; each = λ c r. absurd (omega arith) })
+bytes-got (suc n) p i h =
+    let g = bytes-got n p (i + 8) (omega arith) in
+    let e : i + 8 + n * 8 ≡ i + suc n * 8 = omega arith in (
+      number p i 8 ∷ g .0,
+      many-cons n (field 8) p i (field-got 8 p i (omega arith)) (g .1) ∙ ap (got (number p i 8 ∷ g .0)) e,
+      record { long = ap suc (g .2 .long); each = each (g .0) (g .2 .each) },
+    )
+  where
+    each : (l : List ℕ) → ((c : ℕ) → c < n → getD l c 0 ≡ number p (i + 8 + c * 8) 8) → (c : ℕ) → c < suc n → getD (number p i 8 ∷ l) c 0 ≡ number p (i + c * 8) 8
+    each l f zero r = ap (λ (j : ℕ). number p j 8) (omega arith)
+    each l f (suc c) r = f c (omega arith) ∙ ap (λ (j : ℕ). number p j 8) (omega arith)
+
+pub matrices-end : (n : ℕ) (p : List ℕ) (i : ℕ) → i ≤ bits p → bits p - i < n * 512 → many n baseMatrix p i ≡ refused 4 (i + (bits p - i) / 8 * 8)
+unfolding baseMatrix
+matrices-end zero p i h l = absurd (omega arith)
+matrices-end (suc n) p i h l = go (ltb (bits p - i) 512) refl (λ a b. matrices-end n p (i + 512) a b)
+  where
+    go : (t : Bool) → ltb (bits p - i) 512 ≡ t → (i + 512 ≤ bits p → bits p - (i + 512) < n * 512 → many n (many 64 (field 8)) p (i + 512) ≡ refused 4 (i + 512 + (bits p - (i + 512)) / 8 * 8)) → many (suc n) (many 64 (field 8)) p i ≡ refused 4 (i + (bits p - i) / 8 * 8)
+    go true t ih = let s : bits p - i < 512 = ltb-true _ _ t in many-first n (many 64 (field 8)) p i (bytes-end 64 p i h (omega arith))
+    go false t ih =
+        let s : 512 ≤ bits p - i = ltb-false _ _ t in
+        let e : i + (bits p - i) / 8 * 8 ≡ i + 512 + (bits p - (i + 512)) / 8 * 8 = omega arith in
+        let f = bytes-got 64 p i (omega arith) in
+        rw e (many-later n (many 64 (field 8)) p i (f .1) (ih (omega arith) (omega arith)))
+
+-- n matrices of 64 numbers from the place i on
+pub record Matrices (p : List ℕ) (i n : ℕ) (ms : List (List ℕ)) : Type 0 where
+  pub long : length ms ≡ n
+  pub each : (m : ℕ) → m < n → Numbers p (i + m * 512) 64 (getD ms m [])
+
+matrices-whole : (n : ℕ) (p : List ℕ) (i : ℕ) → i + n * 512 ≤ bits p → (ms : List (List ℕ)) × (many n baseMatrix p i ≡ got ms (i + n * 512)) × Matrices p i n ms
+unfolding baseMatrix many
+matrices-whole zero p i h = ([], ap (got []) (omega arith), record { long = refl; each = λ c r. absurd (omega arith) })
+matrices-whole (suc n) p i h =
+    let f = bytes-got 64 p i (omega arith) in
+    let g = matrices-whole n p (i + 512) (omega arith) in
+    let e : i + 512 + n * 512 ≡ i + suc n * 512 = omega arith in (
+      f .0 ∷ g .0,
+      many-cons n (many 64 (field 8)) p i (f .1) (g .1) ∙ ap (got (f .0 ∷ g .0)) e,
+      record { long = ap suc (g .2 .long); each = each (g .0) (f .2) (g .2 .each) },
+    )
+  where
+    each : {l : List ℕ} (ms : List (List ℕ)) → Numbers p i 64 l → ((m : ℕ) → m < n → Numbers p (i + 512 + m * 512) 64 (getD ms m [])) → (m : ℕ) → m < suc n → Numbers p (i + m * 512) 64 (getD (l ∷ ms) m [])
+    each ms a f zero r = let e : i + 0 * 512 ≡ i = omega arith in rw e a
+    each ms a f (suc m) r = let e : i + suc m * 512 ≡ i + 512 + m * 512 = omega arith in rw e (f m (omega arith))
+
+pub matrices-place : (n : ℕ) (p : List ℕ) (i : ℕ) → i + n * 512 ≤ bits p → At (i + n * 512) ≡ asPlace (many n baseMatrix p i)
+matrices-place n p i h = sym (ap asPlace (matrices-whole n p i h .1))
+
+-- what base matrices that were got say: they are there whole, and are the packet's numbers
+pub matrices-are : (n : ℕ) (p : List ℕ) (i : ℕ) {ms : List (List ℕ)} {e : ℕ} → i ≤ bits p → many n baseMatrix p i ≡ got ms e → (i + n * 512 ≤ bits p) × Matrices p i n ms
+matrices-are n p i {ms} {e} h f = go (leb (i + n * 512) (bits p)) refl
+  where
+    go : (t : Bool) → leb (i + n * 512) (bits p) ≡ t → (i + n * 512 ≤ bits p) × Matrices p i n ms
+    go true t =
+        let s : i + n * 512 ≤ bits p = leb-true _ _ t in
+        let g = matrices-whole n p i s in
+        let q = sym f ∙ g .1 in
+        let z : ms ≡ g .0 = cc in
+        (s, rw z (g .2))
+    go false t = let s : bits p < i + n * 512 = leb-false _ _ t in no-mix (sym f ∙ matrices-end n p i h (omega arith))
+
+-- the values behind the width, as a callee answers them
+pub scales-filled : (p : List ℕ) (i : ℕ) {v e : ℕ} → field 4 p i ≡ got v e → (n : ℕ) → n ≡ 64 → (r : Place) (new : List ℕ)
+    → r ≡ asPlace (many n (field (v + 1)) p e) → Filled (many n (field (v + 1)) p e) new → (r ≡ asPlace (scales p i)) × Filled (scales p i) new
+scales-filled p i f n z r new a s = rw (scales-got p i f, ← z) (a, s)

@@ -1,0 +1,25 @@
+-- `quantization::place_of` meets its contract. Assumes nothing.
+use Prim.Native.Nat.{ℕ, _+_, _-_, _*_, _/_, _≤_, _<_, _^_}
+use native.Mathlib.Omega.{arith}
+use mathlib.Core.Path.{_≡_, refl, ap, sym, _∙_}
+use Rattle.quantization.specs.Answer.{placeOf}
+use borrow.Author.Needs.{needs}
+use Rattle.quantization.proofs.place_of.Statement.{statement}
+use Rattle.quantization.proofs.place_of.Tie as tie
+use Rattle.quantization.proofs.place_of.Reads as reads
+use Rattle.quantization.proofs.place_of.Lts as lts
+
+enum-known-field : tie.Need-enum-known-field
+enum-known-field c = search needs
+
+enum-known-field-2 : tie.Need-enum-known-field-2
+enum-known-field-2 c = search needs
+
+returns : tie.Need-returns
+returns c = sym (ap placeOf (c .before .field .given .1))
+
+returns-2 : tie.Need-returns-2
+returns-2 c = sym (ap placeOf (c .before .field2 .given .1))
+
+pub place-of-spec : {M : Type 1} → statement M
+place-of-spec = tie.close (tie.spec enum-known-field enum-known-field-2 returns returns-2)

@@ -1,0 +1,106 @@
+-- The quantization parameters of the setup header, as 002 lists them ("Quantization Parameters Decode").
+use Prim.Native.Nat.{ℕ, zero, suc, _+_, _-_, _/_}
+use mathlib.Core.List.{List, [], _∷_, _++_}
+use lib.Dec.{eqb, ltb, leb}
+use lib.ListN.{length, getD}
+use Rattle.bitstream.specs.Reading.{Parse, pure, bind, _>>=_, _>>_, here, pick, choose, field, judged, many, until}
+
+-- a set of quant ranges: their sizes, QRSIZES, and the base matrix indices at their ends, QRBMIS, of which there is one more
+pub record Ranges : Type 0 where
+  pub sizes : List ℕ
+  pub indices : List ℕ
+
+-- the parameters: ACSCALE, DCSCALE, the base matrices with the place of the first of them in the packet, and the sets of the quantization types 0 and 1 and the planes 0 to 2, in this order
+pub record Quantization : Type 0 where
+  pub acScale : List ℕ
+  pub dcScale : List ℕ
+  pub matricesAt : ℕ
+  pub matrices : List (List ℕ)
+  pub sets : List Ranges
+
+-- how many binary digits n has, of at most k
+unfoldable pub digits : ℕ → ℕ → ℕ
+digits zero n = 0
+digits (suc k) n = choose (eqb n 0) 0 (1 + digits k (n / 2))
+
+-- ilog of 002: how many binary digits n has
+unfoldable pub ilog : ℕ → ℕ
+ilog n = digits n n
+
+-- 64 scale values, whose width less one a field of 4 bits says
+unfoldable pub scales : Parse (List ℕ)
+scales = do
+  w ← field 4
+  many 64 (field (w + 1))
+
+-- NBMS less one. "NBMS above 384" is 7 at its field
+unfoldable pub matrixCount : Parse ℕ
+matrixCount = do
+  v ← judged 9 (λ v. leb (v + 1) 384) 7
+  pure (v + 1)
+
+-- one base matrix: 64 numbers of 8 bits
+unfoldable pub baseMatrix : Parse (List ℕ)
+baseMatrix = many 64 (field 8)
+
+-- "ALL matrix indices checked": one that is not below NBMS is 7 at its field
+unfoldable pub index : ℕ → Parse ℕ
+index n = judged (ilog (n - 1)) (λ v. ltb v n) 7
+
+-- the size less one of the range that begins at qi. "a qi sum above 63" is 7 at the size's field
+unfoldable pub rangeSize : ℕ → Parse ℕ
+rangeSize qi = judged (ilog (62 - qi)) (λ v. leb (qi + (v + 1)) 63) 7
+
+-- a set that is being read: the qi that its last range ends at, its sizes and its indices so far
+pub record Begun : Type 0 where
+  pub reached : ℕ
+  pub sizes : List ℕ
+  pub indices : List ℕ
+
+abbrev pub withRange : Begun → ℕ → ℕ → Begun
+withRange s v b = record { reached = s .reached + (v + 1); sizes = s .sizes ++ (v + 1) ∷ []; indices = s .indices ++ b ∷ [] }
+
+-- one range more: its size, and the index at its end
+unfoldable pub range : ℕ → Begun → Parse Begun
+range n s = do
+  v ← rangeSize (s .reached)
+  b ← index n
+  pure (withRange s v b)
+
+-- a set that is new: an index, and ranges until 63 is reached, which takes at most 63 of them
+unfoldable pub newSet : ℕ → Parse Ranges
+newSet n = do
+  b ← index n
+  s ← until (λ s. leb 63 (s .reached)) (range n) 7 63 (record { reached = 0; sizes = []; indices = b ∷ [] })
+  pure (record { sizes = s .sizes; indices = s .indices })
+
+-- where set k = 3 * type + plane comes from: 0 if it is new (NEWQR), 1 if it is the one before it, and 3 if it is that of the same plane for the type before (RPQR)
+unfoldable pub origin : ℕ → Parse ℕ
+origin k =
+    pick (eqb k 0) (pure 0) (bind (field 1) (λ newqr.
+    pick (eqb newqr 1) (pure 0)
+    (pick (ltb k 3) (pure 1) (bind (field 1) (λ rpqr. pure (choose (eqb rpqr 1) 3 1))))))
+
+abbrev pub none : Ranges
+none = record { sizes = []; indices = [] }
+
+-- the set after those that are done: new, or a copy of the one that stands so many before it
+unfoldable pub setFrom : ℕ → List Ranges → ℕ → Parse Ranges
+setFrom n done back = pick (eqb back 0) (newSet n) (pure (getD done (length done - back) none))
+
+unfoldable pub moreSets : ℕ → ℕ → List Ranges → Parse (List Ranges)
+moreSets zero n done = pure done
+moreSets (suc k) n done = do
+  back ← origin (length done)
+  r ← setFrom n done back
+  moreSets k n (done ++ r ∷ [])
+
+unfoldable pub quantization : Parse Quantization
+quantization = do
+  ac ← scales
+  dc ← scales
+  n ← matrixCount
+  at ← here
+  ms ← many n baseMatrix
+  sets ← moreSets 6 n []
+  pure (record { acScale = ac; dcScale = dc; matricesAt = at; matrices = ms; sets = sets })

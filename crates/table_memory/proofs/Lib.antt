@@ -1,0 +1,4 @@
+pub mod Bytes
+pub mod KeptLaws
+pub mod GenuineLaws
+pub mod Steps

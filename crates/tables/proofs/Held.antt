@@ -1,0 +1,103 @@
+-- What a loaded setup holds. Assumes nothing.
+use Prim.Native.Nat.{ℕ, zero, suc, _+_, _-_, _*_, _≤_, _<_}
+use native.Mathlib.Omega.{arith}
+use mathlib.Core.Path.{_≡_, refl, sym, ap, _∙_}
+use mathlib.Core.List.{List, [], _∷_, append-nil}
+use mathlib.Core.Bool.{Bool, true, false}
+use lib.ListN.{length, getD, take, drop}
+use Rattle.bitstream.specs.Reading.{Outcome, got, refused, Parse, pure, bind, choose, many}
+use Rattle.bitstream.proofs.Fields.{no-mix}
+use Rattle.bitstream.proofs.Laws.{bind-got}
+use Rattle.headers.specs.Judgement.{commonHeader}
+use Rattle.huffman.specs.Tree.{Tree, leaf, Proper, nodesOf, huffmanTree}
+use Rattle.huffman.specs.Code.{Formed}
+use Rattle.huffman.proofs.Trees.{read-proper}
+use Rattle.quantization.specs.Parameters.{Quantization, quantization}
+use Rattle.quantization.specs.Layout.{padded, laid}
+use Rattle.quantization.specs.Sound.{Holds}
+use Rattle.quantization.proofs.Layouts.{laid-length, laid-part}
+use Rattle.quantization.proofs.Soundness.{read-holds, many-long}
+use Rattle.setup.specs.Header.{Setup, loopLimits, setupHeader}
+use Rattle.setup.specs.Answer.{Stored}
+use Rattle.setup.specs.Table.{isTable, heldSetup}
+use Rattle.setup.proofs.Steps.{proper-padded}
+use Rattle.tables.specs.Tables.{treeOf, HoldsTrees}
+
+-- ---- the trees in a slice
+module _ (trees : List Tree) (nodes : List ℕ) (h : HoldsTrees trees nodes) where
+  pub nodes-long : length nodes ≡ 5120
+  nodes-long = ap length (h .nodes-are) ∙ laid-length nodesOf trees ∙ omega (arith, h .eighty)
+
+  pub part-is : (k : ℕ) → k < 80 → (w : ℕ) → w ≡ 64 → take w (drop (k * 64) nodes) ≡ nodesOf (treeOf trees k)
+  part-is k l w z =
+      ap (λ (n : ℕ). take n (drop (k * 64) nodes)) z
+      ∙ ap (λ (x : List ℕ). take 64 (drop (k * 64) x)) (h .nodes-are ∙ sym (append-nil (laid nodesOf trees)))
+      ∙ laid-part nodesOf trees [] k (leaf 0) (omega (arith, h .eighty))
+      ∙ proper-padded (h .proper k l)
+
+  pub part-formed : (k : ℕ) → k < 80 → (w : ℕ) → w ≡ 64 → Formed (take w (drop (k * 64) nodes))
+  part-formed k l w z = record { tree = treeOf trees k; proper = h .proper k l; there = part-is k l w z }
+
+-- ---- every value of a list that was read is one that its parser gives
+many-each : {A : Type 0} (P : A → Type 0) (m : Parse A) → ((p : List ℕ) (i : ℕ) (a : A) (e : ℕ) → m p i ≡ got a e → P a)
+    → (n : ℕ) (p : List ℕ) (i : ℕ) {l : List A} {e : ℕ} → many n m p i ≡ got l e → (k : ℕ) (d : A) → k < length l → P (getD l k d)
+unfolding many
+many-each P m f zero p i {l} h k d r = let z : [] ≡ l = cc in absurd (let y : length l ≡ 0 = ap length (sym z) in omega arith)
+many-each P m f (suc n) p i {l} h k d r =
+    let u = bind-got m (λ a. bind (many n m) (λ l. pure (a ∷ l))) p i h in
+    let w = bind-got (many n m) (λ l. pure (u .0 ∷ l)) p (u .1) (u .3) in
+    let s = w .3 in
+    let z : u .0 ∷ w .0 ≡ l = cc in
+    rw (← z) (go (u .0) (w .0) (f p i (u .0) (u .1) (u .2)) (λ j v. many-each P m f n p (u .1) (w .2) j d v) k (omega (arith, ap length z)))
+  where
+    go : (a : _) (x : List _) → P a → ((j : ℕ) → j < length x → P (getD x j d)) → (k : ℕ) → k < length (a ∷ x) → P (getD (a ∷ x) k d)
+    go a x pa f zero v = pa
+    go a x pa f (suc k) v = f k (omega arith)
+
+-- ---- a setup that was read
+record Parts (p : List ℕ) (s : Setup) (e : ℕ) : Type 0 where
+  b : ℕ
+  c : ℕ
+  parameters-read : quantization p b ≡ got (s .parameters) c
+  trees-read : many 80 huffmanTree p c ≡ got (s .trees) e
+
+parts : (p : List ℕ) {s : Setup} {e : ℕ} → setupHeader p 0 ≡ got s e → Parts p s e
+unfolding setupHeader
+parts p {s} {e} h =
+    let u = bind-got (commonHeader 0x82) (λ _. bind loopLimits (λ l. bind quantization (λ q. bind (many 80 huffmanTree) (λ ts. pure (record { limits = l; parameters = q; trees = ts }))))) p 0 h in
+    let v = bind-got loopLimits (λ l. bind quantization (λ q. bind (many 80 huffmanTree) (λ ts. pure (record { limits = l; parameters = q; trees = ts })))) p (u .1) (u .3) in
+    let w = bind-got quantization (λ q. bind (many 80 huffmanTree) (λ ts. pure (record { limits = v .0; parameters = q; trees = ts }))) p (v .1) (v .3) in
+    let x = bind-got (many 80 huffmanTree) (λ ts. pure (record { limits = v .0; parameters = w .0; trees = ts })) p (w .1) (w .3) in
+    finish (v .0) (w .0) (x .0) (v .1) (w .1) (x .1) (w .2) (x .2) (x .3)
+  where
+    finish : (l : List ℕ) (q : Quantization) (ts : List Tree) (b c d : ℕ) → quantization p b ≡ got q c → many 80 huffmanTree p c ≡ got ts d → pure (record { limits = l; parameters = q; trees = ts }) p d ≡ got s e → Parts p s e
+    finish l q ts b c d f g r =
+        let y : Setup = record { limits = l; parameters = q; trees = ts } in
+        let z : y ≡ s = cc in
+        let t : d ≡ e = cc in
+        record { b = b; c = c; parameters-read = f ∙ ap (λ (x : Setup). got (x .parameters) c) z; trees-read = g ∙ rw t (ap (λ (x : Setup). got (x .trees) e) z) }
+
+module _ (p : List ℕ) {s : Setup} {e : ℕ} (h : setupHeader p 0 ≡ got s e) (limits ac dc sizes indices nodes : List ℕ) (stored : Stored s limits ac dc sizes indices nodes) where
+  -- the slices hold its parameters, whose base matrices stand in the packet
+  pub holds-parameters : Holds (s .parameters) p (s .parameters .matricesAt) ac dc sizes indices
+  holds-parameters = let g = parts p h in read-holds p (g .b) ac dc sizes indices (g .parameters-read) (stored .parameters-are)
+
+  -- and its trees
+  pub holds-trees : HoldsTrees (s .trees) nodes
+  holds-trees =
+      let g = parts p h in
+      let l = many-long 80 huffmanTree p (g .c) (g .trees-read) in
+      record {
+        eighty = l;
+        proper = λ k v. many-each Proper huffmanTree (λ p i a e r. read-proper p i r) 80 p (g .c) (g .trees-read) k (leaf 0) (omega arith);
+        nodes-are = stored .nodes-are;
+      }
+
+-- what a table memory holds is what it reads as
+pub held-reads : (t : List ℕ) {s : Setup} {e : ℕ} → heldSetup t ≡ got s e → setupHeader t 0 ≡ got s e
+unfolding heldSetup
+held-reads t {s} {e} h = go (isTable t) h
+  where
+    go : (b : Bool) → choose b (setupHeader t 0) (refused 8 0) ≡ got s e → setupHeader t 0 ≡ got s e
+    go true r = r
+    go false r = no-mix (sym r)
