@@ -1,9 +1,9 @@
 -- The number that a field's bits are. Assumes nothing.
 use Prim.Native.Nat.{ℕ, zero, suc, _+_, _*_, _^_, _≤_, _<_}
 use native.Mathlib.Omega.{arith}
-use native.Mathlib.Nat.{pow-suc}
+use native.Mathlib.Nat.{pow-suc, add-zero, add-suc, add-assoc, mul-assoc}
 use native.Mathlib.Numerals.{add-one}
-use mathlib.Core.Path.{_≡_, refl, ap₂}
+use mathlib.Core.Path.{_≡_, refl, sym, ap, ap₂, _∙_}
 use mathlib.Core.List.{List}
 use lib.Pow.{pow-mono}
 use Rattle.bitstream.specs.Bits.{bitAt, number}
@@ -35,3 +35,14 @@ pub number-same : (p q : List ℕ) (i n : ℕ) → ((k : ℕ) → k < i + n → 
 unfolding number
 number-same p q i zero h = refl
 number-same p q i (suc n) h = ap₂ (λ (x y : ℕ). x * 2 + y) (number-same p q i n (λ k l. h k (omega arith))) (h (i + n) (omega arith))
+
+-- a field in two parts
+pub number-add : (p : List ℕ) (i n m : ℕ) → number p i (n + m) ≡ number p i n * 2 ^ m + number p (i + n) m
+unfolding number
+number-add p i n zero = rw add-zero (omega arith)
+number-add p i n (suc m) =
+    rw (add-suc, pow-suc, number-add p i n m)
+    (ap (λ (k : ℕ). (number p i n * 2 ^ m + number p (i + n) m) * 2 + bitAt p k) (sym (add-assoc i n m)) ∙ regroup (number p i n) (2 ^ m) (number p (i + n) m) (bitAt p (i + n + m)))
+  where
+    regroup : (a b x y : ℕ) → (a * b + x) * 2 + y ≡ a * (b * 2) + (x * 2 + y)
+    regroup a b x y = rw (← mul-assoc a b 2) (omega arith)

@@ -1,7 +1,7 @@
 -- Numbers, bits and bytes of a packet. Assumes nothing.
 use Prim.Native.Nat.{ℕ, zero, suc, _+_, _-_, _*_, _/_, _%_, _^_, _≤_, _<_}
 use native.Mathlib.Omega.{arith}
-use native.Mathlib.Nat.{pow-suc, add-zero, add-suc, add-assoc, mul-assoc}
+use native.Mathlib.Nat.{pow-suc}
 use native.Mathlib.Numerals.{add-one}
 use mathlib.Core.Path.{_≡_, refl, sym, ap, _∙_}
 use mathlib.Core.List.{List}
@@ -11,18 +11,7 @@ use lib.ListN.{getD}
 use lib.Pow.{high, shr-shr, mod-pow-add}
 use borrow.Author.Tests.{ltb-true, ltb-false}
 use Rattle.bitstream.specs.Bits.{bitAt, number}
-use Rattle.bitstream.proofs.Numbers.{bit-lt, number-lt, number-more}
-
--- a field in two parts
-pub number-add : (p : List ℕ) (i n m : ℕ) → number p i (n + m) ≡ number p i n * 2 ^ m + number p (i + n) m
-unfolding number
-number-add p i n zero = rw add-zero (omega arith)
-number-add p i n (suc m) =
-    rw (add-suc, pow-suc, number-add p i n m)
-    (ap (λ (k : ℕ). (number p i n * 2 ^ m + number p (i + n) m) * 2 + bitAt p k) (sym (add-assoc i n m)) ∙ regroup (number p i n) (2 ^ m) (number p (i + n) m) (bitAt p (i + n + m)))
-  where
-    regroup : (a b x y : ℕ) → (a * b + x) * 2 + y ≡ a * (b * 2) + (x * 2 + y)
-    regroup a b x y = rw (← mul-assoc a b 2) (omega arith)
+use Rattle.bitstream.proofs.Numbers.{bit-lt, number-lt, number-more, number-add}
 
 byte-step : (b s m : ℕ) → (b / 2 ^ (s + 1) % 2 ^ m) * 2 + b / 2 ^ s % 2 ≡ b / 2 ^ s % 2 ^ (m + 1)
 byte-step b s m = rw (← shr-shr b s 1) (sym (mod-pow-add (b / 2 ^ s) m 1))

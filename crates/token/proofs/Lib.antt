@@ -1,0 +1,4 @@
+pub mod Rows
+pub mod Facts
+pub mod Laws
+pub mod Examples

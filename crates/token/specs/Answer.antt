@@ -1,0 +1,34 @@
+-- What the code answers, as outcomes of the reading algebra.
+use Prim.Native.Nat.{ℕ, _+_, _/_, _%_, _^_, _≤_}
+use Rattle.bitstream.specs.Reading.{Outcome, got, refused}
+use Rattle.token.specs.Token.{Meaning, endOfBlock, zeroRun, coefficient, Row}
+use Rattle.token.specs.declared.Token.{Token}
+use Rattle.token.specs.declared.Token.the-variants.{EndOfBlock, ZeroRun, Coefficient, Refused}
+use Rattle.token.specs.declared.Extra.{Extra}
+
+abbrev pub asToken : Outcome Meaning → Token
+asToken (got (endOfBlock n) e) = EndOfBlock n e
+asToken (got (zeroRun n) e) = ZeroRun n e
+asToken (got (coefficient n v) e) = Coefficient n v e
+asToken (refused k e) = Refused k e
+
+-- a row of the code's table: its six numbers in the same order
+abbrev pub asExtra : Row → Extra
+asExtra r = record { 0 = r .signBase; 1 = r .signBits; 2 = r .sizeBase; 3 = r .sizeBits; 4 = r .zeroBase; 5 = r .zeroBits }
+
+-- how large the numbers of a row are
+pub record Small (r : Extra) : Type 0 where
+  pub sign : r .0 ≤ 1
+  pub size : r .2 ≤ 69
+  pub zeros : r .4 ≤ 10
+  pub bits : r .1 + r .3 + r .5 ≤ 12
+
+-- sign, size and zeros of a row, where all its extra bits are read as one number x
+abbrev pub signOf : Row → ℕ → ℕ
+signOf r x = r .signBase + x / 2 ^ r .zeroBits / 2 ^ r .sizeBits
+
+abbrev pub sizeOf : Row → ℕ → ℕ
+sizeOf r x = r .sizeBase + x / 2 ^ r .zeroBits % 2 ^ r .sizeBits
+
+abbrev pub zerosOf : Row → ℕ → ℕ
+zerosOf r x = r .zeroBase + x % 2 ^ r .zeroBits

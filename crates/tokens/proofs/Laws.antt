@@ -1,0 +1,139 @@
+-- The laws of reading tokens, and what holds of all that they give. Assumes nothing.
+use Prim.Native.Nat.{ℕ, zero, suc, _+_, _-_, _*_, _≤_}
+use native.Mathlib.Omega.{arith}
+use native.Mathlib.Nat.{suc-mul, zero-mul}
+use mathlib.Core.Path.{_≡_, _∙_}
+use mathlib.Core.List.{List, [], _∷_}
+use lib.Dec.{eqb, ltb, leb}
+use lib.ListN.{length, getD, length-replicate}
+use lib.IntN.{pos}
+use Rattle.bitstream.specs.Reading.{got, pure}
+use Rattle.bitstream.proofs.Laws.{Lawful, lawful, pure-lawful, here-lawful, guard-lawful, pick-lawful, bind-lawful, whole-lawful, bind-got}
+use Rattle.bitstream.proofs.Spends.{Spends, spends-more, pure-spends, here-then, guard-spends, pick-spends, bind-spends, whole-spends, field-spends}
+use Rattle.huffman.specs.Tree.{Tree, Proper}
+use Rattle.huffman.proofs.Codes.{token-code-lawful, token-code-spends}
+use Rattle.token.specs.Token.{Meaning, endOfBlock, zeroRun, coefficient}
+use Rattle.token.proofs.Laws.{extra-lawful, extra-spends}
+use Rattle.tokens.specs.Tokens.{State, token, act, readFor, visit, pass, group, table, Choices, choicesOf, choices, atPosition, positionsFrom, ranks, start, Tokens, tokensOf, readTokens}
+use Rattle.tokens.specs.Answer.{AllProper}
+use Rattle.tokens.proofs.Goes.{Visits, Bounded, positions-go, room-most}
+use Rattle.tokens.proofs.Positions.{ranks-length, ranks-below}
+use Rattle.tokens.proofs.Tables.{proper-at}
+use Rattle.tokens.proofs.Fronts.{same-at}
+
+-- ---- local and firm
+token-lawful : (tree : Tree) → Lawful (token tree)
+unfolding token
+token-lawful tree = whole-lawful (bind-lawful (token-code-lawful tree) extra-lawful)
+
+act-lawful : (k b at : ℕ) (m : Meaning) (s : State) → Lawful (act k b at m s)
+unfolding act
+act-lawful k b at (endOfBlock n) s = pure-lawful _
+act-lawful k b at (zeroRun n) s = bind-lawful (guard-lawful (leb (k + n) 64) 13 at) (λ _. pure-lawful _)
+act-lawful k b at (coefficient n v) s = bind-lawful (guard-lawful (leb (k + n + 1) 64) 13 at) (λ _. pure-lawful _)
+
+visit-lawful : (tree : Tree) (k b : ℕ) (s : State) → Lawful (visit tree k b s)
+unfolding visit readFor
+visit-lawful tree k b s =
+    pick-lawful (eqb (getD (s .positions) b 0) k)
+    (pick-lawful (ltb 0 (s .run)) (pure-lawful _) (bind-lawful here-lawful (λ at. bind-lawful (token-lawful tree) (λ m. act-lawful k b at m s))))
+    (pure-lawful s)
+
+pass-lawful : (tree : Tree) (k : ℕ) (bs : List ℕ) (s : State) → Lawful (pass tree k bs s)
+unfolding pass
+pass-lawful tree k [] s = pure-lawful s
+pass-lawful tree k (b ∷ bs) s = bind-lawful (visit-lawful tree k b s) (pass-lawful tree k bs)
+
+choices-lawful : (k : ℕ) (ch : Choices) → Lawful (choices k ch)
+unfolding choices
+choices-lawful k ch = search lawful depth 10
+
+position-lawful : (trees : List Tree) (lumas chromas : List ℕ) (k : ℕ) (ch : Choices) (s : State) → Lawful (atPosition trees lumas chromas k ch s)
+unfolding atPosition
+position-lawful trees lumas chromas k ch s = bind-lawful (pass-lawful (table trees k (ch .luma)) k lumas s) (pass-lawful (table trees k (ch .chroma)) k chromas)
+
+positions-lawful : (trees : List Tree) (lumas chromas : List ℕ) (n k : ℕ) (ch : Choices) (s : State) → Lawful (positionsFrom trees lumas chromas n k ch s)
+unfolding positionsFrom
+positions-lawful trees lumas chromas zero k ch s = pure-lawful s
+positions-lawful trees lumas chromas (suc n) k ch s =
+    bind-lawful (choices-lawful k ch) (λ ch. bind-lawful (position-lawful trees lumas chromas k ch s) (λ s. positions-lawful trees lumas chromas n (k + 1) ch s))
+
+pub tokens-lawful : (trees : List Tree) (luma count : ℕ) → Lawful (readTokens trees luma count)
+unfolding readTokens
+tokens-lawful trees luma count = bind-lawful (positions-lawful trees _ _ 64 0 _ _) (λ s. pure-lawful (tokensOf s))
+
+-- ---- bits: a token takes at most 32 + 12, and there are at most 64 for each block
+token-spends : {tree : Tree} → Proper tree → Spends 44 (token tree)
+unfolding token
+token-spends f = whole-spends (bind-spends (token-code-spends f) extra-spends)
+
+act-spends : (k b at : ℕ) (m : Meaning) (s : State) → Spends 0 (act k b at m s)
+unfolding act
+act-spends k b at (endOfBlock n) s = pure-spends _
+act-spends k b at (zeroRun n) s = bind-spends {a = 0} {b = 0} (guard-spends (leb (k + n) 64) 13 at (λ e. omega (arith, e))) (λ _. pure-spends _)
+act-spends k b at (coefficient n v) s = bind-spends {a = 0} {b = 0} (guard-spends (leb (k + n + 1) 64) 13 at (λ e. omega (arith, e))) (λ _. pure-spends _)
+
+visit-spends : {tree : Tree} → Proper tree → (k b : ℕ) (s : State) → Spends 44 (visit tree k b s)
+unfolding visit readFor
+visit-spends f k b s =
+    pick-spends (eqb (getD (s .positions) b 0) k)
+    (λ _. pick-spends (ltb 0 (s .run)) (λ _. spends-more (omega arith) (pure-spends _)) (λ _. here-then (λ at. spends-more (omega arith) (bind-spends (token-spends f) (λ m. act-spends k b at m s)))))
+    (λ _. spends-more (omega arith) (pure-spends s))
+
+pass-spends : {tree : Tree} → Proper tree → (k : ℕ) (bs : List ℕ) (s : State) → Spends (44 * length bs) (pass tree k bs s)
+unfolding pass
+pass-spends f k [] s = spends-more (omega arith) (pure-spends s)
+pass-spends f k (b ∷ bs) s = spends-more (omega arith) (bind-spends (visit-spends f k b s) (λ s. pass-spends f k bs s))
+
+choices-spends : (k : ℕ) (ch : Choices) → Spends 8 (choices k ch)
+unfolding choices
+choices-spends k ch =
+    pick-spends (ltb k 2) (λ _. spends-more (omega arith) (bind-spends (field-spends 4) (λ a. bind-spends {b = 0} (field-spends 4) (λ b. pure-spends _)))) (λ _. spends-more (omega arith) (pure-spends ch))
+
+module _ (trees : List Tree) (f : AllProper trees) where
+  position-spends : (lumas chromas : List ℕ) (k : ℕ) (ch : Choices) (s : State) → Spends (44 * (length lumas + length chromas)) (atPosition trees lumas chromas k ch s)
+  unfolding atPosition table
+  position-spends lumas chromas k ch s =
+      spends-more (omega arith)
+      (bind-spends (pass-spends (proper-at trees (16 * group k + ch .luma) f) k lumas s) (λ s. pass-spends (proper-at trees (16 * group k + ch .chroma) f) k chromas s))
+
+  positions-spends : (lumas chromas : List ℕ) (n k : ℕ) (ch : Choices) (s : State) → Spends (n * (8 + 44 * (length lumas + length chromas))) (positionsFrom trees lumas chromas n k ch s)
+  unfolding positionsFrom
+  positions-spends lumas chromas zero k ch s = rw zero-mul (pure-spends s)
+  positions-spends lumas chromas (suc n) k ch s =
+      spends-more (rw suc-mul (omega arith))
+      (bind-spends (choices-spends k ch) (λ ch. bind-spends (position-spends lumas chromas k ch s) (λ s. positions-spends lumas chromas n (k + 1) ch s)))
+
+  -- 8 bits at each position, and 44 for each block there
+  pub tokens-spends : (luma count : ℕ) → luma ≤ count → Spends (512 + 2816 * count) (readTokens trees luma count)
+  unfolding readTokens
+  tokens-spends luma count h =
+      spends-more (omega (arith, ranks-length 0 luma, ranks-length luma (count - luma)))
+      (bind-spends {b = 0} (positions-spends (ranks 0 luma) (ranks luma (count - luma)) 64 0 (choicesOf 0 0) (start count)) (λ s. pure-spends (tokensOf s)))
+
+-- ---- what is given
+pub record Given (count : ℕ) (t : Tokens) : Type 0 where
+  pub tokens : t .tokens ≤ 64 * count  -- at most 64 tokens for each coded block
+  pub lasts : length (t .lasts) ≡ count
+  pub coefs : length (t .coefs) ≡ 64 * count
+  pub visits : Visits (t .lasts)  -- every last visit is at one of the 64 positions
+  pub bounded : Bounded (t .coefs)  -- no coefficient is larger than 580
+
+pub tokens-given : (trees : List Tree) (luma count : ℕ) (p : List ℕ) (i : ℕ) → luma ≤ count → {t : Tokens} {e : ℕ} → readTokens trees luma count p i ≡ got t e → Given count t
+unfolding readTokens start
+tokens-given trees luma count p i h {t} {e} r =
+    let u = bind-got (positionsFrom trees (ranks 0 luma) (ranks luma (count - luma)) 64 0 (choicesOf 0 0) (start count)) (λ s. pure (tokensOf s)) p i r in
+    let n : length (start count .positions) ≡ count = length-replicate count 0 in
+    let g =
+    positions-go trees (ranks 0 luma) (ranks luma (count - luma)) p 64 0 (choicesOf 0 0) (start count) i (omega arith)
+    (ranks-below 0 luma (length (start count .positions)) (omega (arith, n)))
+    (ranks-below luma (count - luma) (length (start count .positions)) (omega (arith, n))) (u .2) in
+    let z : tokensOf (u .0) ≡ t = cc in
+    rw (← z)
+    (record {
+      tokens = omega (arith, g .tokens, room-most (start count .positions), n);
+      lasts = g .lasts ∙ length-replicate count 0;
+      coefs = g .coefs ∙ length-replicate (64 * count) (pos 0);
+      visits = g .visits (λ b. omega (arith, same-at {A = ℕ} count b 0));
+      bounded = g .bounded (λ j. rw (same-at (64 * count) j (pos 0)) (omega arith));
+    })

@@ -1,0 +1,9 @@
+pub mod Ways
+pub mod Goes
+pub mod Unfinished
+pub mod Tables
+pub mod Positions
+pub mod Lists
+pub mod Fronts
+pub mod Laws
+pub mod Examples

@@ -1,0 +1,200 @@
+-- Groups, choices, ranks, and the ways that a position and all positions can go. Assumes nothing.
+use Prim.Native.Nat.{ℕ, zero, suc, _+_, _-_, _*_, _≤_, _<_}
+use native.Mathlib.Omega.{arith}
+use native.Mathlib.Numerals.{add-one}
+use native.Mathlib.Nat.{add-zero}
+use mathlib.Core.Path.{_≡_, refl, sym, ap, _∙_}
+use mathlib.Core.List.{List, [], _∷_, _++_}
+use mathlib.Core.Bool.{Bool, true, false}
+use lib.Dec.{ltb}
+use lib.ListN.{length, getD, set, take, drop}
+use lib.Seq.{take-suc-set, take-all, take-at, drop-at}
+use borrow.Author.Tests.{lt-ltb, le-ltb}
+use Rattle.bitstream.specs.Reading.{Outcome, got, refused, bind, pure, pick, field}
+use Rattle.bitstream.proofs.Fields.{field-lt}
+use Rattle.bitstream.proofs.Laws.{bind-got}
+use Rattle.huffman.specs.Tree.{Tree}
+use Rattle.tokens.specs.Tokens.{State, pass, group, Choices, choicesOf, choices, table, atPosition, positionsFrom, ranks}
+use Rattle.tokens.specs.Answer.{asChosen, Below, treesOf, treeAt}
+use Rattle.tokens.specs.declared.Chosen.{Chosen}
+use Rattle.tokens.specs.declared.Chosen.the-variants as chosen
+use Rattle.tokens.proofs.Goes.{AllBelow}
+
+-- ---- groups
+module _ (k : ℕ) where
+  pub group-0 : k < 1 → 0 ≡ group k
+  unfolding group
+  group-0 h = rw (lt-ltb k 1 h)
+
+  pub group-1 : 1 ≤ k → k < 6 → 1 ≡ group k
+  unfolding group
+  group-1 l h = rw (le-ltb k 1 l, lt-ltb k 6 h)
+
+  pub group-2 : 6 ≤ k → k < 15 → 2 ≡ group k
+  unfolding group
+  group-2 l h = rw (le-ltb k 1 (omega arith), le-ltb k 6 l, lt-ltb k 15 h)
+
+  pub group-3 : 15 ≤ k → k < 28 → 3 ≡ group k
+  unfolding group
+  group-3 l h = rw (le-ltb k 1 (omega arith), le-ltb k 6 (omega arith), le-ltb k 15 l, lt-ltb k 28 h)
+
+  pub group-4 : 28 ≤ k → 4 ≡ group k
+  unfolding group
+  group-4 l = rw (le-ltb k 1 (omega arith), le-ltb k 6 (omega arith), le-ltb k 15 (omega arith), le-ltb k 28 l)
+
+-- ---- choices
+module _ (k : ℕ) (ch : Choices) (p : List ℕ) (i : ℕ) where
+  pub choices-kept : 2 ≤ k → choices k ch p i ≡ got ch i
+  unfolding choices
+  choices-kept h = rw (le-ltb k 2 h)
+
+  pub choices-first : k < 2 → {n e : ℕ} → field 4 p i ≡ refused n e → choices k ch p i ≡ refused n e
+  unfolding choices
+  choices-first h f = rw (lt-ltb k 2 h, f)
+
+  pub choices-second : k < 2 → {a d n e : ℕ} → field 4 p i ≡ got a d → field 4 p d ≡ refused n e → choices k ch p i ≡ refused n e
+  unfolding choices
+  choices-second h f g = rw (lt-ltb k 2 h, f, g)
+
+  pub choices-read : k < 2 → {a e b d : ℕ} → field 4 p i ≡ got a e → field 4 p e ≡ got b d → choices k ch p i ≡ got (choicesOf a b) d
+  unfolding choices
+  choices-read h f g = rw (lt-ltb k 2 h, f, g)
+
+  -- a choice is below 16
+  pub choices-small : ch .luma < 16 → ch .chroma < 16 → {ch′ : Choices} {e : ℕ} → choices k ch p i ≡ got ch′ e → (ch′ .luma < 16) × (ch′ .chroma < 16)
+  unfolding choices
+  choices-small x y {ch′} {e} h = go (ltb k 2) h
+    where
+      go : (b : Bool) → pick b (bind (field 4) (λ a. bind (field 4) (λ b. pure (choicesOf a b)))) (pure ch) p i ≡ got ch′ e → (ch′ .luma < 16) × (ch′ .chroma < 16)
+      go true r =
+          let u = bind-got (field 4) (λ a. bind (field 4) (λ b. pure (choicesOf a b))) p i r in
+          let v = bind-got (field 4) (λ b. pure (choicesOf (u .0) b)) p (u .1) (u .3) in
+          let z : choicesOf (u .0) (v .0) ≡ ch′ = cc in
+          rw (← z) (field-lt 4 p i (u .2), field-lt 4 p (u .1) (v .2))
+      go false r = let z : ch ≡ ch′ = cc in rw (← z) (x, y)
+
+module _ {r : Chosen} (o : Outcome Choices) (s : r ≡ asChosen o) where
+  pub chosen-tables : {a b e : ℕ} → r ≡ chosen.Tables a b e → o ≡ got (choicesOf a b) e
+  chosen-tables {a} {b} {e} g = go o (sym s ∙ g)
+    where
+      go : (o : Outcome Choices) → asChosen o ≡ chosen.Tables a b e → o ≡ got (choicesOf a b) e
+      go (got ch d) h =
+          let x : ch .luma ≡ a = cc in
+          let y : ch .chroma ≡ b = cc in
+          let z : d ≡ e = cc in
+          λ i. got (choicesOf (x i) (y i)) (z i)
+      go (refused k d) h = let z : _≡_ {A = ℕ} 0 1 = cc in absurd (omega arith)
+
+  pub chosen-refused : {k e : ℕ} → r ≡ chosen.Refused k e → o ≡ refused k e
+  chosen-refused {k} {e} g = go o (sym s ∙ g)
+    where
+      go : (o : Outcome Choices) → asChosen o ≡ chosen.Refused k e → o ≡ refused k e
+      go (got ch d) h = let z : _≡_ {A = ℕ} 0 1 = cc in absurd (omega arith)
+      go (refused j d) h = cc
+
+-- ---- a position: luma's pass and then chroma's
+module _ (trees : List Tree) (lumas chromas : List ℕ) (k : ℕ) (ch : Choices) (s : State) (p : List ℕ) (i : ℕ) where
+  pub position-refused : {j e : ℕ} → pass (table trees k (ch .luma)) k lumas s p i ≡ refused j e → atPosition trees lumas chromas k ch s p i ≡ refused j e
+  unfolding atPosition
+  position-refused h = rw h
+
+  pub position-got : {s′ : State} {e : ℕ} → pass (table trees k (ch .luma)) k lumas s p i ≡ got s′ e
+      → atPosition trees lumas chromas k ch s p i ≡ pass (table trees k (ch .chroma)) k chromas s′ p e
+  unfolding atPosition
+  position-got h = rw h
+
+-- ---- a turn of all positions
+module _ (trees : List Tree) (lumas chromas : List ℕ) (k : ℕ) (ch : Choices) (s : State) (p : List ℕ) (i : ℕ) where
+  pub positions-none : 64 ≤ k → positionsFrom trees lumas chromas (64 - k) k ch s p i ≡ got s i
+  unfolding positionsFrom
+  positions-none h = let z : 64 - k ≡ 0 = omega arith in rw z
+
+  pub positions-choices : k < 64 → {j e : ℕ} → choices k ch p i ≡ refused j e → positionsFrom trees lumas chromas (64 - k) k ch s p i ≡ refused j e
+  unfolding positionsFrom
+  positions-choices l h = let z : 64 - k ≡ suc (64 - (k + 1)) = omega arith in rw (z, h)
+
+  pub positions-refused : k < 64 → {ch′ : Choices} {e j d : ℕ} → choices k ch p i ≡ got ch′ e → atPosition trees lumas chromas k ch′ s p e ≡ refused j d
+      → positionsFrom trees lumas chromas (64 - k) k ch s p i ≡ refused j d
+  unfolding positionsFrom
+  positions-refused l h f = let z : 64 - k ≡ suc (64 - (k + 1)) = omega arith in rw (z, h, f)
+
+  positions-suc : (n : ℕ) {ch′ : Choices} {e d : ℕ} {s′ : State} → choices k ch p i ≡ got ch′ e → atPosition trees lumas chromas k ch′ s p e ≡ got s′ d
+      → positionsFrom trees lumas chromas (suc n) k ch s p i ≡ positionsFrom trees lumas chromas n (k + 1) ch′ s′ p d
+  unfolding positionsFrom
+  positions-suc n h f = rw (h, f)
+
+  pub positions-got : k < 64 → {ch′ : Choices} {e d : ℕ} {s′ : State} → choices k ch p i ≡ got ch′ e → atPosition trees lumas chromas k ch′ s p e ≡ got s′ d
+      → positionsFrom trees lumas chromas (64 - k) k ch s p i ≡ positionsFrom trees lumas chromas (64 - (k + 1)) (k + 1) ch′ s′ p d
+  positions-got l h f =
+      let z : 64 - k ≡ suc (64 - (k + 1)) = omega arith in
+      ap (λ (n : ℕ). positionsFrom trees lumas chromas n k ch s p i) z ∙ positions-suc (64 - (k + 1)) h f
+
+-- ---- ranks
+pub ranks-length : (b n : ℕ) → length (ranks b n) ≡ n
+unfolding ranks
+ranks-length b zero = refl
+ranks-length b (suc n) = ap suc (ranks-length (b + 1) n)
+
+pub ranks-below : (b n m : ℕ) → b + n ≤ m → AllBelow m (ranks b n)
+unfolding ranks
+ranks-below b zero m h = tt
+ranks-below b (suc n) m h = (omega (arith, h), ranks-below (b + 1) n m (omega (arith, h)))
+
+pub ranks-add : (b n m : ℕ) → ranks b (n + m) ≡ ranks b n ++ ranks (b + n) m
+unfolding ranks
+ranks-add b zero m = let z : 0 + m ≡ m = omega arith in rw (z, add-zero)
+ranks-add b (suc n) m =
+    let z : suc n + m ≡ suc (n + m) = omega arith in
+    let y : b + 1 + n ≡ b + suc n = omega arith in
+    rw z (ap (λ (l : List ℕ). b ∷ l) (ranks-add (b + 1) n m ∙ ap (λ (x : ℕ). ranks (b + 1) n ++ ranks x m) y))
+
+ranks-one : (b : ℕ) → ranks b 1 ≡ b ∷ []
+unfolding ranks
+ranks-one b = refl
+
+-- the loop that writes them
+pub written-start : (bs : List ℕ) → take 0 bs ≡ ranks 0 0
+unfolding ranks
+written-start bs = refl
+
+pub written-on : (bs : List ℕ) (b : ℕ) → b < length bs → take b bs ≡ ranks 0 b → take (b + 1) (set bs b b) ≡ ranks 0 (b + 1)
+written-on bs b h i =
+    let z : 0 + b ≡ b = omega arith in
+    rw (add-one b) (take-suc-set bs b b h) ∙ (ap (λ (l : List ℕ). l ++ b ∷ []) i ∙ sym (ranks-add 0 b 1 ∙ ap (λ (l : List ℕ). ranks 0 b ++ l) (ranks-one (0 + b) ∙ ap (λ (x : ℕ). x ∷ []) z)))
+
+pub written-all : (bs : List ℕ) (b : ℕ) → length bs ≤ b → take b bs ≡ ranks 0 b → bs ≡ ranks 0 b
+written-all bs b h i = sym (take-all b bs h) ∙ i
+
+-- luma's ranks stand in front, chroma's behind them
+pub ranks-front : (luma count : ℕ) → luma ≤ count → take luma (ranks 0 count) ≡ ranks 0 luma
+ranks-front luma count h =
+    let z : luma + (count - luma) ≡ count = omega arith in
+    ap (λ (n : ℕ). take luma (ranks 0 n)) (sym z) ∙ (ap (take luma) (ranks-add 0 luma (count - luma)) ∙ take-at (ranks 0 luma) (ranks (0 + luma) (count - luma)) luma (ranks-length 0 luma))
+
+pub ranks-back : (luma count : ℕ) → luma ≤ count → drop luma (ranks 0 count) ≡ ranks luma (count - luma)
+ranks-back luma count h =
+    let z : luma + (count - luma) ≡ count = omega arith in
+    let y : 0 + luma ≡ luma = omega arith in
+    ap (λ (n : ℕ). drop luma (ranks 0 n)) (sym z)
+    ∙ (ap (drop luma) (ranks-add 0 luma (count - luma)) ∙ (drop-at (ranks 0 luma) (ranks (0 + luma) (count - luma)) luma (ranks-length 0 luma) ∙ ap (λ (x : ℕ). ranks x (count - luma)) y))
+
+-- ---- the two ways to say that every block of a list is one of n
+pub below-each : (n : ℕ) (bs : List ℕ) → AllBelow n bs → Below n bs
+below-each n bs h = record { each = λ j l. go bs h j l }
+  where
+    go : (bs : List ℕ) → AllBelow n bs → (j : ℕ) → j < length bs → getD bs j 0 < n
+    go [] h j l = absurd (omega (arith, l))
+    go (b ∷ bs) h zero l = h .0
+    go (b ∷ bs) h (suc j) l = go bs (h .1) j (omega (arith, l))
+
+pub all-below : (n : ℕ) (bs : List ℕ) → Below n bs → AllBelow n bs
+all-below n bs h = go bs (h .each)
+  where
+    go : (bs : List ℕ) → ((j : ℕ) → j < length bs → getD bs j 0 < n) → AllBelow n bs
+    go [] f = tt
+    go (b ∷ bs) f = (f 0 (omega arith), go bs (λ j l. f (suc j) (omega (arith, l))))
+
+-- the table that the code takes
+pub table-is : (nodes : List ℕ) (k choice g : ℕ) → g ≡ group k → table (treesOf nodes) k choice ≡ treeAt nodes (16 * g + choice)
+unfolding table
+table-is nodes k choice g h = ap (λ (x : ℕ). treeAt nodes (16 * x + choice)) (sym h)

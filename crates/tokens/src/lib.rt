@@ -1,0 +1,503 @@
+// Reads the tokens of a frame into the coefficients of its coded blocks, which are named by their rank in coded order.
+use bitstream::Field;
+use token::Token;
+ghost use mathlib.Core.Path.{_≡_};
+ghost use Prim.Native.Nat.{_+_, _-_, _*_, _<_, _≤_, _^_};
+ghost use mathlib.Core.List.{[], _∷_};
+ghost use lib.ListN.{length, getD, take, drop};
+ghost use Rattle.token.specs.Answer.{asToken};
+ghost use Rattle.huffman.specs.Code.{treeOf, Formed};
+ghost use Rattle.tokens.specs.Tokens.{token, stateOf, unfinished, runOf, readFor, visit, pass, group, choices, choicesOf, ranks, atPosition, positionsFrom, readTokens};
+ghost use Rattle.tokens.specs.Answer.{Visited, Shape, room, Below, unfinishedOf, KeptOne, KeptActive, asChosen, Tables, treeAt, treesOf, AllOpen, asCounted, Cleared, Stored, Untouched};
+
+// The place behind what was read, what is left of the end-of-block run, and how many tokens were read so far. Or the number of the refusal and its place.
+enum Visit {
+    Done(usize, usize, usize),
+    Refused(u32, usize),
+}
+
+// The table choices for luma and chroma and the place behind them, or the refusal.
+enum Chosen {
+    Tables(usize, usize, usize),
+    Refused(u32, usize),
+}
+
+// The place behind all tokens and how many there are, or the refusal.
+pub enum Counted {
+    Done(usize, usize),
+    Refused(u32, usize),
+}
+
+// A token at the place `at`, by the table of nodes.
+fn read_token(packet: &[u8], at: usize, nodes: &[u8]) -> Token
+    requires { ⌜ (length (now packet) ≤ 2 ^ 58) × Formed (now nodes) ⌝ }
+    ensures { λ r. ⌜ r ≡ asToken (token (treeOf (now (nodes .entry))) (now (packet .entry)) at) ⌝ }
+{
+    let code = huffman::read_code(packet, at, nodes);
+    let Field::Got(t, next) = code else {
+        return Token::Refused(4, at);
+    };
+    let whole = token::read_extra(packet, next, t as usize);
+    if let Token::Refused(number, _) = whole {
+        return Token::Refused(number, at);
+    }
+    whole
+}
+
+// 1 for an unfinished block, by its position.
+fn one_if_unfinished(p: u8) -> usize
+    ensures { λ r. ⌜ r ≡ unfinished (p ∷ []) ⌝ }
+{
+    if p < 64 {
+        return 1;
+    }
+    0
+}
+
+// How many blocks are unfinished.
+fn count_unfinished(positions: &[u8]) -> usize
+    ensures { λ r. ⌜ r ≡ unfinished (now (positions .entry)) ⌝ }
+{
+    let mut n = 0;
+    let mut b = 0;
+    while b < positions.len() {
+        n += one_if_unfinished(positions[b]);
+        b += 1;
+    }
+    n
+}
+
+// How many blocks an end-of-block run of n ends. A run of 0 comes at most once in a frame, so the blocks are counted at most once.
+fn run_of(positions: &[u8], n: u16) -> usize
+    ensures { λ r. ⌜ r ≡ runOf (now (positions .entry)) n ⌝ }
+{
+    if n == 0 {
+        return count_unfinished(positions);
+    }
+    n as usize
+}
+
+// A token for the block b, which stands at the position k.
+fn read_for(
+    packet: &[u8],
+    at: usize,
+    nodes: &[u8],
+    k: usize,
+    b: usize,
+    run: usize,
+    tokens: usize,
+    positions: &mut [u8],
+    lasts: &mut [u8],
+    coefs: &mut [i16],
+) -> Visit
+    requires { ⌜ (length (now packet) ≤ 2 ^ 58) × Formed (now nodes) ⌝ }
+    requires { ⌜ Shape (now positions) (now lasts) (now coefs) × (k < 64) × (b < length (now positions)) × (getD (now positions) b 0 ≡ k) × (tokens < 2 ^ 60) ⌝ }
+    ensures { λ r. ⌜ Visited r (now (positions .exit)) (now (lasts .exit)) (now (coefs .exit)) (readFor (treeOf (now (nodes .entry))) k b (stateOf (now (positions .entry)) (now (lasts .entry)) (now (coefs .entry)) run tokens) (now (packet .entry)) at) ⌝ }
+{
+    let token = read_token(packet, at, nodes);
+    match token {
+        Token::Refused(number, place) => Visit::Refused(number, place),
+        Token::EndOfBlock(n, next) => {
+            let left = run_of(positions, n) - 1;
+            positions[b] = 64;
+            lasts[b] = k as u8;
+            Visit::Done(next, left, tokens + 1)
+        }
+        Token::ZeroRun(n, next) => {
+            let to = k + n as usize;
+            if 64 < to {
+                return Visit::Refused(13, at);
+            }
+            positions[b] = to as u8;
+            lasts[b] = k as u8;
+            Visit::Done(next, run, tokens + 1)
+        }
+        Token::Coefficient(n, v, next) => {
+            let to = k + n as usize;
+            if 64 < to + 1 {
+                return Visit::Refused(13, at);
+            }
+            coefs[64 * b + to] = v;
+            positions[b] = (to + 1) as u8;
+            lasts[b] = k as u8;
+            Visit::Done(next, run, tokens + 1)
+        }
+    }
+}
+
+// The block b at the position k.
+fn visit_block(
+    packet: &[u8],
+    at: usize,
+    nodes: &[u8],
+    k: usize,
+    b: usize,
+    run: usize,
+    tokens: usize,
+    positions: &mut [u8],
+    lasts: &mut [u8],
+    coefs: &mut [i16],
+) -> Visit
+    requires { ⌜ (length (now packet) ≤ 2 ^ 58) × Formed (now nodes) ⌝ }
+    requires { ⌜ Shape (now positions) (now lasts) (now coefs) × (k < 64) × (b < length (now positions)) × (tokens < 2 ^ 60) ⌝ }
+    ensures { λ r. ⌜ Visited r (now (positions .exit)) (now (lasts .exit)) (now (coefs .exit)) (visit (treeOf (now (nodes .entry))) k b (stateOf (now (positions .entry)) (now (lasts .entry)) (now (coefs .entry)) run tokens) (now (packet .entry)) at) ⌝ }
+{
+    let p = positions[b];
+    if p != k as u8 {
+        return Visit::Done(at, run, tokens);
+    }
+    if 0 < run {
+        let left = run - 1;
+        positions[b] = 64;
+        lasts[b] = p;
+        return Visit::Done(at, left, tokens);
+    }
+    read_for(
+        packet,
+        at,
+        nodes,
+        k,
+        b,
+        run,
+        tokens,
+        positions,
+        lasts,
+        coefs,
+    )
+}
+
+// The blocks of a list in turn, at the position k.
+fn pass_blocks(
+    packet: &[u8],
+    at: usize,
+    nodes: &[u8],
+    k: usize,
+    blocks: &[u64],
+    run: usize,
+    tokens: usize,
+    positions: &mut [u8],
+    lasts: &mut [u8],
+    coefs: &mut [i16],
+) -> Visit
+    requires { ⌜ (length (now packet) ≤ 2 ^ 58) × Formed (now nodes) ⌝ }
+    requires { ⌜ Shape (now positions) (now lasts) (now coefs) × (k < 64) × Below (length (now positions)) (now blocks) × (tokens + room (now positions) < 2 ^ 60) ⌝ }
+    ensures { λ r. ⌜ Visited r (now (positions .exit)) (now (lasts .exit)) (now (coefs .exit)) (pass (treeOf (now (nodes .entry))) k (now (blocks .entry)) (stateOf (now (positions .entry)) (now (lasts .entry)) (now (coefs .entry)) run tokens) (now (packet .entry)) at) ⌝ }
+{
+    let mut j = 0;
+    let mut place = at;
+    let mut left = run;
+    let mut count = tokens;
+    while j < blocks.len() {
+        let b = blocks[j] as usize;
+        let one = visit_block(
+            packet,
+            place,
+            nodes,
+            k,
+            b,
+            left,
+            count,
+            positions,
+            lasts,
+            coefs,
+        );
+        let Visit::Done(next, r, t) = one else {
+            return one;
+        };
+        place = next;
+        left = r;
+        count = t;
+        j += 1;
+    }
+    Visit::Done(place, left, count)
+}
+
+// Moves the block at the index j to the index `kept` of the list if it is unfinished; the index behind what is kept.
+fn keep_one(positions: &[u8], blocks: &mut [u64], j: usize, kept: usize) -> usize
+    requires { ⌜ (j < length (now blocks)) × (kept ≤ j) × (getD (now blocks) j 0 < length (now positions)) ⌝ }
+    ensures { λ r. ⌜ KeptOne (now (positions .entry)) (now (blocks .entry)) j kept (now (blocks .exit)) r ⌝ }
+{
+    let b = blocks[j];
+    let p = positions[b as usize];
+    if 64 <= p {
+        return kept;
+    }
+    blocks[kept] = b;
+    kept + 1
+}
+
+// Moves the unfinished blocks of a list to its front, and answers how many they are.
+fn keep_unfinished(positions: &[u8], blocks: &mut [u64]) -> usize
+    requires { ⌜ Below (length (now positions)) (now blocks) ⌝ }
+    ensures { λ r. ⌜ (take r (now (blocks .exit)) ≡ unfinishedOf (now (positions .entry)) (now (blocks .entry))) × (r ≤ length (now (blocks .entry))) ⌝ }
+{
+    let mut kept = 0;
+    let mut j = 0;
+    while j < blocks.len() {
+        kept = keep_one(positions, blocks, j, kept);
+        j += 1;
+    }
+    kept
+}
+
+// The blocks of both lists stay as they are, but for the finished ones: how many luma blocks are left, and where the chroma blocks now end.
+struct Active(usize, usize);
+
+// Leaves the finished blocks out of two lists in one slice: luma's, the first `lumas`, and chroma's, from `luma` to `end`.
+fn keep_active(
+    positions: &[u8],
+    active: &mut [u64],
+    luma: usize,
+    lumas: usize,
+    end: usize,
+) -> Active
+    requires { ⌜ (lumas ≤ luma) × (luma ≤ end) × (end ≤ length (now active)) ⌝ }
+    requires { ⌜ Below (length (now positions)) (take lumas (now active)) × Below (length (now positions)) (take (end - luma) (drop luma (now active))) ⌝ }
+    ensures { λ r. ⌜ KeptActive (now (positions .entry)) (now (active .entry)) luma lumas end (now (active .exit)) (r .0) (r .1) ⌝ }
+{
+    let left = keep_unfinished(positions, &mut active[..lumas]);
+    let right = keep_unfinished(positions, &mut active[luma..end]);
+    Active(left, luma + right)
+}
+
+// Writes the ranks of all blocks.
+fn write_ranks(blocks: &mut [u64])
+    ensures { λ _. ⌜ now (blocks .exit) ≡ ranks 0 (length (now (blocks .entry))) ⌝ }
+{
+    let mut b = 0;
+    while b < blocks.len() {
+        blocks[b] = b as u64;
+        b += 1;
+    }
+}
+
+// The group of the position k.
+fn group_of(k: usize) -> usize
+    ensures { λ r. ⌜ (r ≡ group k) × (r ≤ 4) ⌝ }
+{
+    if k < 1 {
+        return 0;
+    }
+    if k < 6 {
+        return 1;
+    }
+    if k < 15 {
+        return 2;
+    }
+    if k < 28 {
+        return 3;
+    }
+    4
+}
+
+// The table choices at the position k: new ones at 0 and 1, and else the present ones.
+fn read_choices(packet: &[u8], at: usize, k: usize, luma: usize, chroma: usize) -> Chosen
+    requires { ⌜ length (now packet) ≤ 2 ^ 58 ⌝ }
+    ensures { λ r. ⌜ r ≡ asChosen (choices k (choicesOf luma chroma) (now (packet .entry)) at) ⌝ }
+{
+    if 2 <= k {
+        return Chosen::Tables(luma, chroma, at);
+    }
+    let first = bitstream::read(packet, at, 4);
+    match first {
+        Field::Refused(number, place) => Chosen::Refused(number, place),
+        Field::Got(a, next) => {
+            let second = bitstream::read(packet, next, 4);
+            match second {
+                Field::Refused(number, place) => Chosen::Refused(number, place),
+                Field::Got(b, end) => Chosen::Tables(a as usize, b as usize, end),
+            }
+        }
+    }
+}
+
+// The blocks of a list in turn, at the position k, by the table j.
+fn pass_table(
+    packet: &[u8],
+    at: usize,
+    nodes: &[u8],
+    j: usize,
+    k: usize,
+    blocks: &[u64],
+    run: usize,
+    tokens: usize,
+    positions: &mut [u8],
+    lasts: &mut [u8],
+    coefs: &mut [i16],
+) -> Visit
+    requires { ⌜ (length (now packet) ≤ 2 ^ 58) × Tables (now nodes) × (j < 80) ⌝ }
+    requires { ⌜ Shape (now positions) (now lasts) (now coefs) × (k < 64) × Below (length (now positions)) (now blocks) × (tokens + room (now positions) < 2 ^ 60) ⌝ }
+    ensures { λ r. ⌜ Visited r (now (positions .exit)) (now (lasts .exit)) (now (coefs .exit)) (pass (treeAt (now (nodes .entry)) j) k (now (blocks .entry)) (stateOf (now (positions .entry)) (now (lasts .entry)) (now (coefs .entry)) run tokens) (now (packet .entry)) at) ⌝ }
+{
+    let from = 64 * j;
+    let to = from + 64;
+    pass_blocks(
+        packet,
+        at,
+        &nodes[from..to],
+        k,
+        blocks,
+        run,
+        tokens,
+        positions,
+        lasts,
+        coefs,
+    )
+}
+
+// The position k: the luma blocks, which are the first `lumas` of the slice, and then the chroma blocks, from `luma` to `end`, each by the table that was chosen.
+fn read_position(
+    packet: &[u8],
+    at: usize,
+    nodes: &[u8],
+    k: usize,
+    y: usize,
+    c: usize,
+    active: &[u64],
+    luma: usize,
+    lumas: usize,
+    end: usize,
+    run: usize,
+    tokens: usize,
+    positions: &mut [u8],
+    lasts: &mut [u8],
+    coefs: &mut [i16],
+) -> Visit
+    requires { ⌜ (length (now packet) ≤ 2 ^ 58) × Tables (now nodes) × (y < 16) × (c < 16) × (k < 64) ⌝ }
+    requires { ⌜ (lumas ≤ luma) × (luma ≤ end) × (end ≤ length (now active)) × Below (length (now positions)) (take lumas (now active)) × Below (length (now positions)) (take (end - luma) (drop luma (now active))) ⌝ }
+    requires { ⌜ Shape (now positions) (now lasts) (now coefs) × (tokens + room (now positions) < 2 ^ 60) ⌝ }
+    ensures { λ r. ⌜ Visited r (now (positions .exit)) (now (lasts .exit)) (now (coefs .exit)) (atPosition (treesOf (now (nodes .entry))) (take lumas (now (active .entry))) (take (end - luma) (drop luma (now (active .entry)))) k (choicesOf y c) (stateOf (now (positions .entry)) (now (lasts .entry)) (now (coefs .entry)) run tokens) (now (packet .entry)) at) ⌝ }
+{
+    let g = 16 * group_of(k);
+    let one = pass_table(
+        packet,
+        at,
+        nodes,
+        g + y,
+        k,
+        &active[..lumas],
+        run,
+        tokens,
+        positions,
+        lasts,
+        coefs,
+    );
+    let Visit::Done(next, r, t) = one else {
+        return one;
+    };
+    pass_table(
+        packet,
+        next,
+        nodes,
+        g + c,
+        k,
+        &active[luma..end],
+        r,
+        t,
+        positions,
+        lasts,
+        coefs,
+    )
+}
+
+// All positions in turn. `active` holds the ranks of all blocks, luma's first; at each position only the unfinished ones are looked at.
+fn read_positions(
+    packet: &[u8],
+    at: usize,
+    nodes: &[u8],
+    luma: usize,
+    positions: &mut [u8],
+    lasts: &mut [u8],
+    coefs: &mut [i16],
+    active: &mut [u64],
+) -> Visit
+    requires { ⌜ (length (now packet) ≤ 2 ^ 58) × Tables (now nodes) × (luma ≤ length (now positions)) ⌝ }
+    requires { ⌜ Shape (now positions) (now lasts) (now coefs) × AllOpen (now positions) × (now active ≡ ranks 0 (length (now positions))) ⌝ }
+    ensures { λ r. ⌜ Visited r (now (positions .exit)) (now (lasts .exit)) (now (coefs .exit)) (positionsFrom (treesOf (now (nodes .entry))) (ranks 0 luma) (ranks luma (length (now (positions .entry)) - luma)) 64 0 (choicesOf 0 0) (stateOf (now (positions .entry)) (now (lasts .entry)) (now (coefs .entry)) 0 0) (now (packet .entry)) at) ⌝ }
+{
+    let mut k = 0;
+    let mut place = at;
+    let mut y = 0;
+    let mut c = 0;
+    let mut left = 0;
+    let mut count = 0;
+    let mut lumas = luma;
+    let mut end = active.len();
+    while k < 64 {
+        let choice = read_choices(packet, place, k, y, c);
+        match choice {
+            Chosen::Refused(number, e) => {
+                return Visit::Refused(number, e);
+            }
+            Chosen::Tables(a, b, next) => {
+                let one = read_position(
+                    packet,
+                    next,
+                    nodes,
+                    k,
+                    a,
+                    b,
+                    active,
+                    luma,
+                    lumas,
+                    end,
+                    left,
+                    count,
+                    positions,
+                    lasts,
+                    coefs,
+                );
+                let Visit::Done(after, r, t) = one else {
+                    return one;
+                };
+                let unfinished = keep_active(positions, active, luma, lumas, end);
+                lumas = unfinished.0;
+                end = unfinished.1;
+                y = a;
+                c = b;
+                place = after;
+                left = r;
+                count = t;
+                k += 1;
+            }
+        }
+    }
+    Visit::Done(place, left, count)
+}
+
+// All tokens of a frame with `count` coded blocks, of which the first `luma` are luma's. What they give goes to the front of the slices, one element
+// of `lasts` and 64 of `coefs` for each block; `positions` and `active` are scratch. Nothing behind the elements of the coded blocks is touched.
+pub fn read_tokens(
+    packet: &[u8],
+    at: usize,
+    nodes: &[u8],
+    luma: usize,
+    count: usize,
+    positions: &mut [u8],
+    lasts: &mut [u8],
+    coefs: &mut [i16],
+    active: &mut [u64],
+) -> Counted
+    requires { ⌜ (length (now packet) ≤ 2 ^ 58) × Tables (now nodes) × (luma ≤ count) ⌝ }
+    requires { ⌜ Cleared count (now positions) (now lasts) (now coefs) (now active) ⌝ }
+    ensures { λ r. ⌜ r ≡ asCounted (readTokens (treesOf (now (nodes .entry))) luma count (now (packet .entry)) at) ⌝ }
+    ensures { λ r. ⌜ Stored count (now (lasts .exit)) (now (coefs .exit)) (readTokens (treesOf (now (nodes .entry))) luma count (now (packet .entry)) at) ⌝ }
+    ensures { λ r. ⌜ Untouched count (now (positions .entry)) (now (lasts .entry)) (now (coefs .entry)) (now (active .entry)) (now (positions .exit)) (now (lasts .exit)) (now (coefs .exit)) (now (active .exit)) ⌝ }
+{
+    let size = 64 * count;
+    write_ranks(&mut active[..count]);
+    let visit = read_positions(
+        packet,
+        at,
+        nodes,
+        luma,
+        &mut positions[..count],
+        &mut lasts[..count],
+        &mut coefs[..size],
+        &mut active[..count],
+    );
+    match visit {
+        Visit::Refused(number, place) => Counted::Refused(number, place),
+        Visit::Done(next, _, tokens) => Counted::Done(next, tokens),
+    }
+}
