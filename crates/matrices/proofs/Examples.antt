@@ -1,7 +1,6 @@
 -- Worked examples.
-use Prim.Native.Nat.{ℕ}
 use mathlib.Core.Path.{_≡_, refl}
-use mathlib.Core.List.{List, [], _∷_}
+use mathlib.Core.List.{[], _∷_}
 use Rattle.matrices.specs.Matrix.{rangeFrom, rangeOf, interpolated, minimum, scaled}
 
 -- "intra DC, scale 10, BM 16: 16"

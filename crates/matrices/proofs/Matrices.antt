@@ -1,8 +1,7 @@
 -- The matrix, from the slices that hold the parameters. Assumes nothing.
-use Prim.Native.Nat.{ℕ, _+_, _-_, _*_, _^_, _≤_, _<_}
+use Prim.Native.Nat.{ℕ, _+_, _-_, _*_, _≤_, _<_}
 use native.Mathlib.Omega.{arith}
-use native.Mathlib.Nat.{mul-le-mul-right}
-use mathlib.Core.Path.{_≡_, refl, sym, ap, ap₂, _∙_}
+use mathlib.Core.Path.{_≡_, sym, ap, ap₂, _∙_}
 use mathlib.Core.List.{List, [], append-nil}
 use lib.ListN.{length, getD, take, drop}
 use Rattle.bitstream.specs.Bits.{bits, number}
@@ -10,7 +9,7 @@ use Rattle.bitstream.specs.Lists.{tabulated}
 use Rattle.bitstream.proofs.Lists.{tabulated-same}
 use Rattle.quantization.specs.Parameters.{Ranges, Quantization, none}
 use Rattle.quantization.specs.Layout.{padded, laid}
-use Rattle.quantization.specs.Sound.{total, Sound, Whole, Holds}
+use Rattle.quantization.specs.Sound.{total, Sound, Holds}
 use Rattle.quantization.proofs.Layouts.{laid-length, laid-part, laid-at}
 use Rattle.matrices.specs.Matrix.{rangeOf, InRange, valueAt, setOf, baseAt, entryAt, matrixOf}
 use Rattle.matrices.specs.declared.Range.{Range}

@@ -1,13 +1,9 @@
 -- What the functions on single values compute. Assumes nothing.
-use Prim.Native.Nat.{ℕ, _+_, _-_, _*_, _/_, _^_, _≤_, _<_, min, max}
+use Prim.Native.Nat.{ℕ, _+_, _-_, _*_, _/_, _≤_, _<_}
 use native.Mathlib.Omega.{arith}
 use native.Mathlib.Nat.{mul-le-mul, div-le-self}
-use mathlib.Core.Path.{_≡_, refl, sym, ap, _∙_}
-use mathlib.Core.List.{List}
-use lib.Dec.{eqb}
+use mathlib.Core.Path.{_≡_}
 use borrow.Author.Tests.{eq-eqb, ne-eqb}
-use Rattle.bitstream.specs.Bits.{bits, number}
-use Rattle.bitstream.specs.Reading.{Outcome, got, refused, choose, field}
 use Rattle.matrices.specs.Matrix.{InRange, interpolated, minimum, scaled, valueAt}
 use Rattle.matrices.specs.declared.Range.{Range}
 

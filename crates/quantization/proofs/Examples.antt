@@ -1,9 +1,8 @@
 -- Worked examples.
-use Prim.Native.Nat.{ℕ}
 use mathlib.Core.Path.{_≡_, refl}
-use mathlib.Core.List.{List, [], _∷_}
+use mathlib.Core.List.{[], _∷_}
 use Rattle.bitstream.specs.Bits.{bitAt, number}
-use Rattle.bitstream.specs.Reading.{Outcome, got, refused, field, judged, until}
+use Rattle.bitstream.specs.Reading.{got, refused, field, judged, until}
 use Rattle.quantization.specs.Parameters.{Ranges, digits, ilog, index, rangeSize, range, newSet, origin, setFrom, moreSets, matrixCount}
 
 -- "NBMS 384 passes, 385 is 7": the judging step, on the field's 9 bits

@@ -1,5 +1,5 @@
 -- The quantization parameters have the three laws of the reading algebra. Assumes nothing.
-use Prim.Native.Nat.{ℕ, zero, suc, _+_, _-_, _*_, _≤_, _<_}
+use Prim.Native.Nat.{ℕ, zero, suc, _+_, _-_, _*_, _≤_}
 use native.Mathlib.Omega.{arith}
 use mathlib.Core.Path.{_≡_, refl, _∙_}
 use mathlib.Core.Bool.{Bool, true, false}
@@ -7,10 +7,10 @@ use borrow.Author.Tests.{eqb-true}
 use mathlib.Core.List.{List, [], _∷_, _++_}
 use lib.Dec.{eqb, ltb, leb}
 use lib.ListN.{length, getD}
-use Rattle.bitstream.specs.Reading.{Outcome, got, refused, Parse, after, pure, bind, pick, choose, field, judged, many}
+use Rattle.bitstream.specs.Reading.{Outcome, got, refused, Parse, after, pure, bind, pick, choose, many}
 use Rattle.bitstream.proofs.Laws.{Lawful, lawful, pure-lawful, bind-lawful, until-lawful}
 use Rattle.bitstream.proofs.Spends.{Spends, spends-more, pure-spends, here-then, field-then, field-spends, judged-spends, bind-spends, bind-spends-got, bind-spends-by, pick-spends, many-spends, until-spends}
-use Rattle.quantization.specs.Parameters.{Ranges, Quantization, Begun, withRange, ilog, scales, matrixCount, baseMatrix, index, rangeSize, range, newSet, origin, none, setFrom, moreSets, quantization}
+use Rattle.quantization.specs.Parameters.{Ranges, Begun, withRange, ilog, scales, matrixCount, baseMatrix, index, rangeSize, range, newSet, origin, none, setFrom, moreSets, quantization}
 use Rattle.quantization.proofs.Steps.{ilog-le, count-range}
 use Rattle.quantization.proofs.Sets.{Origin, origin-is}
 

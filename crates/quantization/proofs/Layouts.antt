@@ -1,11 +1,11 @@
 -- How lists lie in slices. Assumes nothing.
-use Prim.Native.Nat.{ℕ, zero, suc, _+_, _-_, _*_, _≤_, _<_, min}
+use Prim.Native.Nat.{ℕ, zero, suc, _+_, _-_, _*_, _≤_, _<_}
 use native.Mathlib.Omega.{arith}
 use native.Mathlib.Nat.{sub-zero, zero-sub}
 use mathlib.Core.Path.{_≡_, refl, sym, ap, _∙_}
 use mathlib.Core.List.{List, [], _∷_, _++_, append-nil, append-assoc}
 use native.Mathlib.Numerals.{add-one}
-use lib.ListN.{length, getD, take, drop, set, replicate, List·getD-append, length-append, length-take, length-drop, length-replicate, getD-replicate, take-append-drop, replicate-append-replicate}
+use lib.ListN.{length, getD, take, drop, set, replicate, List·getD-append, length-append, length-drop, length-replicate, take-append-drop}
 use lib.Seq.{ext-getD, getD-take, getD-drop, take-at, drop-at, drop-drop, length-take-le, paste, paste-suc}
 use borrow.Rule.Slice.PartMut.{midOf, putMid}
 use Rattle.quantization.specs.Layout.{over, padded, laid}

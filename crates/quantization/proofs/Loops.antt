@@ -6,7 +6,7 @@ use native.Mathlib.Numerals.{add-one}
 use mathlib.Core.Path.{_≡_, refl, sym, ap, _∙_}
 use mathlib.Core.List.{List, [], _∷_, _++_}
 use lib.ListN.{length, take, set}
-use lib.Seq.{take-suc-set, take-all}
+use lib.Seq.{take-suc-set}
 use Rattle.bitstream.specs.Reading.{Outcome, got, refused, Parse, pure, bind, times, many}
 use Rattle.bitstream.proofs.Laws.{times-is-many}
 use Rattle.quantization.specs.Answer.{asPlace, Filled}

@@ -10,11 +10,11 @@ use lib.ListN.{length, getD, take, drop, set, replicate, length-append, length-s
 use lib.Seq.{take-suc-set, drop-set-lt, drop-drop, length-take-le, paste}
 use borrow.Author.Tests.{ltb-false, eqb-false, lt-ltb, le-ltb, le-leb, lt-leb, eq-eqb, ne-eqb}
 use borrow.Rule.Slice.PartMut.{midOf, putMid}
-use Rattle.bitstream.specs.Reading.{Outcome, got, refused, Parse, after, pure, bind, pick, choose, field, until}
+use Rattle.bitstream.specs.Reading.{Outcome, got, refused, after, pure, bind, pick, choose, field, until}
 use Rattle.bitstream.proofs.Fields.{no-mix, field-value}
 use Rattle.bitstream.proofs.Laws.{bind-got}
 use Rattle.quantization.specs.Parameters.{Ranges, Begun, withRange, index, rangeSize, range, newSet, origin, none, setFrom, moreSets}
-use Rattle.quantization.specs.Layout.{over, padded, laid}
+use Rattle.quantization.specs.Layout.{over, laid}
 use Rattle.quantization.specs.Answer.{asPlace, SetFilled, Held, HeldMore, SetAnswer, SetsHeld}
 use Rattle.quantization.specs.declared.Place.{Place}
 use Rattle.quantization.specs.declared.Place.the-variants.{At, Refused}

@@ -7,16 +7,16 @@ use mathlib.Core.Bool.{Bool, true, false}
 use lib.Dec.{eqb, leb, ltb}
 use lib.ListN.{length, getD, length-append, List·getD-append}
 use lib.Seq.{getD-at}
-use borrow.Author.Tests.{leb-true, eqb-true, eqb-false, ltb-true, ltb-false}
-use Rattle.bitstream.specs.Bits.{bits, number}
-use Rattle.bitstream.specs.Reading.{Outcome, got, refused, Parse, after, pure, bind, here, pick, field, many, until}
+use borrow.Author.Tests.{leb-true, eqb-false, ltb-true, ltb-false}
+use Rattle.bitstream.specs.Bits.{bits}
+use Rattle.bitstream.specs.Reading.{got, refused, Parse, pure, bind, here, pick, field, many, until}
 use Rattle.bitstream.proofs.Fields.{no-mix}
 use Rattle.bitstream.proofs.Laws.{bind-got}
 use Rattle.quantization.specs.Parameters.{Ranges, Quantization, Begun, withRange, scales, matrixCount, baseMatrix, index, rangeSize, range, newSet, origin, none, setFrom, moreSets, quantization}
 use Rattle.quantization.specs.Answer.{Stored}
 use Rattle.quantization.specs.Sound.{total, Sound, Whole, Holds}
-use Rattle.quantization.proofs.Steps.{Numbers, Matrices, matrices-are, index-lt, size-le}
-use Rattle.quantization.proofs.Sets.{Origin, origin-is, one-le}
+use Rattle.quantization.proofs.Steps.{Matrices, matrices-are, index-lt, size-le}
+use Rattle.quantization.proofs.Sets.{origin-is, one-le}
 use Rattle.quantization.proofs.Whole.{count-ends}
 
 -- ---- lists

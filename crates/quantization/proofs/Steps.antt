@@ -2,27 +2,21 @@
 use Prim.Native.Nat.{ℕ, zero, suc, _+_, _-_, _*_, _/_, _^_, _≤_, _<_}
 use native.Mathlib.Omega.{arith}
 use native.Mathlib.Nat.{pow-suc}
-use native.Mathlib.Numerals.{add-one}
 use mathlib.Core.Path.{_≡_, refl, sym, ap, _∙_}
-use mathlib.Core.List.{List, [], _∷_, _++_}
+use mathlib.Core.List.{List, [], _∷_}
 use mathlib.Core.Bool.{Bool, true, false}
 use lib.Dec.{eqb, ltb, leb}
-use lib.ListN.{length, getD, take, drop, set, replicate, length-append, length-set}
-use lib.Seq.{take-suc-set, drop-set-lt, drop-drop, drop-cons}
-use borrow.Author.Tests.{ltb-true, ltb-false, leb-true, leb-false, lt-ltb, le-ltb, le-leb, lt-leb, eq-eqb, ne-eqb}
+use lib.ListN.{length, getD}
+use borrow.Author.Tests.{ltb-true, ltb-false, leb-true, leb-false, lt-ltb, le-ltb, le-leb, lt-leb, ne-eqb}
 use Rattle.bitstream.specs.Bits.{bits, number}
-use Rattle.bitstream.specs.Reading.{Outcome, got, refused, Parse, after, pure, bind, guard, pick, choose, field, judged, many, until}
+use Rattle.bitstream.specs.Reading.{got, refused, pure, bind, guard, choose, field, judged, many}
 use Rattle.bitstream.proofs.Fields.{no-mix, field-got, field-end, judged-end, judged-fails, judged-passes}
 use Rattle.bitstream.proofs.Laws.{bind-got}
-use Rattle.quantization.specs.Parameters.{Ranges, Quantization, Begun, withRange, digits, ilog, scales, matrixCount, baseMatrix, index, rangeSize, range, newSet, origin, none, setFrom, moreSets, quantization}
-use Rattle.quantization.specs.Layout.{over, padded, laid}
-use Rattle.quantization.specs.Answer.{asPlace, Filled, SetFilled, Held, HeldMore, SetAnswer, SetsHeld, Stored, asParameters, Loaded}
+use Rattle.quantization.specs.Parameters.{digits, ilog, scales, matrixCount, baseMatrix, index, rangeSize}
+use Rattle.quantization.specs.Answer.{asPlace, Filled}
 use Rattle.quantization.specs.declared.Place.{Place}
-use Rattle.quantization.specs.declared.Place.the-variants.{At, Refused}
-use Rattle.quantization.specs.declared.Parameters.{Parameters}
-use Rattle.quantization.specs.declared.Parameters.the-variants.{Read, Refused as NotRead}
-use Rattle.quantization.proofs.Loops.{place-at, place-refused, many-first, many-later, many-cons}
-use Rattle.quantization.proofs.Layouts.{over-zeros, over-parts}
+use Rattle.quantization.specs.declared.Place.the-variants.{At}
+use Rattle.quantization.proofs.Loops.{many-first, many-later, many-cons}
 
 -- ---- the number of binary digits
 pub Digits : ℕ → ℕ → ℕ → Type 0

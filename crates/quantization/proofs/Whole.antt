@@ -1,7 +1,7 @@
 -- How the quantization parameters go as a whole, by what their parts are. Assumes nothing.
 use Prim.Native.Nat.{ℕ, _+_, _≤_}
 use native.Mathlib.Omega.{arith}
-use mathlib.Core.Path.{_≡_, refl, sym, ap, _∙_}
+use mathlib.Core.Path.{_≡_, refl, sym}
 use mathlib.Core.List.{List, []}
 use mathlib.Core.Bool.{Bool, true, false}
 use lib.Dec.{leb}
@@ -11,8 +11,7 @@ use Rattle.bitstream.proofs.Fields.{no-mix, field-value}
 use Rattle.bitstream.proofs.Laws.{bind-got}
 use Rattle.quantization.specs.Parameters.{Ranges, Quantization, scales, matrixCount, baseMatrix, moreSets, quantization}
 use Rattle.quantization.specs.Layout.{laid}
-use Rattle.quantization.specs.Answer.{asPlace, SetsHeld, Stored, asParameters, Loaded}
-use Rattle.quantization.specs.declared.Parameters.{Parameters}
+use Rattle.quantization.specs.Answer.{SetsHeld, asParameters, Loaded}
 use Rattle.quantization.specs.declared.Parameters.the-variants.{Read, Refused}
 
 -- the count ends within the packet

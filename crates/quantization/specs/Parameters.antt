@@ -33,7 +33,7 @@ scales = do
   w ← field 4
   many 64 (field (w + 1))
 
--- NBMS less one. "NBMS above 384" is 7 at its field
+-- NBMS, one more than its field says. "NBMS above 384" is 7 at the field
 unfoldable pub matrixCount : Parse ℕ
 matrixCount = do
   v ← judged 9 (λ v. leb (v + 1) 384) 7

@@ -1,5 +1,5 @@
 -- What the calls answer and leave. Assumes nothing.
-use Prim.Native.Nat.{ℕ, _*_, _≤_, _^_}
+use Prim.Native.Nat.{ℕ, _≤_}
 use native.Mathlib.Omega.{arith}
 use mathlib.Core.Path.{_≡_, refl, sym, ap, _∙_}
 use mathlib.Core.List.{List}
@@ -17,9 +17,7 @@ use Rattle.setup.specs.Answer.{asTables, Loaded}
 use Rattle.setup.specs.Table.{tableBytes, setupOutcome, asSetupAnswer, tableAfter, isTable, Exactly, heldSetup, asTable}
 use Rattle.setup.specs.declared.Tables.{Tables}
 use Rattle.setup.specs.declared.Tables.the-variants as tables
-use Rattle.setup.specs.declared.SetupAnswer.{SetupAnswer}
 use Rattle.setup.specs.declared.SetupAnswer.the-variants.{Accepted, Refused}
-use Rattle.setup.specs.declared.TableAnswer.{TableAnswer}
 use Rattle.setup.specs.declared.TableAnswer.the-variants.{Genuine, NotGenuine}
 use Rattle.setup.proofs.Laws.{setup-lawful, setup-spends, exactly-so}
 

@@ -1,14 +1,14 @@
 -- The setup header has the three laws of the reading algebra; so table memory is exact. Assumes nothing.
-use Prim.Native.Nat.{ℕ, _*_, _≤_, _<_}
+use Prim.Native.Nat.{ℕ, _*_}
 use native.Mathlib.Omega.{arith}
-use mathlib.Core.Path.{_≡_, refl, sym, ap, _∙_}
-use mathlib.Core.List.{List, [], _∷_}
+use mathlib.Core.Path.{_≡_, refl, sym, _∙_}
+use mathlib.Core.List.{List, _∷_}
 use mathlib.Core.Bool.{Bool, true, false}
 use lib.Dec.{eqb}
 use lib.ListN.{length, replicate}
 use borrow.Author.Tests.{eqb-true, eq-eqb}
-use Rattle.bitstream.specs.Bits.{bits, number}
-use Rattle.bitstream.specs.Reading.{Outcome, got, refused, pure, bind, guard, field, judged, many}
+use Rattle.bitstream.specs.Bits.{number}
+use Rattle.bitstream.specs.Reading.{got, pure, bind, guard, field, judged, many}
 use Rattle.bitstream.proofs.Fields.{no-mix, field-value}
 use Rattle.bitstream.proofs.Laws.{Lawful, lawful, bind-got}
 use Rattle.bitstream.proofs.Spends.{Spends, spends-more, pure-spends, field-then, field-spends, bind-spends, many-spends}

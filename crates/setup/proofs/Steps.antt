@@ -1,9 +1,9 @@
 -- How the setup header goes, by what its parts are. Assumes nothing.
-use Prim.Native.Nat.{ℕ, suc, _+_, _-_, _*_, _≤_, _<_}
+use Prim.Native.Nat.{ℕ, _+_, _-_, _*_, _≤_, _<_}
 use native.Mathlib.Omega.{arith}
 use mathlib.Core.Path.{_≡_, refl, sym, ap, _∙_}
 use mathlib.Core.List.{List, [], _∷_, _++_, append-nil}
-use lib.ListN.{length, getD, take, drop, replicate, length-append, length-replicate}
+use lib.ListN.{length, replicate, length-append, length-replicate}
 use lib.Seq.{take-at}
 use borrow.Rule.Slice.PartMut.{midOf, putMid}
 use Rattle.bitstream.specs.Reading.{Outcome, got, refused, field, many, times}
@@ -28,10 +28,9 @@ use Rattle.quantization.specs.declared.Place.the-variants.{At, Refused}
 use Rattle.quantization.specs.declared.Parameters.{Parameters}
 use Rattle.quantization.specs.declared.Parameters.the-variants as parameters-are
 use Rattle.quantization.proofs.Loops.{times-start, times-got, times-refused, times-all}
-use Rattle.quantization.proofs.Layouts.{laid-length, laid-more, put-more}
+use Rattle.quantization.proofs.Layouts.{laid-length, put-more}
 use Rattle.setup.specs.Header.{Setup, loopLimits, setupHeader}
 use Rattle.setup.specs.Answer.{TreesFilled, asTables, Stored, Loaded}
-use Rattle.setup.specs.declared.Tables.{Tables}
 use Rattle.setup.specs.declared.Tables.the-variants as tables
 
 -- ---- the loop limits

@@ -1,13 +1,12 @@
 -- A memory is what an accepted packet leaves if and only if it passes the test. Assumes nothing.
-use Prim.Native.Nat.{ℕ, _+_, _*_, _≤_, _<_}
+use Prim.Native.Nat.{ℕ, _*_}
 use native.Mathlib.Omega.{arith}
-use mathlib.Core.Path.{_≡_, refl, sym, ap, _∙_}
+use mathlib.Core.Path.{_≡_, refl}
 use mathlib.Core.List.{List}
 use mathlib.Core.Bool.{Bool, true, false, _&&_}
-use lib.Dec.{eqb}
-use lib.ListN.{length, getD, replicate}
+use lib.ListN.{length, replicate}
 use borrow.Author.Tests.{eqb-true, eq-eqb}
-use Rattle.bitstream.specs.Bits.{bits, bitAt, number}
+use Rattle.bitstream.specs.Bits.{number}
 use Rattle.bitstream.specs.Reading.{Outcome, got, refused, Parse}
 use Rattle.bitstream.proofs.Laws.{Lawful}
 use Rattle.bitstream.proofs.Spends.{Spends}

@@ -1,11 +1,11 @@
 -- What a loaded setup holds. Assumes nothing.
-use Prim.Native.Nat.{ℕ, zero, suc, _+_, _-_, _*_, _≤_, _<_}
+use Prim.Native.Nat.{ℕ, zero, suc, _-_, _*_, _<_}
 use native.Mathlib.Omega.{arith}
-use mathlib.Core.Path.{_≡_, refl, sym, ap, _∙_}
+use mathlib.Core.Path.{_≡_, sym, ap, _∙_}
 use mathlib.Core.List.{List, [], _∷_, append-nil}
 use mathlib.Core.Bool.{Bool, true, false}
 use lib.ListN.{length, getD, take, drop}
-use Rattle.bitstream.specs.Reading.{Outcome, got, refused, Parse, pure, bind, choose, many}
+use Rattle.bitstream.specs.Reading.{got, refused, Parse, pure, bind, choose, many}
 use Rattle.bitstream.proofs.Fields.{no-mix}
 use Rattle.bitstream.proofs.Laws.{bind-got}
 use Rattle.headers.specs.Judgement.{commonHeader}
@@ -13,7 +13,7 @@ use Rattle.huffman.specs.Tree.{Tree, leaf, Proper, nodesOf, huffmanTree}
 use Rattle.huffman.specs.Code.{Formed}
 use Rattle.huffman.proofs.Trees.{read-proper}
 use Rattle.quantization.specs.Parameters.{Quantization, quantization}
-use Rattle.quantization.specs.Layout.{padded, laid}
+use Rattle.quantization.specs.Layout.{laid}
 use Rattle.quantization.specs.Sound.{Holds}
 use Rattle.quantization.proofs.Layouts.{laid-length, laid-part}
 use Rattle.quantization.proofs.Soundness.{read-holds, many-long}

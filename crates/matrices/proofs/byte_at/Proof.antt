@@ -1,15 +1,12 @@
 -- `matrices::byte_at` meets its contract. The arm of a refusal is never reached. Assumes nothing.
-use Prim.Native.Nat.{ℕ, _+_, _-_, _*_, _/_, _≤_, _<_, _^_}
+use Prim.Native.Nat.{_-_}
 use native.Mathlib.Omega.{arith}
-use mathlib.Core.Path.{_≡_, refl, ap, sym, _∙_}
+use mathlib.Core.Path.{sym, _∙_}
 use Rattle.bitstream.specs.Reading.{field}
 use Rattle.bitstream.proofs.Fields.{no-mix, field-got, field-value, read-got, read-refused}
 use borrow.Author.Needs.{needs}
 use Rattle.matrices.proofs.byte_at.Statement.{statement}
 use Rattle.matrices.proofs.byte_at.Tie as tie
-use Rattle.matrices.proofs.byte_at.Reads as reads
-use Rattle.matrices.proofs.byte_at.Lts as lts
-use Rattle.bitstream.proofs.read.Reads as read-reads
 
 read-requires : tie.Need-read-requires
 read-requires c κs = (c .before .pre .0, omega arith)

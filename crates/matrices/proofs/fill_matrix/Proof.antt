@@ -1,9 +1,9 @@
 -- `matrices::fill_matrix` meets its contract. The invariant: the values so far stand at the front of `out`. Assumes nothing.
-use Prim.Native.Nat.{ℕ, _+_, _-_, _*_, _/_, _≤_, _<_, _^_}
+use Prim.Native.Nat.{ℕ, _+_, _-_, _*_, _≤_, _<_}
 use native.Mathlib.Omega.{arith}
-use mathlib.Core.Path.{_≡_, refl, ap, sym, _∙_}
+use mathlib.Core.Path.{_≡_, refl, sym, _∙_}
 use mathlib.Core.List.{List}
-use lib.ListN.{length, getD, set, length-set}
+use lib.ListN.{length, getD, length-set}
 use lib.Seq.{getD-set-same, getD-set-other}
 use borrow.Author.Count.{below-more}
 use Rattle.bitstream.specs.Bits.{number}
@@ -11,12 +11,8 @@ use Rattle.bitstream.proofs.Lists.{tabulated-is}
 use Rattle.matrices.specs.Matrix.{valueAt}
 use Rattle.matrices.specs.declared.Range.{Range}
 use Rattle.matrices.proofs.Values.{value-dc, value-ac}
-use borrow.Author.Needs.{needs}
 use Rattle.matrices.proofs.fill_matrix.Statement.{statement}
 use Rattle.matrices.proofs.fill_matrix.Tie as tie
-use Rattle.matrices.proofs.fill_matrix.Reads as reads
-use Rattle.matrices.proofs.fill_matrix.Lts as lts
-use Rattle.matrices.proofs.value_at.Reads as value-at-reads
 
 -- the value at the coefficient c
 abbrev rule : List ℕ → (first second : ℕ) → Range → (kind qi dc ac c : ℕ) → ℕ

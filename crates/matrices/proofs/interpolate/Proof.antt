@@ -1,14 +1,12 @@
 -- `matrices::interpolate` meets its contract. Assumes nothing.
 use Rattle.matrices.specs.Matrix.{interpolated}
-use Prim.Native.Nat.{ℕ, _+_, _-_, _*_, _/_, _≤_, _<_, _^_}
+use Prim.Native.Nat.{_+_, _-_, _*_, _≤_}
 use native.Mathlib.Omega.{arith}
-use mathlib.Core.Path.{_≡_, refl, ap, sym, _∙_}
+use mathlib.Core.Path.{refl}
 use Rattle.matrices.proofs.Values.{part-fits, interpolated-lt}
 use borrow.Author.Needs.{needs}
 use Rattle.matrices.proofs.interpolate.Statement.{statement}
 use Rattle.matrices.proofs.interpolate.Tie as tie
-use Rattle.matrices.proofs.interpolate.Reads as reads
-use Rattle.matrices.proofs.interpolate.Lts as lts
 
 add-before : tie.Need-add-before
 add-before c = search needs

@@ -1,13 +1,9 @@
 -- `matrices::least` meets its contract. Assumes nothing.
-use Prim.Native.Nat.{ℕ, _+_, _-_, _*_, _/_, _≤_, _<_, _^_}
+use Prim.Native.Nat.{_-_}
 use native.Mathlib.Omega.{arith}
-use mathlib.Core.Path.{_≡_, refl, ap, sym, _∙_}
 use Rattle.matrices.proofs.Values.{least-intra-dc, least-inter-dc, least-intra-ac, least-inter-ac}
-use borrow.Author.Needs.{needs}
 use Rattle.matrices.proofs.least.Statement.{statement}
 use Rattle.matrices.proofs.least.Tie as tie
-use Rattle.matrices.proofs.least.Reads as reads
-use Rattle.matrices.proofs.least.Lts as lts
 
 returns : tie.Need-returns
 returns c = (least-intra-dc (c .before .before .args .kind) (c .before .before .args .c) (c .before .if1 .taken) (c .if2 .taken), omega arith)

@@ -1,7 +1,7 @@
 -- `matrices::matrix` meets its contract. Assumes nothing.
-use Prim.Native.Nat.{ℕ, _+_, _-_, _*_, _/_, _≤_, _<_, _^_}
+use Prim.Native.Nat.{ℕ, _+_, _-_, _*_, _≤_, _<_}
 use native.Mathlib.Omega.{arith}
-use mathlib.Core.Path.{_≡_, refl, ap, sym, _∙_}
+use mathlib.Core.Path.{_≡_, refl, ap, _∙_}
 use lib.ListN.{length, getD}
 use Rattle.bitstream.specs.Bits.{bits}
 use Rattle.matrices.specs.Matrix.{InRange}
@@ -9,10 +9,6 @@ use Rattle.matrices.proofs.Matrices.{sizes-long, indices-long, scales-l
 use borrow.Author.Needs.{needs}
 use Rattle.matrices.proofs.matrix.Statement.{statement}
 use Rattle.matrices.proofs.matrix.Tie as tie
-use Rattle.matrices.proofs.matrix.Reads as reads
-use Rattle.matrices.proofs.matrix.Lts as lts
-use Rattle.matrices.proofs.fill_matrix.Reads as fill-matrix-reads
-use Rattle.matrices.proofs.range_of.Reads as range-of-reads
 
 mul-start : tie.Need-mul-start
 mul-start c = search needs

@@ -1,13 +1,10 @@
 -- `matrices::scale_value` meets its contract. Assumes nothing.
-use Prim.Native.Nat.{ℕ, _+_, _-_, _*_, _/_, _≤_, _<_, _^_}
+use Prim.Native.Nat.{_-_}
 use native.Mathlib.Omega.{arith}
-use mathlib.Core.Path.{_≡_, refl, ap, sym, _∙_}
 use Rattle.matrices.proofs.Values.{product-fits, scaled-high, scaled-low, scaled-middle}
 use borrow.Author.Needs.{needs}
 use Rattle.matrices.proofs.scale_value.Statement.{statement}
 use Rattle.matrices.proofs.scale_value.Tie as tie
-use Rattle.matrices.proofs.scale_value.Reads as reads
-use Rattle.matrices.proofs.scale_value.Lts as lts
 
 mul-whole : tie.Need-mul-whole
 mul-whole c = omega (arith, product-fits (c .args .scale) (c .args .value) (c .pre .1) (c .pre .2))

@@ -1,19 +1,13 @@
 -- `matrices::value_at` meets its contract. Assumes nothing.
-use Prim.Native.Nat.{ℕ, _+_, _-_, _*_, _/_, _≤_, _<_, _^_}
+use Prim.Native.Nat.{ℕ, _+_, _-_, _*_}
 use native.Mathlib.Omega.{arith}
-use mathlib.Core.Path.{_≡_, refl, ap, sym, _∙_}
+use mathlib.Core.Path.{ap, _∙_}
 use Rattle.bitstream.specs.Bits.{number}
 use Rattle.bitstream.proofs.Numbers.{number-lt}
 use Rattle.matrices.specs.Matrix.{scaled, minimum, interpolated}
 use borrow.Author.Needs.{needs}
 use Rattle.matrices.proofs.value_at.Statement.{statement}
 use Rattle.matrices.proofs.value_at.Tie as tie
-use Rattle.matrices.proofs.value_at.Reads as reads
-use Rattle.matrices.proofs.value_at.Lts as lts
-use Rattle.matrices.proofs.byte_at.Reads as byte-at-reads
-use Rattle.matrices.proofs.interpolate.Reads as interpolate-reads
-use Rattle.matrices.proofs.least.Reads as least-reads
-use Rattle.matrices.proofs.scale_value.Reads as scale-value-reads
 
 mul-byte-at : tie.Need-mul-byte-at
 mul-byte-at c = search needs

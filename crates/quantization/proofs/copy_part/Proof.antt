@@ -1,15 +1,13 @@
 -- `quantization::copy_part` meets its contract. Assumes nothing.
-use Prim.Native.Nat.{ℕ, _+_, _-_, _*_, _/_, _≤_, _<_, _^_}
+use Prim.Native.Nat.{_-_, _≤_}
 use native.Mathlib.Omega.{arith}
-use mathlib.Core.Path.{_≡_, refl, ap, sym, _∙_}
+use mathlib.Core.Path.{_≡_, refl, ap, _∙_}
 use lib.ListN.{length, drop, length-set}
 use lib.Seq.{paste, paste-zero}
 use Rattle.quantization.proofs.Layouts.{copy-more}
 use borrow.Author.Needs.{needs}
 use Rattle.quantization.proofs.copy_part.Statement.{statement}
 use Rattle.quantization.proofs.copy_part.Tie as tie
-use Rattle.quantization.proofs.copy_part.Reads as reads
-use Rattle.quantization.proofs.copy_part.Lts as lts
 
 abbrev Inv-loop : tie.InvT-loop
 Inv-loop s₀ from to k₀ s k = (k ≤ 64) × (length s ≡ length s₀) × (s ≡ paste s₀ to (drop from s₀) k)

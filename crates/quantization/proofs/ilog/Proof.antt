@@ -1,13 +1,10 @@
 -- `quantization::ilog` meets its contract. Assumes nothing.
-use Prim.Native.Nat.{ℕ, _+_, _-_, _*_, _/_, _≤_, _<_, _^_}
+use Prim.Native.Nat.{_-_}
 use native.Mathlib.Omega.{arith}
-use mathlib.Core.Path.{_≡_, refl, ap, sym, _∙_}
 use Rattle.quantization.proofs.Steps.{Digits, digits-start, digits-fits, digits-more, digits-done}
 use borrow.Author.Needs.{needs}
 use Rattle.quantization.proofs.ilog.Statement.{statement}
 use Rattle.quantization.proofs.ilog.Tie as tie
-use Rattle.quantization.proofs.ilog.Reads as reads
-use Rattle.quantization.proofs.ilog.Lts as lts
 
 abbrev Inv-loop : tie.InvT-loop
 Inv-loop n left₀ k₀ left k = Digits n left k

@@ -1,14 +1,12 @@
 -- `quantization::matrices_end` meets its contract. Assumes nothing.
-use Prim.Native.Nat.{ℕ, _+_, _-_, _*_, _/_, _≤_, _<_, _^_}
+use Prim.Native.Nat.{_-_}
 use native.Mathlib.Omega.{arith}
-use mathlib.Core.Path.{_≡_, refl, ap, sym, _∙_}
+use mathlib.Core.Path.{ap, sym}
 use Rattle.quantization.specs.Answer.{asPlace}
 use Rattle.quantization.proofs.Steps.{matrices-end, matrices-place}
 use borrow.Author.Needs.{needs}
 use Rattle.quantization.proofs.matrices_end.Statement.{statement}
 use Rattle.quantization.proofs.matrices_end.Tie as tie
-use Rattle.quantization.proofs.matrices_end.Reads as reads
-use Rattle.quantization.proofs.matrices_end.Lts as lts
 
 mul-left : tie.Need-mul-left
 mul-left c = search needs

@@ -1,13 +1,10 @@
 -- `quantization::place_of` meets its contract. Assumes nothing.
-use Prim.Native.Nat.{ℕ, _+_, _-_, _*_, _/_, _≤_, _<_, _^_}
-use native.Mathlib.Omega.{arith}
-use mathlib.Core.Path.{_≡_, refl, ap, sym, _∙_}
+use Prim.Native.Nat.{_-_}
+use mathlib.Core.Path.{ap, sym}
 use Rattle.quantization.specs.Answer.{placeOf}
 use borrow.Author.Needs.{needs}
 use Rattle.quantization.proofs.place_of.Statement.{statement}
 use Rattle.quantization.proofs.place_of.Tie as tie
-use Rattle.quantization.proofs.place_of.Reads as reads
-use Rattle.quantization.proofs.place_of.Lts as lts
 
 enum-known-field : tie.Need-enum-known-field
 enum-known-field c = search needs

@@ -1,7 +1,7 @@
 -- `quantization::read_count` meets its contract. Assumes nothing.
-use Prim.Native.Nat.{ℕ, _+_, _-_, _*_, _/_, _≤_, _<_, _^_}
+use Prim.Native.Nat.{_-_}
 use native.Mathlib.Omega.{arith}
-use mathlib.Core.Path.{_≡_, refl, ap, sym, _∙_}
+use mathlib.Core.Path.{_≡_, ap, sym}
 use Rattle.bitstream.specs.Reading.{got, field}
 use Rattle.bitstream.specs.Answer.{asField}
 use Rattle.bitstream.proofs.Fields.{read-got, read-refused, field-lt}
@@ -9,9 +9,6 @@ use Rattle.quantization.proofs.Steps.{count-end, count-big, count-got}
 use borrow.Author.Needs.{needs}
 use Rattle.quantization.proofs.read_count.Statement.{statement}
 use Rattle.quantization.proofs.read_count.Tie as tie
-use Rattle.quantization.proofs.read_count.Reads as reads
-use Rattle.quantization.proofs.read_count.Lts as lts
-use Rattle.bitstream.proofs.read.Reads as read-reads
 
 read-requires : tie.Need-read-requires
 read-requires c κs = search needs

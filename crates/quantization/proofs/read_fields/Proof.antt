@@ -1,21 +1,17 @@
 -- `quantization::read_fields` meets its contract. The invariant: the fields so far stand at the front of `out`. Assumes nothing.
 use mathlib.Core.List.{List}
-use Prim.Native.Nat.{ℕ, _+_, _-_, _*_, _/_, _≤_, _<_, _^_}
+use Prim.Native.Nat.{ℕ, _-_, _≤_}
 use native.Mathlib.Omega.{arith}
-use mathlib.Core.Path.{_≡_, refl, ap, sym, _∙_}
+use mathlib.Core.Path.{_≡_, refl, ap, _∙_}
 use lib.ListN.{length, take, length-set}
 use lib.Pow.{pow-mono}
 use lib.Seq.{take-all}
 use Rattle.bitstream.specs.Reading.{got, field, many, times}
 use Rattle.bitstream.proofs.Fields.{read-got, read-refused, field-lt}
-use Rattle.quantization.specs.Answer.{asPlace}
 use Rattle.quantization.proofs.Loops.{times-start, times-refused, times-stored, times-all, all-refused, all-got}
 use borrow.Author.Needs.{needs}
 use Rattle.quantization.proofs.read_fields.Statement.{statement}
 use Rattle.quantization.proofs.read_fields.Tie as tie
-use Rattle.quantization.proofs.read_fields.Reads as reads
-use Rattle.quantization.proofs.read_fields.Lts as lts
-use Rattle.bitstream.proofs.read.Reads as read-reads
 
 abbrev Inv-loop : tie.InvT-loop
 Inv-loop packet at width out₀ place₀ k₀ out place k = (k ≤ length out₀) × (length out ≡ length out₀) × (many (length out₀) (field width) packet at ≡ times (length out₀ - k) (field width) (take k out) packet place)

@@ -1,22 +1,17 @@
 -- `quantization::read_new` meets its contract. The invariant: the sizes and the indices so far stand at the front of the two slices. Assumes nothing.
-use Prim.Native.Nat.{ℕ, _+_, _-_, _*_, _/_, _≤_, _<_, _^_}
+use Prim.Native.Nat.{_+_, _-_, _≤_, _<_}
 use native.Mathlib.Omega.{arith}
 use mathlib.Core.Path.{_≡_, refl, ap, sym, _∙_}
-use lib.ListN.{length, set}
-use Rattle.bitstream.specs.Reading.{got, field}
+use lib.ListN.{length}
+use Rattle.bitstream.specs.Reading.{got}
 use Rattle.bitstream.proofs.Fields.{read-got, read-refused}
-use Rattle.quantization.specs.Parameters.{index, rangeSize, newSet}
+use Rattle.quantization.specs.Parameters.{index, rangeSize}
 use Rattle.quantization.specs.Answer.{placeOf}
 use Rattle.quantization.proofs.Steps.{index-lt, size-le}
 use Rattle.quantization.proofs.Sets.{Reading, new-bad, reading-start, reading-done, reading-size, reading-index, reading-more, set-refused}
 use borrow.Author.Needs.{needs}
 use Rattle.quantization.proofs.read_new.Statement.{statement}
 use Rattle.quantization.proofs.read_new.Tie as tie
-use Rattle.quantization.proofs.read_new.Reads as reads
-use Rattle.quantization.proofs.read_new.Lts as lts
-use Rattle.quantization.proofs.place_of.Reads as place-of-reads
-use Rattle.quantization.proofs.read_index.Reads as read-index-reads
-use Rattle.quantization.proofs.read_size.Reads as read-size-reads
 
 abbrev Inv-loop : tie.InvT-loop
 Inv-loop packet at count sizes₀ indices₀ begin behind place₀ reached₀ k₀ sizes indices place reached k = Reading count packet at sizes₀ indices₀ place reached k sizes indices

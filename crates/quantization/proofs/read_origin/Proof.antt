@@ -1,7 +1,6 @@
 -- `quantization::read_origin` meets its contract. Assumes nothing.
-use Prim.Native.Nat.{ℕ, _+_, _-_, _*_, _/_, _≤_, _<_, _^_}
-use native.Mathlib.Omega.{arith}
-use mathlib.Core.Path.{_≡_, refl, ap, sym, _∙_}
+use Prim.Native.Nat.{_-_}
+use mathlib.Core.Path.{_≡_, ap, sym, _∙_}
 use Rattle.bitstream.specs.Reading.{got, field}
 use Rattle.bitstream.specs.Answer.{asField}
 use Rattle.bitstream.proofs.Fields.{read-got, read-refused}
@@ -9,9 +8,6 @@ use Rattle.quantization.proofs.Sets.{origin-first, origin-end, origin-n
 use borrow.Author.Needs.{needs}
 use Rattle.quantization.proofs.read_origin.Statement.{statement}
 use Rattle.quantization.proofs.read_origin.Tie as tie
-use Rattle.quantization.proofs.read_origin.Reads as reads
-use Rattle.quantization.proofs.read_origin.Lts as lts
-use Rattle.bitstream.proofs.read.Reads as read-reads
 
 returns : tie.Need-returns
 returns c = let a = c .before .before .args in sym (ap asField (origin-first (a .k) (a .packet .now) (a .at) (c .if1 .taken)))

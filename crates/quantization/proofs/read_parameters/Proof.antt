@@ -1,10 +1,8 @@
 -- `quantization::read_parameters` meets its contract. Assumes nothing.
-use Prim.Native.Nat.{ℕ, _+_, _-_, _*_, _/_, _≤_, _<_, _^_}
-use native.Mathlib.Omega.{arith}
-use mathlib.Core.Path.{_≡_, refl, ap, sym, _∙_}
+use Prim.Native.Nat.{ℕ, _-_}
+use mathlib.Core.Path.{_≡_}
 use mathlib.Core.List.{List, []}
-use lib.ListN.{length, replicate, length-replicate}
-use Rattle.bitstream.specs.Reading.{got, field, many}
+use Rattle.bitstream.specs.Reading.{got, many}
 use Rattle.bitstream.proofs.Fields.{read-got, read-refused}
 use Rattle.quantization.specs.Parameters.{scales, matrixCount, baseMatrix, moreSets, quantization}
 use Rattle.quantization.proofs.Loops.{place-at, place-refused, filled-is}
@@ -13,12 +11,6 @@ use Rattle.quantization.proofs.Whole.{count-ends, quant-ac, quant-dc, q
 use borrow.Author.Needs.{needs}
 use Rattle.quantization.proofs.read_parameters.Statement.{statement}
 use Rattle.quantization.proofs.read_parameters.Tie as tie
-use Rattle.quantization.proofs.read_parameters.Reads as reads
-use Rattle.quantization.proofs.read_parameters.Lts as lts
-use Rattle.quantization.proofs.matrices_end.Reads as matrices-end-reads
-use Rattle.quantization.proofs.read_count.Reads as read-count-reads
-use Rattle.quantization.proofs.read_scales.Reads as read-scales-reads
-use Rattle.quantization.proofs.read_sets.Reads as read-sets-reads
 
 read-scales-requires : tie.Need-read-scales-requires
 read-scales-requires c κs = search needs

@@ -1,19 +1,15 @@
 -- `quantization::read_scales` meets its contract. Assumes nothing.
-use Prim.Native.Nat.{ℕ, _+_, _-_, _*_, _/_, _≤_, _<_, _^_}
+use Prim.Native.Nat.{_-_}
 use native.Mathlib.Omega.{arith}
-use mathlib.Core.Path.{_≡_, refl, ap, sym, _∙_}
+use mathlib.Core.Path.{_≡_}
 use lib.ListN.{length}
-use Rattle.bitstream.specs.Reading.{got, field, many}
+use Rattle.bitstream.specs.Reading.{got, field}
 use Rattle.bitstream.proofs.Fields.{read-got, read-refused, field-lt}
 use Rattle.quantization.proofs.Loops.{all-refused}
-use Rattle.quantization.proofs.Steps.{scales-end, scales-got, scales-filled}
+use Rattle.quantization.proofs.Steps.{scales-end, scales-filled}
 use borrow.Author.Needs.{needs}
 use Rattle.quantization.proofs.read_scales.Statement.{statement}
 use Rattle.quantization.proofs.read_scales.Tie as tie
-use Rattle.quantization.proofs.read_scales.Reads as reads
-use Rattle.quantization.proofs.read_scales.Lts as lts
-use Rattle.bitstream.proofs.read.Reads as read-reads
-use Rattle.quantization.proofs.read_fields.Reads as read-fields-reads
 
 read-requires : tie.Need-read-requires
 read-requires c κs = search needs

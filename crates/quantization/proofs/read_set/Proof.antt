@@ -1,18 +1,13 @@
 -- `quantization::read_set` meets its contract. Assumes nothing.
 use Rattle.quantization.proofs.Sets.{one-le}
-use Prim.Native.Nat.{ℕ, _+_, _-_, _*_, _/_, _≤_, _<_, _^_}
+use Prim.Native.Nat.{_+_, _-_, _*_}
 use native.Mathlib.Omega.{arith}
-use mathlib.Core.Path.{_≡_, refl, ap, sym, _∙_}
-use lib.ListN.{length}
-use borrow.Rule.Slice.PartMut.{mid-len, same-len-mid}
+use mathlib.Core.Path.{_≡_, _∙_}
+use borrow.Rule.Slice.PartMut.{mid-len}
 use Rattle.quantization.proofs.Sets.{new-answer, copy-answer}
 use borrow.Author.Needs.{needs}
 use Rattle.quantization.proofs.read_set.Statement.{statement}
 use Rattle.quantization.proofs.read_set.Tie as tie
-use Rattle.quantization.proofs.read_set.Reads as reads
-use Rattle.quantization.proofs.read_set.Lts as lts
-use Rattle.quantization.proofs.copy_part.Reads as copy-part-reads
-use Rattle.quantization.proofs.read_new.Reads as read-new-reads
 
 mul-start : tie.Need-mul-start
 mul-start c = search needs

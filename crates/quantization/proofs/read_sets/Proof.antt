@@ -1,23 +1,18 @@
 -- `quantization::read_sets` meets its contract. The invariant: the sets so far lie in the two slices. Assumes nothing.
 use lib.ListN.{replicate, length-replicate}
-use Prim.Native.Nat.{ℕ, _+_, _-_, _*_, _/_, _≤_, _<_, _^_}
+use Prim.Native.Nat.{ℕ, _-_, _≤_}
 use native.Mathlib.Omega.{arith}
-use mathlib.Core.Path.{_≡_, refl, ap, sym, _∙_}
-use mathlib.Core.List.{List, []}
+use mathlib.Core.Path.{_≡_, ap, sym, _∙_}
+use mathlib.Core.List.{List}
 use lib.ListN.{length}
-use Rattle.bitstream.specs.Reading.{got, field}
+use Rattle.bitstream.specs.Reading.{got}
 use Rattle.bitstream.proofs.Fields.{read-got, read-refused}
-use Rattle.quantization.specs.Parameters.{origin, moreSets}
-use Rattle.quantization.specs.Answer.{placeOf, SetAnswer}
+use Rattle.quantization.specs.Parameters.{origin}
+use Rattle.quantization.specs.Answer.{placeOf}
 use Rattle.quantization.proofs.Sets.{Sets, origin-is, sets-start, sets-done, sets-origin, sets-refused, sets-more, sets-bad, sets-long}
 use borrow.Author.Needs.{needs}
 use Rattle.quantization.proofs.read_sets.Statement.{statement}
 use Rattle.quantization.proofs.read_sets.Tie as tie
-use Rattle.quantization.proofs.read_sets.Reads as reads
-use Rattle.quantization.proofs.read_sets.Lts as lts
-use Rattle.quantization.proofs.place_of.Reads as place-of-reads
-use Rattle.quantization.proofs.read_origin.Reads as read-origin-reads
-use Rattle.quantization.proofs.read_set.Reads as read-set-reads
 
 abbrev Inv-loop : tie.InvT-loop
 Inv-loop packet at count sizes₀ indices₀ place₀ k₀ sizes indices place k = (k ≤ 6) × Sets count packet at place k sizes indices

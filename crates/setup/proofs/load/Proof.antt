@@ -1,7 +1,6 @@
 -- `setup::load` meets its contract. Assumes nothing.
-use Prim.Native.Nat.{ℕ, _+_, _-_, _*_, _≤_, _<_, _^_}
-use native.Mathlib.Omega.{arith}
-use mathlib.Core.Path.{_≡_, refl, ap, sym, _∙_}
+use Prim.Native.Nat.{ℕ, _-_}
+use mathlib.Core.Path.{_≡_}
 use mathlib.Core.List.{List}
 use Rattle.bitstream.specs.Reading.{got, many}
 use Rattle.headers.specs.Judgement.{commonHeader}
@@ -13,12 +12,6 @@ use Rattle.setup.proofs.Steps.{passed-to, passed-refused, parameters-re
 use borrow.Author.Needs.{needs}
 use Rattle.setup.proofs.load.Statement.{statement}
 use Rattle.setup.proofs.load.Tie as tie
-use Rattle.setup.proofs.load.Reads as reads
-use Rattle.setup.proofs.load.Lts as lts
-use Rattle.headers.proofs.read_common_header.Reads as read-common-header-reads
-use Rattle.quantization.proofs.read_parameters.Reads as read-parameters-reads
-use Rattle.setup.proofs.read_limits.Reads as read-limits-reads
-use Rattle.setup.proofs.read_trees.Reads as read-trees-reads
 
 read-common-header-requires : tie.Need-read-common-header-requires
 read-common-header-requires c κs = c .before .before .before .before .before .before .before .pre .0

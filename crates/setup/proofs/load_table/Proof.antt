@@ -1,17 +1,12 @@
 -- `setup::load_table` meets its contract. Assumes nothing.
-use Prim.Native.Nat.{ℕ, _+_, _-_, _*_, _≤_, _<_, _^_}
+use Prim.Native.Nat.{_-_}
 use native.Mathlib.Omega.{arith}
-use mathlib.Core.Path.{_≡_, refl, ap, sym, _∙_}
-use mathlib.Core.List.{List}
+use mathlib.Core.Path.{sym, _∙_}
 use Rattle.setup.specs.Header.{setupHeader}
 use Rattle.setup.proofs.Calls.{tables-read, tables-refused, not-length, not-read, is-read, held-not, held-is}
 use borrow.Author.Needs.{needs}
 use Rattle.setup.proofs.load_table.Statement.{statement}
 use Rattle.setup.proofs.load_table.Tie as tie
-use Rattle.setup.proofs.load_table.Reads as reads
-use Rattle.setup.proofs.load_table.Lts as lts
-use Rattle.setup.proofs.load.Reads as load-reads
-use Rattle.table_memory.proofs.rest_is_zero.Reads as rest-is-zero-reads
 
 returns : tie.Need-returns
 returns c = held-not (c .before .before .before .before .before .before .before .before .args .table .now) _ _ _ _ _ _ (not-length (c .before .before .before .before .before .before .before .before .args .table .now) (c .if1 .taken))

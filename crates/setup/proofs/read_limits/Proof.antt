@@ -1,19 +1,15 @@
 -- `setup::read_limits` meets its contract. Assumes nothing.
-use Prim.Native.Nat.{ℕ, _+_, _-_, _*_, _≤_, _<_, _^_}
+use Prim.Native.Nat.{_-_}
 use native.Mathlib.Omega.{arith}
-use mathlib.Core.Path.{_≡_, refl, ap, sym, _∙_}
+use mathlib.Core.Path.{_≡_}
 use lib.ListN.{length}
-use Rattle.bitstream.specs.Reading.{got, field, many}
+use Rattle.bitstream.specs.Reading.{got, field}
 use Rattle.bitstream.proofs.Fields.{read-got, read-refused, field-lt}
 use Rattle.quantization.proofs.Loops.{all-refused}
 use Rattle.setup.proofs.Steps.{limits-end, limits-filled}
 use borrow.Author.Needs.{needs}
 use Rattle.setup.proofs.read_limits.Statement.{statement}
 use Rattle.setup.proofs.read_limits.Tie as tie
-use Rattle.setup.proofs.read_limits.Reads as reads
-use Rattle.setup.proofs.read_limits.Lts as lts
-use Rattle.bitstream.proofs.read.Reads as read-reads
-use Rattle.quantization.proofs.read_fields.Reads as read-fields-reads
 
 read-requires : tie.Need-read-requires
 read-requires c κs = search needs

@@ -1,7 +1,7 @@
 -- `setup::read_trees` meets its contract. The invariant: the trees so far lie in the slice, zeros behind them. Assumes nothing.
-use Prim.Native.Nat.{ℕ, _+_, _-_, _*_, _≤_, _<_, _^_}
+use Prim.Native.Nat.{ℕ, _+_, _-_, _*_, _≤_}
 use native.Mathlib.Omega.{arith}
-use mathlib.Core.Path.{_≡_, refl, ap, sym, _∙_}
+use mathlib.Core.Path.{_≡_, ap, sym, _∙_}
 use mathlib.Core.List.{List}
 use lib.ListN.{length, replicate, length-replicate}
 use borrow.Rule.Slice.PartMut.{mid-len}
@@ -9,9 +9,6 @@ use Rattle.setup.proofs.Steps.{Trees, trees-start, trees-long, trees-do
 use borrow.Author.Needs.{needs}
 use Rattle.setup.proofs.read_trees.Statement.{statement}
 use Rattle.setup.proofs.read_trees.Tie as tie
-use Rattle.setup.proofs.read_trees.Reads as reads
-use Rattle.setup.proofs.read_trees.Lts as lts
-use Rattle.huffman.proofs.read_tree.Reads as read-tree-reads
 
 abbrev Inv-loop : tie.InvT-loop
 Inv-loop packet at nodes₀ place₀ k₀ nodes place k = (k ≤ 80) × Trees packet at place k nodes

@@ -1,22 +1,16 @@
 -- `setup::setup` meets its contract. Assumes nothing.
-use Prim.Native.Nat.{ℕ, _+_, _-_, _*_, _≤_, _<_, _^_}
+use Prim.Native.Nat.{ℕ, _-_, _≤_, _^_}
 use native.Mathlib.Omega.{arith}
-use mathlib.Core.Path.{_≡_, refl, ap, sym, _∙_, subst⁻¹}
+use mathlib.Core.Path.{ap, _∙_, subst⁻¹}
 use mathlib.Core.List.{List}
 use lib.ListN.{length}
 use Rattle.bitstream.proofs.Spends.{readable-short}
-use Rattle.setup.specs.Header.{Setup, setupHeader}
+use Rattle.setup.specs.Header.{setupHeader}
 use Rattle.setup.specs.Answer.{asTables}
 use Rattle.setup.proofs.Calls.{whole-read, whole-refused, header-end, call-length, call-refused, call-accepted}
 use borrow.Author.Needs.{needs}
 use Rattle.setup.proofs.setup.Statement.{statement}
 use Rattle.setup.proofs.setup.Tie as tie
-use Rattle.setup.proofs.setup.Reads as reads
-use Rattle.setup.proofs.setup.Lts as lts
-use Rattle.bitstream.proofs.readable.Reads as readable-reads
-use Rattle.setup.proofs.scan.Reads as scan-reads
-use Rattle.table_memory.proofs.clear.Reads as clear-reads
-use Rattle.table_memory.proofs.keep.Reads as keep-reads
 
 returns : tie.Need-returns
 returns c = call-length (c .before .before .before .args .table .now) (c .before .before .before .args .packet .now) (c .if1 .taken)

@@ -1,17 +1,12 @@
 -- `setup::table_is_genuine` meets its contract. Assumes nothing.
-use Prim.Native.Nat.{ℕ, _+_, _-_, _*_, _≤_, _<_, _^_}
+use Prim.Native.Nat.{_-_}
 use native.Mathlib.Omega.{arith}
-use mathlib.Core.Path.{_≡_, refl, ap, sym, _∙_}
-use mathlib.Core.List.{List}
+use mathlib.Core.Path.{_∙_}
 use Rattle.setup.specs.Header.{setupHeader}
 use Rattle.setup.proofs.Calls.{tables-read, tables-refused, not-length, not-read, is-read, both}
 use borrow.Author.Needs.{needs}
 use Rattle.setup.proofs.table_is_genuine.Statement.{statement}
 use Rattle.setup.proofs.table_is_genuine.Tie as tie
-use Rattle.setup.proofs.table_is_genuine.Reads as reads
-use Rattle.setup.proofs.table_is_genuine.Lts as lts
-use Rattle.setup.proofs.scan.Reads as scan-reads
-use Rattle.table_memory.proofs.rest_is_zero.Reads as rest-is-zero-reads
 
 returns : tie.Need-returns
 returns c = let t = c .before .before .args .table .now in both t (λ k h. c .before .shared-slice-known .given k .fits) _ (not-length t (c .if1 .taken))

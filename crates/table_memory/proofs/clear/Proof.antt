@@ -3,14 +3,12 @@ use borrow.Author.Needs.{needs}
 use borrow.Author.Fill.{fill-more}
 use Prim.Native.Nat.{ℕ, _+_, _-_, _≤_}
 use native.Mathlib.Omega.{arith}
-use mathlib.Core.Path.{_≡_, refl, ap, sym, _∙_}
+use mathlib.Core.Path.{_≡_, refl, ap, _∙_}
 use mathlib.Core.List.{List, _++_, append-nil}
 use lib.ListN.{length, drop, replicate, set, length-set}
 use lib.Seq.{drop-length}
 use Rattle.table_memory.proofs.clear.Statement.{statement}
 use Rattle.table_memory.proofs.clear.Tie as tie
-use Rattle.table_memory.proofs.clear.Reads as reads
-use Rattle.table_memory.proofs.clear.Lts as lts
 
 abbrev Inv-loop : tie.InvT-loop
 Inv-loop table₀ k₀ table k = (k ≤ length table₀) × (length table ≡ length table₀) × (table ≡ replicate k 0 ++ drop k table₀)

@@ -1,10 +1,9 @@
 -- `table_memory::keep` meets its contract. Assumes nothing.
-use Prim.Native.Nat.{ℕ, _+_, _-_, _≤_}
+use Prim.Native.Nat.{ℕ, _-_, _≤_}
 use native.Mathlib.Omega.{arith}
 use mathlib.Core.Path.{_≡_, refl, ap, sym, _∙_}
 use mathlib.Core.List.{List}
 use lib.ListN.{length, getD, set, length-set}
-use lib.Seq.{take-length}
 use Rattle.table_memory.proofs.Steps.{copied, copied-more}
 use Rattle.table_memory.specs.Kept.{kept}
 use Rattle.table_memory.proofs.KeptLaws.{kept-length, kept-at}
@@ -12,9 +11,6 @@ use Rattle.table_memory.proofs.Steps.{copied-all}
 use borrow.Author.Needs.{needs}
 use Rattle.table_memory.proofs.keep.Statement.{statement}
 use Rattle.table_memory.proofs.keep.Tie as tie
-use Rattle.table_memory.proofs.keep.Reads as reads
-use Rattle.table_memory.proofs.keep.Lts as lts
-use Rattle.table_memory.proofs.kept_byte.Reads as kept-byte-reads
 
 abbrev Inv-loop : tie.InvT-loop
 Inv-loop packet end table₀ k₀ table k = (k ≤ length table₀) × (length table ≡ length table₀) × (table ≡ copied table₀ (kept packet end (length table₀)) k)

@@ -7,8 +7,6 @@ use Rattle.table_memory.proofs.Steps.{byte-none, byte-whole, byte-part,
 use borrow.Author.Needs.{needs}
 use Rattle.table_memory.proofs.kept_byte.Statement.{statement}
 use Rattle.table_memory.proofs.kept_byte.Tie as tie
-use Rattle.table_memory.proofs.kept_byte.Reads as reads
-use Rattle.table_memory.proofs.kept_byte.Lts as lts
 
 mul-start : tie.Need-mul-start
 mul-start c = search needs

@@ -1,15 +1,11 @@
 -- `table_memory::rest_is_zero` meets its contract. The invariant: what `rest` says of the bits so far, and of all. Assumes nothing.
-use Prim.Native.Nat.{ℕ, _+_, _-_, _*_, _/_, _≤_, _<_}
+use Prim.Native.Nat.{_-_, _/_, _≤_, _<_}
 use native.Mathlib.Omega.{arith}
-use mathlib.Core.Path.{_≡_, sym}
 use lib.ListN.{length}
-use lib.Bits.{or-lt}
 use Rattle.table_memory.proofs.Steps.{rest-none, part-pos, part-not, Swept, swept-start, swept-more, swept-all}
 use borrow.Author.Needs.{needs}
 use Rattle.table_memory.proofs.rest_is_zero.Statement.{statement}
 use Rattle.table_memory.proofs.rest_is_zero.Tie as tie
-use Rattle.table_memory.proofs.rest_is_zero.Reads as reads
-use Rattle.table_memory.proofs.rest_is_zero.Lts as lts
 
 abbrev Inv-loop : tie.InvT-loop
 Inv-loop table end first part byte rest₀ k₀ rest k = (end / 8 < k) × (k ≤ length table) × Swept table end rest k

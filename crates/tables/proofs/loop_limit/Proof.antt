@@ -1,14 +1,11 @@
 -- `tables::loop_limit` meets its contract. Assumes nothing.
-use Prim.Native.Nat.{ℕ, _+_, _-_, _*_, _≤_, _<_, _^_}
-use native.Mathlib.Omega.{arith}
-use mathlib.Core.Path.{_≡_, refl, ap, sym, _∙_}
+use Prim.Native.Nat.{ℕ, _-_}
+use mathlib.Core.Path.{ap}
 use mathlib.Core.List.{List}
 use lib.ListN.{getD}
 use borrow.Author.Needs.{needs}
 use Rattle.tables.proofs.loop_limit.Statement.{statement}
 use Rattle.tables.proofs.loop_limit.Tie as tie
-use Rattle.tables.proofs.loop_limit.Reads as reads
-use Rattle.tables.proofs.loop_limit.Lts as lts
 
 mul-result : tie.Need-mul-result
 mul-result c = search needs

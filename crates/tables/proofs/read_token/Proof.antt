@@ -1,16 +1,11 @@
 -- `tables::read_token` meets its contract. Assumes nothing.
-use Prim.Native.Nat.{ℕ, _+_, _-_, _*_, _≤_, _<_, _^_}
+use Prim.Native.Nat.{_+_, _-_, _*_}
 use native.Mathlib.Omega.{arith}
-use mathlib.Core.Path.{_≡_, refl, ap, sym, _∙_}
-use mathlib.Core.List.{List}
 use Rattle.huffman.proofs.Answers.{code-by-tree}
 use Rattle.tables.proofs.Held.{nodes-long, part-is, part-formed}
 use borrow.Author.Needs.{needs}
 use Rattle.tables.proofs.read_token.Statement.{statement}
 use Rattle.tables.proofs.read_token.Tie as tie
-use Rattle.tables.proofs.read_token.Reads as reads
-use Rattle.tables.proofs.read_token.Lts as lts
-use Rattle.huffman.proofs.read_code.Reads as read-code-reads
 
 mul-start : tie.Need-mul-start
 mul-start c = search needs
