@@ -1,0 +1,62 @@
+-- The modes keep the reading algebra's laws. Assumes nothing.
+use Prim.Native.Nat.{ℕ, zero, suc, _+_, _*_}
+use native.Mathlib.Omega.{arith}
+use native.Mathlib.Nat.{zero-mul, suc-mul}
+use mathlib.Core.List.{List, [], _∷_, _++_}
+use lib.Dec.{eqb}
+use lib.ListN.{set, replicate}
+use Rattle.bitstream.proofs.Laws.{Lawful, pure-lawful, pick-lawful, bind-lawful, field-lawful, whole-lawful}
+use Rattle.bitstream.proofs.Spends.{Spends, spends-more, pure-spends, field-spends, bind-spends, pick-spends, whole-spends}
+use Rattle.runs.proofs.Laws.{rank-lawful, rank-spends}
+use Rattle.modes.specs.Modes.{ranksFrom, sentAlphabet, mode, lumaCoded, modeOf, modesFrom, macroModes}
+
+ranks-lawful : (n m : ℕ) (alphabet : List ℕ) → Lawful (ranksFrom n m alphabet)
+unfolding ranksFrom
+ranks-lawful zero m alphabet = pure-lawful alphabet
+ranks-lawful (suc n) m alphabet = bind-lawful (field-lawful 3) (λ r. ranks-lawful n (m + 1) (set alphabet r m))
+
+sent-lawful : (scheme : ℕ) → Lawful (sentAlphabet scheme)
+unfolding sentAlphabet
+sent-lawful scheme = pick-lawful (eqb scheme 0) (ranks-lawful 8 0 (replicate 8 0)) (pure-lawful (replicate 8 0))
+
+mode-lawful : (scheme : ℕ) (alphabet flags : List ℕ) (m : ℕ) → Lawful (modeOf scheme alphabet flags m)
+unfolding modeOf mode
+mode-lawful scheme alphabet flags m =
+    pick-lawful (lumaCoded flags m) (pick-lawful (eqb scheme 7) (field-lawful 3) (bind-lawful (whole-lawful (rank-lawful 7 0)) (λ r. pure-lawful _))) (pure-lawful 0)
+
+modes-lawful : (scheme : ℕ) (alphabet flags : List ℕ) (n m : ℕ) (done : List ℕ) → Lawful (modesFrom scheme alphabet flags n m done)
+unfolding modesFrom
+modes-lawful scheme alphabet flags zero m done = pure-lawful done
+modes-lawful scheme alphabet flags (suc n) m done = bind-lawful (mode-lawful scheme alphabet flags m) (λ v. modes-lawful scheme alphabet flags n (m + 1) (done ++ v ∷ []))
+
+pub macroModes-lawful : (flags : List ℕ) (n : ℕ) → Lawful (macroModes flags n)
+unfolding macroModes
+macroModes-lawful flags n = bind-lawful (field-lawful 3) (λ s. bind-lawful (sent-lawful s) (λ alphabet. modes-lawful s alphabet flags n 0 []))
+
+-- ---- bits that are spent: 3 for the scheme, 24 for the ranks that scheme 0 sends, 7 at most for each mode
+ranks-spends : (n m : ℕ) (alphabet : List ℕ) → Spends (n * 3) (ranksFrom n m alphabet)
+unfolding ranksFrom
+ranks-spends zero m alphabet = rw zero-mul (pure-spends alphabet)
+ranks-spends (suc n) m alphabet = spends-more (rw suc-mul (omega arith)) (bind-spends (field-spends 3) (λ r. ranks-spends n (m + 1) (set alphabet r m)))
+
+sent-spends : (scheme : ℕ) → Spends 24 (sentAlphabet scheme)
+unfolding sentAlphabet
+sent-spends scheme = pick-spends (eqb scheme 0) (λ _. ranks-spends 8 0 (replicate 8 0)) (λ _. spends-more (omega arith) (pure-spends (replicate 8 0)))
+
+mode-spends : (scheme : ℕ) (alphabet flags : List ℕ) (m : ℕ) → Spends 7 (modeOf scheme alphabet flags m)
+unfolding modeOf mode
+mode-spends scheme alphabet flags m =
+    pick-spends (lumaCoded flags m)
+    (λ _. pick-spends (eqb scheme 7) (λ _. spends-more (omega arith) (field-spends 3)) (λ _. spends-more (omega arith) (bind-spends {b = 0} (whole-spends (rank-spends 7 0)) (λ r. pure-spends _))))
+    (λ _. spends-more (omega arith) (pure-spends 0))
+
+modes-spends : (scheme : ℕ) (alphabet flags : List ℕ) (n m : ℕ) (done : List ℕ) → Spends (n * 7) (modesFrom scheme alphabet flags n m done)
+unfolding modesFrom
+modes-spends scheme alphabet flags zero m done = rw zero-mul (pure-spends done)
+modes-spends scheme alphabet flags (suc n) m done =
+    spends-more (rw suc-mul (omega arith)) (bind-spends (mode-spends scheme alphabet flags m) (λ v. modes-spends scheme alphabet flags n (m + 1) (done ++ v ∷ [])))
+
+pub macroModes-spends : (flags : List ℕ) (n : ℕ) → Spends (27 + n * 7) (macroModes flags n)
+unfolding macroModes
+macroModes-spends flags n =
+    spends-more (omega arith) (bind-spends (field-spends 3) (λ s. bind-spends (sent-spends s) (λ alphabet. modes-spends s alphabet flags n 0 [])))

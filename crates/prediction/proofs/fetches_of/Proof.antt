@@ -1,0 +1,92 @@
+-- `prediction::fetches_of` meets its contract.
+-- Assumes nothing.
+use mathlib.Core.Path.{_≡_, ap, _∙_}
+use Prim.Native.Nat.{_*_}
+use lib.IntN.{pos, _+ℤ_}
+use mir.Syntax.{w32}
+use mir.Val.{toZ, ofZ}
+use Rattle.numeric.proofs.Known.{Known, k-got, ask-size, back}
+use Rattle.geometry.specs.declared.Block.{Block}
+use Rattle.block_record.specs.declared.Vector.{Vector}
+use Rattle.prediction.specs.Motion.{subsampledAcross, subsampledUp, steps, down, upward}
+use Rattle.prediction.specs.Block.{fetchesOf}
+use borrow.Author.Needs.{needs}
+use Rattle.prediction.proofs.fetches_of.Statement.{statement}
+use Rattle.prediction.proofs.fetches_of.Tie as tie
+
+module _ (c : tie.After-begin-up2) where
+  abbrev a : tie.Start
+  a = c .before .before .before .before .before .before .before .before
+
+  abbrev b : Block
+  b = a .args .b
+
+  abbrev v : Vector
+  v = a .args .v
+
+  -- the steps along the axes
+  m : c .before .before .before .before .before .before .before .subsampled-across .result ≡ subsampledAcross (a .args .format) (b .plane)
+  m = c .before .before .before .before .before .before .before .subsampled-across .ensures
+
+  n : c .before .before .before .before .before .before .subsampled-up .result ≡ subsampledUp (a .args .format) (b .plane)
+  n = c .before .before .before .before .before .before .subsampled-up .ensures
+
+  -- the components
+  x : toZ w32 (ofZ w32 (v .x)) ≡ v .x
+  x = back w32 (v .x) (c .before .before .before .before .before .struct-told .given .0 .1)
+
+  y : toZ w32 (ofZ w32 (v .y)) ≡ v .y
+  y = back w32 (v .y) (c .before .before .before .before .before .struct-told .given .1 .0 .1)
+
+  abbrev kx1 : Known w32 (pos (8 * b .x) +ℤ down (steps (subsampledAcross (a .args .format) (b .plane))) (v .x)) 1048591
+  kx1 = k-got (c .before .before .before .begin-down .ok) (c .before .before .before .begin-down .ensures .0 ∙ (λ i. pos (8 * b .x) +ℤ down (steps (m i)) (x i))) (c .before .before .before .begin-down .ensures .1)
+
+  abbrev ky1 : Known w32 (pos (8 * b .y) +ℤ down (steps (subsampledUp (a .args .format) (b .plane))) (v .y)) 1048591
+  ky1 = k-got (c .before .before .begin-down2 .ok) (c .before .before .begin-down2 .ensures .0 ∙ (λ i. pos (8 * b .y) +ℤ down (steps (n i)) (y i))) (c .before .before .begin-down2 .ensures .1)
+
+  abbrev kx2 : Known w32 (pos (8 * b .x) +ℤ upward (steps (subsampledAcross (a .args .format) (b .plane))) (v .x)) 1048591
+  kx2 = k-got (c .before .begin-up .ok) (c .before .begin-up .ensures .0 ∙ (λ i. pos (8 * b .x) +ℤ upward (steps (m i)) (x i))) (c .before .begin-up .ensures .1)
+
+  abbrev ky2 : Known w32 (pos (8 * b .y) +ℤ upward (steps (subsampledUp (a .args .format) (b .plane))) (v .y)) 1048591
+  ky2 = k-got (c .begin-up2 .ok) (c .begin-up2 .ensures .0 ∙ (λ i. pos (8 * b .y) +ℤ upward (steps (n i)) (y i))) (c .begin-up2 .ensures .1)
+
+subsampled-across-requires : tie.Need-subsampled-across-requires
+subsampled-across-requires c κs = search needs
+
+subsampled-up-requires : tie.Need-subsampled-up-requires
+subsampled-up-requires c κs = search needs
+
+begin-down-requires : tie.Need-begin-down-requires
+begin-down-requires c κs = search needs
+
+begin-down-requires-2 : tie.Need-begin-down-requires-2
+begin-down-requires-2 c κs = search needs
+
+begin-up-requires : tie.Need-begin-up-requires
+begin-up-requires c κs = search needs
+
+begin-up-requires-2 : tie.Need-begin-up-requires-2
+begin-up-requires-2 c κs = search needs
+
+returns : tie.Need-returns
+unfolding fetchesOf
+returns c =
+    let k1 = kx1 c in
+    let k2 = ky1 c in
+    let k3 = kx2 c in
+    let k4 = ky2 c in (
+      λ i. record { x1 = k1 .reads i; y1 = k2 .reads i; x2 = k3 .reads i; y2 = k4 .reads i },
+      record { x1 = ask-size k1 1048591 tt; y1 = ask-size k2 1048591 tt; x2 = ask-size k3 1048591 tt; y2 = ask-size k4 1048591 tt },
+    )
+
+pub fetches-of-spec : {M : Type 1} → statement M
+fetches-of-spec =
+    tie.close
+    (tie.spec
+    subsampled-across-requires
+    subsampled-up-requires
+    begin-down-requires
+    begin-down-requires-2
+    begin-up-requires
+    begin-up-requires-2
+    returns)

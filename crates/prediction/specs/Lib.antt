@@ -1,0 +1,3 @@
+pub mod Motion
+pub mod Predicted
+pub mod Block

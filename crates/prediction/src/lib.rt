@@ -1,0 +1,343 @@
+// Prediction: the samples of a block, from golden or previous by its vector, with its residual.
+use block_record::Prediction;
+use block_record::Vector;
+use geometry::Block;
+use geometry::PixelFormat;
+use geometry::Plane;
+ghost use mathlib.Core.Path.{_≡_};
+ghost use Prim.Native.Nat.{_+_, _*_, _≤_, _<_};
+ghost use lib.IntN.{pos, natAbs, _+ℤ_};
+ghost use lib.ListN.{length};
+ghost use Rattle.numeric.specs.Clamp.{clamp255};
+ghost use Rattle.geometry.specs.Sizes.{across, blocksOf};
+ghost use Rattle.geometry.specs.Frame.{InFrame};
+ghost use Rattle.geometry.specs.Sample.{sampleAt};
+ghost use Rattle.block_record.specs.Record.{VectorInRange, PredictionInRange};
+ghost use Rattle.ways.specs.Corner.{rowAt, blockAt};
+ghost use Rattle.prediction.specs.Motion.{subsampledAcross, subsampledUp, steps, down, upward, inside, fetch};
+ghost use Rattle.prediction.specs.Predicted.{mean, summed};
+ghost use Rattle.prediction.specs.Block.{Small, Lies, Near, fetchesOf, meanAt, MeansOf, meanOf, withResidual, startOf};
+
+// Where the two fetches of a block begin: column and row in the plane, or outside of it.
+pub struct Fetches {
+    pub x1: i32,
+    pub y1: i32,
+    pub x2: i32,
+    pub y2: i32,
+}
+
+// Where a fetch that lies in the plane starts in the buffer.
+pub enum Start {
+    At(usize),
+    Outside,
+}
+
+// Is plane p subsampled across?
+fn subsampled_across(format: PixelFormat, p: u64) -> bool
+    ensures { λ r. ⌜ r ≡ subsampledAcross format p ⌝ }
+{
+    if p == 0 {
+        return false;
+    }
+    match format {
+        PixelFormat::Chroma420 => true,
+        PixelFormat::Chroma422 => true,
+        PixelFormat::Chroma444 => false,
+    }
+}
+
+// Is it subsampled up?
+fn subsampled_up(format: PixelFormat, p: u64) -> bool
+    ensures { λ r. ⌜ r ≡ subsampledUp format p ⌝ }
+{
+    if p == 0 {
+        return false;
+    }
+    match format {
+        PixelFormat::Chroma420 => true,
+        PixelFormat::Chroma422 => false,
+        PixelFormat::Chroma444 => false,
+    }
+}
+
+// A component of a vector in whole samples, its magnitude rounded down.
+fn down(subsampled: bool, z: i32) -> i32
+    requires { ⌜ natAbs z ≤ 31 ⌝ }
+    ensures { λ r. ⌜ (r ≡ down (steps subsampled) z) × (natAbs r ≤ 31) ⌝ }
+{
+    if subsampled {
+        return z / 4;
+    }
+    z / 2
+}
+
+// Its magnitude rounded up.
+fn upward(subsampled: bool, z: i32) -> i32
+    requires { ⌜ natAbs z ≤ 31 ⌝ }
+    ensures { λ r. ⌜ (r ≡ upward (steps subsampled) z) × (natAbs r ≤ 31) ⌝ }
+{
+    if subsampled {
+        if z < 0 {
+            return (z - 3) / 4;
+        }
+        return (z + 3) / 4;
+    }
+    if z < 0 {
+        return (z - 1) / 2;
+    }
+    (z + 1) / 2
+}
+
+// Where the fetch of a block begins along an axis on which the block is number `at`: magnitude down.
+fn begin_down(subsampled: bool, at: u64, z: i32) -> i32
+    requires { ⌜ (at < 131070) × (natAbs z ≤ 31) ⌝ }
+    ensures { λ r. ⌜ (r ≡ pos (8 * at) +ℤ down (steps subsampled) z) × (natAbs r ≤ 1048591) ⌝ }
+{
+    (8 * at) as i32 + down(subsampled, z)
+}
+
+// Magnitude up.
+fn begin_up(subsampled: bool, at: u64, z: i32) -> i32
+    requires { ⌜ (at < 131070) × (natAbs z ≤ 31) ⌝ }
+    ensures { λ r. ⌜ (r ≡ pos (8 * at) +ℤ upward (steps subsampled) z) × (natAbs r ≤ 1048591) ⌝ }
+{
+    (8 * at) as i32 + upward(subsampled, z)
+}
+
+// Where the fetches of block b begin.
+fn fetches_of(format: PixelFormat, b: Block, v: Vector) -> Fetches
+    requires { ⌜ (b .x < 131070) × (b .y < 131070) × VectorInRange v ⌝ }
+    ensures { λ r. ⌜ (r ≡ fetchesOf format b v) × Near r ⌝ }
+{
+    let across = subsampled_across(format, b.plane);
+    let up = subsampled_up(format, b.plane);
+    let x = v.x;
+    let y = v.y;
+    Fetches {
+        x1: begin_down(across, b.x, x),
+        y1: begin_down(up, b.y, y),
+        x2: begin_up(across, b.x, x),
+        y2: begin_up(up, b.y, y),
+    }
+}
+
+// The nearest number from 0 to size - 1.
+fn inside(size: usize, z: i32) -> usize
+    requires { ⌜ 0 < size ⌝ }
+    ensures { λ r. ⌜ (r ≡ inside size z) × (r < size) ⌝ }
+{
+    if z < 0 {
+        return 0;
+    }
+    let n = z as usize;
+    if n < size {
+        return n;
+    }
+    size - 1
+}
+
+// The sample in a column and a row of a plane, each clamped.
+fn fetch(s: &[u8], plane: Plane, column: i32, row: i32) -> u8
+    requires { ⌜ Lies plane (length (now s)) ⌝ }
+    ensures { λ r. ⌜ r ≡ fetch plane (now (s .entry)) column row ⌝ }
+{
+    let width = (8 * plane.across) as usize;
+    let y = inside((8 * plane.up) as usize, row);
+    let x = inside(width, column);
+    let at = plane.offset as usize + (y * width + x);
+    s[at]
+}
+
+// The floor of the mean.
+fn mean(p: u8, q: u8) -> u8
+    ensures { λ r. ⌜ r ≡ mean p q ⌝ }
+{
+    ((p as u32 + q as u32) / 2) as u8
+}
+
+// The means of the two fetches of a block, row by row.
+fn fetch_block(s: &[u8], plane: Plane, t: Fetches) -> [u8; 64]
+    requires { ⌜ Lies plane (length (now s)) × Near t ⌝ }
+    ensures { λ r. ⌜ MeansOf plane (now (s .entry)) t r ⌝ }
+{
+    let x1 = t.x1;
+    let y1 = t.y1;
+    let x2 = t.x2;
+    let y2 = t.y2;
+    let mut m = [0u8; 64];
+    let mut i: usize = 0;
+    while i < 64 {
+        let c = (i % 8) as i32;
+        let r = (i / 8) as i32;
+        let p = fetch(s, plane, x1 + c, y1 + r);
+        m[i] = mean(p, fetch(s, plane, x2 + c, y2 + r));
+        i += 1;
+    }
+    m
+}
+
+// A prediction, the mean of p and q, with a residual.
+fn sum(p: u8, q: u8, residual: i16) -> u8
+    ensures { λ r. ⌜ r ≡ clamp255 (pos (mean p q) +ℤ residual) ⌝ }
+{
+    numeric::clamp_to_byte(mean(p, q) as i32 + residual as i32)
+}
+
+// 8 samples from `at` on, predicted by what source has from a and from b on, with the residuals from k on.
+fn write_row(
+    new: &mut [u8],
+    at: usize,
+    source: &[u8],
+    a: usize,
+    b: usize,
+    residual: &[i16],
+    k: usize,
+)
+    requires { ⌜ (at + 8 ≤ length (now new)) × (a + 8 ≤ length (now source)) × (b + 8 ≤ length (now source)) × (k + 8 ≤ length (now residual)) ⌝ }
+    ensures { λ _. ⌜ now (new .exit) ≡ rowAt (λ c. withResidual (now (residual .entry)) (k + c) (meanOf (now (source .entry)) (a + c) (b + c))) at (now (new .entry)) ⌝ }
+{
+    let mut c: usize = 0;
+    while c < 8 {
+        let p = source[a + c];
+        let q = source[b + c];
+        new[at + c] = sum(p, q, residual[k + c]);
+        c += 1;
+    }
+}
+
+// A block of `new`, where a row has `row` samples, predicted by what source has from a and from b on, where a row has `stride`.
+fn write_rows(
+    new: &mut [u8],
+    corner: usize,
+    row: usize,
+    source: &[u8],
+    a: usize,
+    b: usize,
+    stride: usize,
+    residual: &[i16],
+)
+    requires { ⌜ (corner + 7 * row + 8 ≤ length (now new)) × (a + 7 * stride + 8 ≤ length (now source)) × (b + 7 * stride + 8 ≤ length (now source)) × (length (now residual) ≡ 64) ⌝ }
+    ensures { λ _. ⌜ now (new .exit) ≡ blockAt (λ c r. withResidual (now (residual .entry)) (r * 8 + c) (meanOf (now (source .entry)) (a + r * stride + c) (b + r * stride + c))) corner row (now (new .entry)) ⌝ }
+{
+    let mut r: usize = 0;
+    while r < 8 {
+        write_row(
+            new,
+            corner + r * row,
+            source,
+            a + r * stride,
+            b + r * stride,
+            residual,
+            r * 8,
+        );
+        r += 1;
+    }
+}
+
+// Where the fetch that begins in column x and row y starts, if it lies in the plane.
+fn start_of(plane: Plane, x: i32, y: i32) -> Start
+    requires { ⌜ Small plane ⌝ }
+    ensures { λ r. ⌜ r ≡ startOf plane x y ⌝ }
+{
+    if x < 0 {
+        return Start::Outside;
+    }
+    if y < 0 {
+        return Start::Outside;
+    }
+    let n = x as usize;
+    let m = y as usize;
+    let width = (8 * plane.across) as usize;
+    let height = (8 * plane.up) as usize;
+    if width < n + 8 {
+        return Start::Outside;
+    }
+    if height < m + 8 {
+        return Start::Outside;
+    }
+    Start::At(plane.offset as usize + (m * width + n))
+}
+
+// A block whose fetches do not both lie in the plane.
+fn write_clamped(
+    new: &mut [u8],
+    corner: usize,
+    source: &[u8],
+    plane: Plane,
+    t: Fetches,
+    residual: &[i16],
+)
+    requires { ⌜ (corner + 7 * (8 * plane .across) + 8 ≤ length (now new)) × Lies plane (length (now source)) × Near t × (length (now residual) ≡ 64) ⌝ }
+    ensures { λ _. ⌜ now (new .exit) ≡ blockAt (λ c r. withResidual (now (residual .entry)) (r * 8 + c) (meanAt plane (now (source .entry)) t c r)) corner (8 * plane .across) (now (new .entry)) ⌝ }
+{
+    let row = (8 * plane.across) as usize;
+    let m = fetch_block(source, plane, t);
+    write_rows(new, corner, row, &m, 0, 0, 8, residual);
+}
+
+// A block predicted from `source`.
+fn write_moved(
+    new: &mut [u8],
+    corner: usize,
+    source: &[u8],
+    plane: Plane,
+    t: Fetches,
+    residual: &[i16],
+)
+    requires { ⌜ (corner + 7 * (8 * plane .across) + 8 ≤ length (now new)) × Lies plane (length (now source)) × Near t × (length (now residual) ≡ 64) ⌝ }
+    ensures { λ _. ⌜ now (new .exit) ≡ blockAt (λ c r. withResidual (now (residual .entry)) (r * 8 + c) (meanAt plane (now (source .entry)) t c r)) corner (8 * plane .across) (now (new .entry)) ⌝ }
+{
+    let row = (8 * plane.across) as usize;
+    let Start::At(a) = start_of(plane, t.x1, t.y1) else {
+        write_clamped(new, corner, source, plane, t, residual);
+        return;
+    };
+    let Start::At(b) = start_of(plane, t.x2, t.y2) else {
+        write_clamped(new, corner, source, plane, t, residual);
+        return;
+    };
+    write_rows(new, corner, row, source, a, b, row, residual);
+}
+
+// The samples of block b, predicted from golden and previous as lent, with its 64 residuals.
+pub fn write_block(
+    new: &mut [u8],
+    golden: &[u8],
+    previous: &[u8],
+    residual: &[i16],
+    format: PixelFormat,
+    w: u64,
+    h: u64,
+    b: Block,
+    p: Prediction,
+)
+    requires { ⌜ (w ≤ 65535) × (h ≤ 65535) × InFrame format w h b × PredictionInRange p × (length (now new) ≡ 64 * blocksOf format w h)
+        × (length (now golden) ≡ 64 * blocksOf format w h) × (length (now previous) ≡ 64 * blocksOf format w h) × (length (now residual) ≡ 64) ⌝ }
+    ensures { λ _. ⌜ now (new .exit) ≡ blockAt (summed format w h (now (golden .entry)) (now (previous .entry)) (now (residual .entry)) p b) (sampleAt format w h b 0 0) (8 * across format w (b .plane)) (now (new .entry)) ⌝ }
+{
+    let plane = geometry::plane_of(format, w, h, b.plane);
+    let corner = geometry::sample_offset(format, w, h, b, 0, 0) as usize;
+    match p {
+        Prediction::None => {
+            let grey = [128u8; 64];
+            write_rows(
+                new,
+                corner,
+                (8 * plane.across) as usize,
+                &grey,
+                0,
+                0,
+                8,
+                residual,
+            )
+        }
+        Prediction::Previous(v) => {
+            let t = fetches_of(format, b, v);
+            write_moved(new, corner, previous, plane, t, residual)
+        }
+        Prediction::Golden(v) => {
+            let t = fetches_of(format, b, v);
+            write_moved(new, corner, golden, plane, t, residual)
+        }
+    }
+}

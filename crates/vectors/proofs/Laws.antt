@@ -1,0 +1,184 @@
+-- Vectors keep the reading algebra's laws, and records stay in their range. Assumes nothing.
+use Prim.Native.Nat.{ℕ, zero, suc, _+_, _*_}
+use native.Mathlib.Omega.{arith}
+use native.Mathlib.Nat.{zero-mul, suc-mul}
+use mathlib.Core.Path.{_≡_, refl, _∙_, subst}
+use mathlib.Core.List.{List, [], _∷_}
+use mathlib.Core.Bool.{Bool, true, false}
+use lib.Dec.{eqb, ltb}
+use lib.ListN.{length, getD, set, length-set}
+use borrow.Author.Tests.{ltb-false}
+use Rattle.bitstream.specs.Reading.{got, bind, pure, choose, field}
+use Rattle.bitstream.proofs.Laws.{Lawful, pure-lawful, pick-lawful, bind-lawful, field-lawful, whole-lawful, bind-got}
+use Rattle.bitstream.proofs.Spends.{Spends, spends-more, pure-spends, field-spends, field-then, bind-spends, pick-spends, whole-spends}
+use Rattle.geometry.specs.declared.PixelFormat.{PixelFormat}
+use Rattle.geometry.specs.declared.Place.{Place}
+use Rattle.geometry.specs.Sizes.{blocksEach}
+use Rattle.geometry.specs.Order.{at, codedMacros}
+use Rattle.block_record.specs.declared.Vector.{Vector}
+use Rattle.block_record.specs.declared.Prediction.{Prediction}
+use Rattle.block_record.specs.declared.BlockRecord.{BlockRecord}
+use Rattle.block_record.specs.Record.{VectorInRange, PredictionInRange, InRange, withPrediction, uncoded}
+use Rattle.vectors.specs.declared.Motion.{Motion}
+use Rattle.vectors.specs.Component.{added, width, least, variable, byCode, component, vector}
+use Rattle.vectors.specs.Motion.{zeroVector, still, moving, movingGolden, ifCoded, row, movingFour, motion, predictionOf, MotionInRange}
+use Rattle.vectors.specs.Vectors.{numberIn, predictedAt, predictedFrom, State, macroBlock, macroBlocks, vectors}
+use Rattle.vectors.proofs.Components.{long-fits}
+use Rattle.vectors.proofs.Motions.{zero-small, prediction-small}
+use Rattle.vectors.proofs.Records.{AllInRange, macro-through, first}
+
+-- ---- Local and Firm
+added-lawful : (n a : ℕ) → Lawful (added n a)
+unfolding added
+added-lawful n a = bind-lawful (field-lawful n) (λ v. bind-lawful (field-lawful 1) (λ s. pure-lawful _))
+
+component-lawful : (code : ℕ) → Lawful (component code)
+unfolding component byCode variable
+component-lawful code =
+    whole-lawful (pick-lawful (eqb code 0)
+    (bind-lawful (field-lawful 3) (λ t. pick-lawful (ltb t 3) (pure-lawful _) (added-lawful (width t) (least t))))
+    (added-lawful 5 0))
+
+vector-lawful : (code : ℕ) → Lawful (vector code)
+unfolding vector
+vector-lawful code = bind-lawful (component-lawful code) (λ x. bind-lawful (component-lawful code) (λ y. pure-lawful _))
+
+row-lawful : (code : ℕ) (left right : Bool) → Lawful (row code left right)
+unfolding row ifCoded
+row-lawful code left right =
+    bind-lawful (pick-lawful left (vector-lawful code) (pure-lawful zeroVector)) (λ v. bind-lawful (pick-lawful right (vector-lawful code) (pure-lawful zeroVector)) (λ u. pure-lawful _))
+
+motion-lawful : (code mode : ℕ) (a b c d : Bool) (last last2 : Vector) → Lawful (motion code mode a b c d last last2)
+unfolding motion moving movingGolden movingFour
+motion-lawful code mode a b c d last last2 =
+    pick-lawful (eqb mode 2) (bind-lawful (vector-lawful code) (λ v. pure-lawful _))
+    (pick-lawful (eqb mode 6) (bind-lawful (vector-lawful code) (λ v. pure-lawful _))
+    (pick-lawful (eqb mode 7) (bind-lawful (row-lawful code a b) (λ l. bind-lawful (row-lawful code c d) (λ u. pure-lawful _))) (pure-lawful (still mode last last2))))
+
+module _ (f : PixelFormat) (w h code : ℕ) where
+  macro-lawful : (mode : ℕ) (q : Place) (s : State) → Lawful (macroBlock f w h code mode q s)
+  unfolding macroBlock
+  macro-lawful mode q s = bind-lawful (motion-lawful code mode _ _ _ _ (s .last) (s .last2)) (λ m. pure-lawful _)
+
+  each-lawful : (modes : List ℕ) (n m : ℕ) (s : State) → Lawful (macroBlocks f w h code modes n m s)
+  unfolding macroBlocks
+  each-lawful modes zero m s = pure-lawful s
+  each-lawful modes (suc n) m s = bind-lawful (macro-lawful (getD modes m 0) (getD (codedMacros w h) m (at 0 0)) s) (λ t. each-lawful modes n (m + 1) t)
+
+pub vectors-lawful : (f : PixelFormat) (w h : ℕ) (modes : List ℕ) (rs : List BlockRecord) → Lawful (vectors f w h modes rs)
+unfolding vectors
+vectors-lawful f w h modes rs = bind-lawful (field-lawful 1) (λ code. bind-lawful (each-lawful f w h code modes (length modes) 0 _) (λ s. pure-lawful _))
+
+-- ---- bits that are spent: 8 for a component, 16 for a vector, 64 for a macro block
+added-spends : (n a : ℕ) → Spends (n + 1) (added n a)
+unfolding added
+added-spends n a = spends-more (omega arith) (bind-spends (field-spends n) (λ v. bind-spends {b = 0} (field-spends 1) (λ s. pure-spends _)))
+
+component-spends : (code : ℕ) → Spends 8 (component code)
+unfolding component byCode variable
+component-spends code =
+    whole-spends (pick-spends (eqb code 0)
+    (λ _. field-then 3 {b = 5} (λ t l. pick-spends (ltb t 3) (λ _. spends-more (omega arith) (pure-spends _))
+    (λ e. spends-more (omega (arith, long-fits t (ltb-false t 3 e) l .0)) (added-spends (width t) (least t)))))
+    (λ _. spends-more (omega arith) (added-spends 5 0)))
+
+vector-spends : (code : ℕ) → Spends 16 (vector code)
+unfolding vector
+vector-spends code = bind-spends {b = 8} (component-spends code) (λ x. bind-spends {b = 0} (component-spends code) (λ y. pure-spends _))
+
+coded-spends : (code : ℕ) (t : Bool) → Spends 16 (ifCoded code t)
+unfolding ifCoded
+coded-spends code t = pick-spends t (λ _. vector-spends code) (λ _. spends-more (omega arith) (pure-spends zeroVector))
+
+row-spends : (code : ℕ) (left right : Bool) → Spends 32 (row code left right)
+unfolding row
+row-spends code left right = bind-spends {b = 16} (coded-spends code left) (λ v. bind-spends {b = 0} (coded-spends code right) (λ u. pure-spends _))
+
+motion-spends : (code mode : ℕ) (a b c d : Bool) (last last2 : Vector) → Spends 64 (motion code mode a b c d last last2)
+unfolding motion moving movingGolden movingFour
+motion-spends code mode a b c d last last2 =
+    pick-spends (eqb mode 2) (λ _. spends-more (omega arith) (bind-spends {b = 0} (vector-spends code) (λ v. pure-spends _)))
+    (λ _. pick-spends (eqb mode 6) (λ _. spends-more (omega arith) (bind-spends {b = 0} (vector-spends code) (λ v. pure-spends _)))
+    (λ _. pick-spends (eqb mode 7) (λ _. bind-spends {b = 32} (row-spends code a b) (λ l. bind-spends {b = 0} (row-spends code c d) (λ u. pure-spends _)))
+    (λ _. spends-more (omega arith) (pure-spends (still mode last last2)))))
+
+module _ (f : PixelFormat) (w h code : ℕ) where
+  macro-spends : (mode : ℕ) (q : Place) (s : State) → Spends 64 (macroBlock f w h code mode q s)
+  unfolding macroBlock
+  macro-spends mode q s = bind-spends {b = 0} (motion-spends code mode _ _ _ _ (s .last) (s .last2)) (λ m. pure-spends _)
+
+  each-spends : (modes : List ℕ) (n m : ℕ) (s : State) → Spends (n * 64) (macroBlocks f w h code modes n m s)
+  unfolding macroBlocks
+  each-spends modes zero m s = rw zero-mul (pure-spends s)
+  each-spends modes (suc n) m s =
+      spends-more (rw suc-mul (omega arith)) (bind-spends (macro-spends (getD modes m 0) (getD (codedMacros w h) m (at 0 0)) s) (λ t. each-spends modes n (m + 1) t))
+
+pub vectors-spends : (f : PixelFormat) (w h : ℕ) (modes : List ℕ) (rs : List BlockRecord) → Spends (1 + length modes * 64) (vectors f w h modes rs)
+unfolding vectors
+vectors-spends f w h modes rs =
+    spends-more (omega arith) (bind-spends (field-spends 1) (λ code. bind-spends {b = 0} (each-spends f w h code modes (length modes) 0 _) (λ s. pure-spends _)))
+
+-- ---- records stay as many, and in their range
+range-at : (rs : List BlockRecord) (i : ℕ) → AllInRange rs → InRange (getD rs i uncoded)
+range-at [] i a = record { qi-index = omega arith; prediction = tt }
+range-at (r ∷ rs) zero a = a .0
+range-at (r ∷ rs) (suc i) a = range-at rs i (a .1)
+
+range-set : (rs : List BlockRecord) (i : ℕ) (r : BlockRecord) → AllInRange rs → InRange r → AllInRange (set rs i r)
+range-set [] i r a h = a
+range-set (s ∷ ss) zero r a h = (h, a .1)
+range-set (s ∷ ss) (suc i) r a h = (a .0, range-set ss i r (a .1) h)
+
+-- what the records keep: their number, and their range
+pub record Keeps (n : ℕ) (rs : List BlockRecord) : Type 0 where
+  pub long : length rs ≡ n
+  pub in-range : AllInRange rs
+
+predicted-keeps : (n i : ℕ) (p : Prediction) (rs : List BlockRecord) → PredictionInRange p → Keeps n rs → Keeps n (predictedAt i p rs)
+unfolding predictedAt
+predicted-keeps n i p rs h k = record {
+  long = length-set rs i _ ∙ k .long;
+  in-range = range-set rs i _ (k .in-range) (go (getD rs i uncoded .coded));
+}
+  where
+    there : InRange (getD rs i uncoded)
+    there = range-at rs i (k .in-range)
+
+    go : (t : Bool) → InRange (choose t (withPrediction p (getD rs i uncoded)) (getD rs i uncoded))
+    go true = record { qi-index = there .qi-index; prediction = h }
+    go false = there
+
+module _ (f : PixelFormat) (w h : ℕ) where
+  blocks-keep : (q : Place) (m : Motion) → MotionInRange m → (l n k : ℕ) (rs : List BlockRecord) → Keeps l rs → Keeps l (predictedFrom f w h q m n k rs)
+  unfolding predictedFrom
+  blocks-keep q m g l zero k rs a = a
+  blocks-keep q m g l (suc n) k rs a = blocks-keep q m g l n (k + 1) _ (predicted-keeps l (numberIn f w h q k) (predictionOf f m k) rs (prediction-small f m k g) a)
+
+  -- what a state keeps
+  pub record StateKeeps (l : ℕ) (s : State) : Type 0 where
+    pub records : Keeps l (s .records)
+    pub last : VectorInRange (s .last)
+    pub last2 : VectorInRange (s .last2)
+
+  macro-keeps : (code mode : ℕ) (q : Place) (s : State) (l : ℕ) (p : List ℕ) (i : ℕ) {t : State} {e : ℕ} → StateKeeps l s → macroBlock f w h code mode q s p i ≡ got t e → StateKeeps l t
+  macro-keeps code mode q s l p i a r =
+      let u = macro-through f w h code mode q s p i (a .last) (a .last2) r in
+      subst (StateKeeps l) (u .2)
+      (record { records = blocks-keep q (u .0 .motion) (u .1 .motion) l (blocksEach f) 0 (s .records) (a .records); last = u .1 .last; last2 = u .1 .last2 })
+
+  each-keep : (code : ℕ) (modes : List ℕ) (n m : ℕ) (s : State) (l : ℕ) (p : List ℕ) (i : ℕ) {t : State} {e : ℕ} → StateKeeps l s → macroBlocks f w h code modes n m s p i ≡ got t e → StateKeeps l t
+  unfolding macroBlocks
+  each-keep code modes zero m s l p i {t} {e} a r = let z : s ≡ t = cc in subst (StateKeeps l) z a
+  each-keep code modes (suc n) m s l p i {t} {e} a r =
+      let u = bind-got (macroBlock f w h code (getD modes m 0) (getD (codedMacros w h) m (at 0 0)) s) (macroBlocks f w h code modes n (m + 1)) p i r in
+      each-keep code modes n (m + 1) (u .0) l p (u .1) (macro-keeps code (getD modes m 0) (getD (codedMacros w h) m (at 0 0)) s l p i a (u .2)) (u .3)
+
+  -- records in their range stay so, and as many: every vector of the result is within ±31
+  pub vectors-keep : (modes : List ℕ) (rs : List BlockRecord) (p : List ℕ) (i : ℕ) {ss : List BlockRecord} {e : ℕ} → AllInRange rs → vectors f w h modes rs p i ≡ got ss e → Keeps (length rs) ss
+  unfolding vectors
+  vectors-keep modes rs p i {ss} {e} a r =
+      let u = bind-got (field 1) (λ code. bind (macroBlocks f w h code modes (length modes) 0 (first f w h modes rs p i)) (λ s. pure (s .records))) p i r in
+      let v = bind-got (macroBlocks f w h (u .0) modes (length modes) 0 (first f w h modes rs p i)) (λ s. pure (s .records)) p (u .1) (u .3) in
+      let k = each-keep (u .0) modes (length modes) 0 (first f w h modes rs p i) (length rs) p (u .1) (record { records = record { long = refl; in-range = a }; last = zero-small; last2 = zero-small }) (v .2) in
+      let z : v .0 .records ≡ ss = cc in
+      subst (Keeps (length rs)) z (k .records)

@@ -1,0 +1,5 @@
+pub mod Components
+pub mod Motions
+pub mod Records
+pub mod Laws
+pub mod Examples

@@ -1,0 +1,242 @@
+-- Records in work memory, and the macro blocks one after the other. Assumes nothing.
+use Prim.Native.Nat.{ℕ, zero, suc, _+_, _-_, _≤_, _<_}
+use native.Mathlib.Omega.{arith}
+use mathlib.Core.Path.{_≡_, refl, sym, ap, _∙_, subst}
+use mathlib.Core.List.{List, [], _∷_, map}
+use mathlib.Core.Bool.{true, false}
+use lib.ListN.{length, getD, set, List·getD-map}
+use lib.Seq.{set-getD}
+use Rattle.bitstream.specs.Reading.{Outcome, got, refused, pure, field}
+use Rattle.bitstream.proofs.Laws.{bind-got}
+use Rattle.geometry.specs.declared.PixelFormat.{PixelFormat}
+use Rattle.geometry.specs.declared.PixelFormat.the-variants.{Chroma420, Chroma422, Chroma444}
+use Rattle.geometry.specs.declared.Place.{Place}
+use Rattle.geometry.specs.Sizes.{blocksEach}
+use Rattle.geometry.specs.Order.{at, codedMacros}
+use Rattle.block_record.specs.declared.Vector.{Vector}
+use Rattle.block_record.specs.declared.Prediction.{Prediction}
+use Rattle.block_record.specs.declared.BlockRecord.{BlockRecord}
+use Rattle.block_record.specs.Record.{VectorInRange, PredictionInRange, InRange, withPrediction, uncoded}
+use Rattle.block_record.specs.Packed.{packed, unpacked, predictionAt}
+use Rattle.block_record.proofs.Laws.{unpacked-packed, packed-uncoded}
+use Rattle.runs.specs.Runs.{asDone}
+use Rattle.runs.specs.declared.Done.{Done}
+use Rattle.runs.specs.declared.Done.the-variants as done
+use Rattle.vectors.specs.declared.Motion.{Motion}
+use Rattle.vectors.specs.declared.Moved.{Moved}
+use Rattle.vectors.specs.declared.Step.{Step}
+use Rattle.vectors.specs.declared.Step.the-variants.{Next, Refused}
+use Rattle.vectors.specs.Motion.{zeroVector, motion, predictionOf, MovedInRange}
+use Rattle.vectors.specs.Vectors.{numberIn, codedIn, predictedAt, predictedFrom, State, macroBlock, macroBlocks, vectors}
+use Rattle.vectors.specs.Memory.{IsPacked, AllPacked, recordsOf, stateOf, StoredRecords, StoredState, asStep}
+use Rattle.vectors.proofs.Motions.{motion-small}
+
+-- ---- packed numbers
+unpacked-zero : unpacked 0 ≡ uncoded
+unfolding unpacked predictionAt
+unpacked-zero = refl
+
+-- the number of a record in its range
+is-packed : (r : BlockRecord) → InRange r → IsPacked (packed r)
+is-packed r h = let e = unpacked-packed r h in record { in-range = subst InRange (sym e) h; same = ap packed e }
+
+zero-packed : IsPacked 0
+zero-packed = subst IsPacked packed-uncoded (is-packed uncoded (record { qi-index = omega arith; prediction = tt }))
+
+pub all-at : (l : List ℕ) (i : ℕ) → AllPacked l → IsPacked (getD l i 0)
+unfolding AllPacked
+all-at [] i a = zero-packed
+all-at (n ∷ ns) zero a = a .0
+all-at (n ∷ ns) (suc i) a = all-at ns i (a .1)
+
+pub all-set : (l : List ℕ) (i n : ℕ) → AllPacked l → IsPacked n → AllPacked (set l i n)
+unfolding AllPacked
+all-set [] i n a h = a
+all-set (m ∷ ms) zero n a h = (h, a .1)
+all-set (m ∷ ms) (suc i) n a h = (a .0, all-set ms i n (a .1) h)
+
+-- nothing is lost
+pub packed-records : (l : List ℕ) → AllPacked l → l ≡ map packed (recordsOf l)
+unfolding AllPacked
+packed-records [] a = refl
+packed-records (n ∷ ns) a = let e = sym (a .0 .same) in let f = packed-records ns (a .1) in λ i. e i ∷ f i
+
+-- records in their range, and back
+abbrev pub AllInRange : List BlockRecord → Type 0
+AllInRange [] = Unit {0}
+AllInRange (r ∷ rs) = InRange r × AllInRange rs
+
+pub all-packed : (rs : List BlockRecord) → AllInRange rs → AllPacked (map packed rs)
+unfolding AllPacked
+all-packed [] a = tt
+all-packed (r ∷ rs) a = (is-packed r (a .0), all-packed rs (a .1))
+
+pub records-packed : (rs : List BlockRecord) → AllInRange rs → recordsOf (map packed rs) ≡ rs
+records-packed [] a = refl
+records-packed (r ∷ rs) a = let e = unpacked-packed r (a .0) in let f = records-packed rs (a .1) in λ i. e i ∷ f i
+
+-- ---- the record of a number, and one more record
+pub record-at : (l : List ℕ) (i : ℕ) → getD (recordsOf l) i uncoded ≡ unpacked (getD l i 0)
+record-at l i = ap (getD (recordsOf l) i) (sym unpacked-zero) ∙ List·getD-map unpacked l i 0
+
+records-set : (l : List ℕ) (i n : ℕ) → recordsOf (set l i n) ≡ set (recordsOf l) i (unpacked n)
+records-set [] i n = refl
+records-set (m ∷ ms) zero n = refl
+records-set (m ∷ ms) (suc i) n = ap (λ (rs : List BlockRecord). unpacked m ∷ rs) (records-set ms i n)
+
+pub coded-at : (f : PixelFormat) (w h : ℕ) (q : Place) (l : List ℕ) (k i : ℕ) → i ≡ numberIn f w h q k → unpacked (getD l i 0) .coded ≡ codedIn f w h q (recordsOf l) k
+unfolding codedIn
+coded-at f w h q l k i e = ap (λ (j : ℕ). unpacked (getD l j 0) .coded) e ∙ sym (ap (λ (r : BlockRecord). r .coded) (record-at l (numberIn f w h q k)))
+
+-- a coded block gets its prediction, and one that is not coded stays
+module _ (l : List ℕ) (i : ℕ) (p : Prediction) (a : AllPacked l) where
+  pub predicted-not : unpacked (getD l i 0) .coded ≡ false → recordsOf l ≡ predictedAt i p (recordsOf l)
+  unfolding predictedAt
+  predicted-not h = sym (rw (ap (λ (r : BlockRecord). r .coded) (record-at l i) ∙ h) (set-getD (recordsOf l) i uncoded))
+
+  module _ (k : PredictionInRange p) where
+    abbrev new : BlockRecord
+    new = withPrediction p (unpacked (getD l i 0))
+
+    new-in-range : InRange new
+    new-in-range = record { qi-index = all-at l i a .in-range .qi-index; prediction = k }
+
+    pub predicted-is : unpacked (getD l i 0) .coded ≡ true → recordsOf (set l i (packed new)) ≡ predictedAt i p (recordsOf l)
+    unfolding predictedAt
+    predicted-is h =
+        let e = record-at l i in
+        records-set l i (packed new)
+        ∙ ap (set (recordsOf l) i) (unpacked-packed new new-in-range ∙ sym (rw (e, h)))
+
+    pub predicted-all : AllPacked (set l i (packed new))
+    predicted-all = all-set l i (packed new) a (is-packed new new-in-range)
+
+-- ---- the blocks of a macro block, one after the other
+pub each-four : (f : PixelFormat) → 4 ≤ blocksEach f
+each-four Chroma420 = omega arith
+each-four Chroma422 = omega arith
+each-four Chroma444 = omega arith
+
+module _ (f : PixelFormat) (w h : ℕ) (q : Place) (m : Motion) (n k : ℕ) (rs : List BlockRecord) where
+  pub blocks-done : n ≤ k → predictedFrom f w h q m (n - k) k rs ≡ rs
+  unfolding predictedFrom
+  blocks-done l = let z : n - k ≡ 0 = omega arith in rw z
+
+  blocks-suc : (j : ℕ) → predictedFrom f w h q m (suc j) k rs ≡ predictedFrom f w h q m j (k + 1) (predictedAt (numberIn f w h q k) (predictionOf f m k) rs)
+  unfolding predictedFrom
+  blocks-suc j = refl
+
+  pub blocks-on : k < n → predictedFrom f w h q m (n - k) k rs ≡ predictedFrom f w h q m (n - (k + 1)) (k + 1) (predictedAt (numberIn f w h q k) (predictionOf f m k) rs)
+  blocks-on l = let z : n - k ≡ suc (n - (k + 1)) = omega arith in ap (λ (j : ℕ). predictedFrom f w h q m j k rs) z ∙ blocks-suc (n - (k + 1))
+
+-- ---- one macro block
+module _ (f : PixelFormat) (w h code mode : ℕ) (q : Place) (s : State) (p : List ℕ) (i : ℕ) where
+  abbrev pub moves : Outcome Moved
+  moves =
+      motion code mode (codedIn f w h q (s .records) 0) (codedIn f w h q (s .records) 1) (codedIn f w h q (s .records) 2) (codedIn f w h q (s .records) 3)
+      (s .last) (s .last2) p i
+
+  abbrev pub movedTo : Moved → State
+  movedTo m = record { records = predictedFrom f w h q (m .motion) (blocksEach f) 0 (s .records); last = m .last; last2 = m .last2 }
+
+  pub macro-end : {k e : ℕ} → moves ≡ refused k e → macroBlock f w h code mode q s p i ≡ refused k e
+  unfolding macroBlock
+  macro-end g = rw g
+
+  pub macro-moved : {m : Moved} {e : ℕ} → moves ≡ got m e → macroBlock f w h code mode q s p i ≡ got (movedTo m) e
+  unfolding macroBlock
+  macro-moved g = rw g
+
+  -- what a macro block that was got went through
+  pub macro-through : VectorInRange (s .last) → VectorInRange (s .last2) → {t : State} {e : ℕ} → macroBlock f w h code mode q s p i ≡ got t e → (m : Moved) × MovedInRange m × (movedTo m ≡ t)
+  unfolding macroBlock
+  macro-through k k2 r =
+      let u = bind-got
+      (motion code mode (codedIn f w h q (s .records) 0) (codedIn f w h q (s .records) 1) (codedIn f w h q (s .records) 2) (codedIn f w h q (s .records) 3) (s .last) (s .last2))
+      (λ m. pure (movedTo m)) p i r in
+      (u .0, motion-small code mode _ _ _ _ (s .last) (s .last2) p i k k2 (u .0) (u .1) (u .2), same (u .0) (u .3))
+    where
+      same : (m : Moved) {d : ℕ} {t : State} {e : ℕ} → _≡_ {A = Outcome State} (got (movedTo m) d) (got t e) → movedTo m ≡ t
+      same m z = cc
+
+-- ---- macro blocks, one after the other
+module _ (f : PixelFormat) (w h code : ℕ) (modes p : List ℕ) (n m i : ℕ) (s : State) where
+  abbrev pub this : Outcome State
+  this = macroBlock f w h code (getD modes m 0) (getD (codedMacros w h) m (at 0 0)) s p i
+
+  pub each-done : n ≤ m → macroBlocks f w h code modes (n - m) m s p i ≡ got s i
+  unfolding macroBlocks
+  each-done l = let z : n - m ≡ 0 = omega arith in rw z
+
+  pub each-end : m < n → {k e : ℕ} → this ≡ refused k e → macroBlocks f w h code modes (n - m) m s p i ≡ refused k e
+  unfolding macroBlocks
+  each-end l g = let z : n - m ≡ suc (n - (m + 1)) = omega arith in rw (z, g)
+
+  each-suc : (j : ℕ) {t : State} {e : ℕ} → this ≡ got t e → macroBlocks f w h code modes (suc j) m s p i ≡ macroBlocks f w h code modes j (m + 1) t p e
+  unfolding macroBlocks
+  each-suc j g = rw g
+
+  pub each-on : m < n → {t : State} {e : ℕ} → this ≡ got t e → macroBlocks f w h code modes (n - m) m s p i ≡ macroBlocks f w h code modes (n - (m + 1)) (m + 1) t p e
+  each-on l g = let z : n - m ≡ suc (n - (m + 1)) = omega arith in ap (λ (j : ℕ). macroBlocks f w h code modes j m s p i) z ∙ each-suc (n - (m + 1)) g
+
+-- ---- the whole
+module _ (f : PixelFormat) (w h : ℕ) (modes : List ℕ) (rs : List BlockRecord) (p : List ℕ) (i : ℕ) where
+  abbrev pub first : State
+  first = record { records = rs; last = zeroVector; last2 = zeroVector }
+
+  pub all-end : {k e : ℕ} → field 1 p i ≡ refused k e → vectors f w h modes rs p i ≡ refused k e
+  unfolding vectors
+  all-end g = rw g
+
+  pub all-refused : {c e k d : ℕ} → field 1 p i ≡ got c e → macroBlocks f w h c modes (length modes) 0 first p e ≡ refused k d → vectors f w h modes rs p i ≡ refused k d
+  unfolding vectors
+  all-refused g r = rw (g, r)
+
+  pub all-got : {c e d : ℕ} {s : State} → field 1 p i ≡ got c e → macroBlocks f w h c modes (length modes) 0 first p e ≡ got s d → vectors f w h modes rs p i ≡ got (s .records) d
+  unfolding vectors
+  all-got g r = rw (g, r)
+
+-- ---- what an answer says of the outcome, by its arm, where the slice holds `out`
+module _ (out : List ℕ) where
+  pub step-next : (o : Outcome State) {r : Step} {v v2 : Vector} {e : ℕ} → r ≡ asStep o → StoredState out o → r ≡ Next v v2 e → (o ≡ got (stateOf out v v2) e) × AllPacked out
+  step-next (got s d) a k g =
+      let z = sym a ∙ g in
+      ((λ i. got (record { records = sym (k .0) i; last = next-last z i; last2 = next-last2 z i }) (next-place z i)), k .1)
+    where
+      next-last : {v v2 u u2 : Vector} {d e : ℕ} → Next v v2 d ≡ Next u u2 e → v ≡ u
+      next-last z = cc
+
+      next-last2 : {v v2 u u2 : Vector} {d e : ℕ} → Next v v2 d ≡ Next u u2 e → v2 ≡ u2
+      next-last2 z = cc
+
+      next-place : {v v2 u u2 : Vector} {d e : ℕ} → Next v v2 d ≡ Next u u2 e → d ≡ e
+      next-place z = cc
+  step-next (refused j d) a k g = let z : _≡_ {A = ℕ} 0 1 = cc in absurd (omega arith)
+
+pub step-refused : (o : Outcome State) {r : Step} {k e : ℕ} → r ≡ asStep o → r ≡ Refused k e → o ≡ refused k e
+step-refused (got s d) a g = let z : _≡_ {A = ℕ} 0 1 = cc in absurd (omega arith)
+step-refused (refused j d) a g = cc
+
+-- ---- what a return has to show
+module _ (out : List ℕ) (o : Outcome State) where
+  pub on-step-refused : {k e : ℕ} → o ≡ refused k e → (Refused k e ≡ asStep o) × StoredState out o
+  on-step-refused h = rw h (refl, tt)
+
+  pub on-step : {s : State} {e : ℕ} → o ≡ got s e → recordsOf out ≡ s .records → AllPacked out → (Next (s .last) (s .last2) e ≡ asStep o) × StoredState out o
+  on-step h k a = rw h (refl, (k, a))
+
+  pub on-each-refused : {k e : ℕ} → o ≡ refused k e → (done.Refused k e ≡ asDone o) × StoredState out o
+  on-each-refused h = rw h (refl, tt)
+
+  pub on-each : {v v2 : Vector} {e : ℕ} → o ≡ got (stateOf out v v2) e → AllPacked out → (done.At e ≡ asDone o) × StoredState out o
+  on-each h a = rw h (refl, (refl, a))
+
+pub on-refused : (out : List ℕ) (o : Outcome (List BlockRecord)) {k e : ℕ} → o ≡ refused k e → (done.Refused k e ≡ asDone o) × StoredRecords out o
+on-refused out o h = rw h (refl, tt)
+
+-- the records of the last state are what is stored
+pub on-vectors : (out : List ℕ) (o : Outcome State) (v : Outcome (List BlockRecord)) {r : Done}
+    → ((k e : ℕ) → o ≡ refused k e → v ≡ refused k e) → ((s : State) (e : ℕ) → o ≡ got s e → v ≡ got (s .records) e)
+    → r ≡ asDone o → StoredState out o → (r ≡ asDone v) × StoredRecords out v
+on-vectors out (got s e) v f g a k = rw (g s e refl) (a, packed-records out (k .1) ∙ ap (map packed) (k .0))
+on-vectors out (refused j e) v f g a k = rw (f j e refl) (a, tt)

@@ -1,0 +1,4 @@
+pub mod Component
+pub mod Motion
+pub mod Vectors
+pub mod Memory

@@ -1,0 +1,575 @@
+// The motion vectors of an inter frame, and the prediction of each of its blocks.
+use bitstream::Field;
+use block_record::Prediction;
+use block_record::Vector;
+use geometry::PixelFormat;
+use geometry::Place;
+use runs::Done;
+ghost use mathlib.Core.Path.{_≡_};
+ghost use Prim.Native.Nat.{_+_, _-_, _<_, _≤_, _^_};
+ghost use lib.IntN.{_+ℤ_, natAbs};
+ghost use lib.ListN.{length};
+ghost use Rattle.numeric.specs.Divide.{roundOver};
+ghost use Rattle.geometry.specs.Sizes.{macroBlocksOf, blocksOf, blocksEach};
+ghost use Rattle.geometry.specs.Order.{at};
+ghost use Rattle.block_record.specs.Record.{VectorInRange, PredictionInRange};
+ghost use Rattle.runs.specs.Runs.{asDone};
+ghost use Rattle.vectors.specs.Component.{signed, added, shortest, variable, byCode, component, vector, asComponent, asVector};
+ghost use Rattle.vectors.specs.Vectors.{numberIn, codedIn, predictedAt, predictedFrom, macroBlock, macroBlocks, vectors};
+ghost use Rattle.vectors.specs.Memory.{AllPacked, recordsOf, stateOf, StoredRecords, StoredState, asStep};
+ghost use Rattle.vectors.specs.Motion.{zeroVector, behind, still, moving, movingGolden, ifCoded, row, movingFour, motion, meanOfTwo, meanOfFour, lumaVector, chromaVector, fourVector, predictionOf, RowInRange, MotionInRange, asRow, asMoved};
+
+// A component and the place behind it, or the number of the refusal and its place; likewise the enums below.
+enum ComponentRead {
+    Got(i32, usize),
+    Refused(u32, usize),
+}
+
+enum VectorRead {
+    Got(Vector, usize),
+    Refused(u32, usize),
+}
+
+// The vectors of two luma blocks beside each other.
+struct Row {
+    left: Vector,
+    right: Vector,
+}
+
+enum RowRead {
+    Got(Row, usize),
+    Refused(u32, usize),
+}
+
+// How a macro block moves: one prediction for all its blocks, or four luma vectors, A and B in the lower row, C and D in the upper.
+enum Motion {
+    One(Prediction),
+    Four(Row, Row),
+}
+
+// A macro block's motion, and the vectors that are kept behind it.
+struct Moved {
+    motion: Motion,
+    last: Vector,
+    last2: Vector,
+}
+
+enum MovedRead {
+    Got(Moved, usize),
+    Refused(u32, usize),
+}
+
+// The vectors that are kept behind a macro block, and the place.
+enum Step {
+    Next(Vector, Vector, usize),
+    Refused(u32, usize),
+}
+
+const WIDTH: [u32; 5] = [0, 0, 2, 3, 4];
+
+const LEAST: [u32; 5] = [2, 3, 4, 8, 16];
+
+fn signed_value(sign: u32, magnitude: u32) -> i32
+    requires { ⌜ magnitude ≤ 31 ⌝ }
+    ensures { λ r. ⌜ r ≡ signed sign magnitude ⌝ }
+{
+    let n = magnitude as i32;
+    if sign == 1 {
+        return 0 - n;
+    }
+    n
+}
+
+// The component of the codes 000, 001 and 010.
+fn shortest_value(t: u32) -> i32
+    ensures { λ r. ⌜ r ≡ shortest t ⌝ }
+{
+    if t == 0 {
+        return 0;
+    }
+    signed_value(t - 1, 1)
+}
+
+// A field of `bits` bits added to `base`, and a sign bit.
+fn read_added(packet: &[u8], at: usize, bits: u32, base: u32) -> ComponentRead
+    requires { ⌜ (length (now packet) ≤ 2 ^ 58) × (bits ≤ 5) × (base + 2 ^ bits ≤ 32) ⌝ }
+    ensures { λ r. ⌜ r ≡ asComponent (added bits base (now (packet .entry)) at) ⌝ }
+{
+    let more = bitstream::read(packet, at, bits as usize);
+    match more {
+        Field::Refused(k, e) => ComponentRead::Refused(k, e),
+        Field::Got(v, next) => {
+            let last = bitstream::read(packet, next, 1);
+            match last {
+                Field::Refused(k, e) => ComponentRead::Refused(k, e),
+                Field::Got(s, end) => ComponentRead::Got(signed_value(s, base + v), end),
+            }
+        }
+    }
+}
+
+fn read_variable(packet: &[u8], at: usize) -> ComponentRead
+    requires { ⌜ length (now packet) ≤ 2 ^ 58 ⌝ }
+    ensures { λ r. ⌜ r ≡ asComponent (variable (now (packet .entry)) at) ⌝ }
+{
+    let prefix = bitstream::read(packet, at, 3);
+    match prefix {
+        Field::Refused(k, e) => ComponentRead::Refused(k, e),
+        Field::Got(t, next) => {
+            if t < 3 {
+                return ComponentRead::Got(shortest_value(t), next);
+            }
+            let line = (t - 3) as usize;
+            read_added(packet, next, WIDTH[line], LEAST[line])
+        }
+    }
+}
+
+fn read_by_code(packet: &[u8], at: usize, code: u32) -> ComponentRead
+    requires { ⌜ length (now packet) ≤ 2 ^ 58 ⌝ }
+    ensures { λ r. ⌜ r ≡ asComponent (byCode code (now (packet .entry)) at) ⌝ }
+{
+    if code == 0 {
+        return read_variable(packet, at);
+    }
+    read_added(packet, at, 5, 0)
+}
+
+// A component; one that is cut is reported at its first bit.
+fn read_component(packet: &[u8], at: usize, code: u32) -> ComponentRead
+    requires { ⌜ length (now packet) ≤ 2 ^ 58 ⌝ }
+    ensures { λ r. ⌜ r ≡ asComponent (component code (now (packet .entry)) at) ⌝ }
+{
+    let one = read_by_code(packet, at, code);
+    match one {
+        ComponentRead::Refused(k, _) => ComponentRead::Refused(k, at),
+        ComponentRead::Got(_, _) => one,
+    }
+}
+
+fn read_vector(packet: &[u8], at: usize, code: u32) -> VectorRead
+    requires { ⌜ length (now packet) ≤ 2 ^ 58 ⌝ }
+    ensures { λ r. ⌜ r ≡ asVector (vector code (now (packet .entry)) at) ⌝ }
+{
+    let first = read_component(packet, at, code);
+    match first {
+        ComponentRead::Refused(k, e) => VectorRead::Refused(k, e),
+        ComponentRead::Got(x, next) => {
+            let second = read_component(packet, next, code);
+            match second {
+                ComponentRead::Refused(k, e) => VectorRead::Refused(k, e),
+                ComponentRead::Got(y, end) => VectorRead::Got(Vector { x: x, y: y }, end),
+            }
+        }
+    }
+}
+
+fn zero_vector() -> Vector
+    ensures { λ r. ⌜ r ≡ zeroVector ⌝ }
+{
+    Vector { x: 0, y: 0 }
+}
+
+// A vector for a coded block, else zero.
+fn read_if_coded(packet: &[u8], at: usize, code: u32, coded: bool) -> VectorRead
+    requires { ⌜ length (now packet) ≤ 2 ^ 58 ⌝ }
+    ensures { λ r. ⌜ r ≡ asVector (ifCoded code coded (now (packet .entry)) at) ⌝ }
+{
+    if coded {
+        return read_vector(packet, at, code);
+    }
+    VectorRead::Got(zero_vector(), at)
+}
+
+fn read_row(packet: &[u8], at: usize, code: u32, left: bool, right: bool) -> RowRead
+    requires { ⌜ length (now packet) ≤ 2 ^ 58 ⌝ }
+    ensures { λ r. ⌜ r ≡ asRow (row code left right (now (packet .entry)) at) ⌝ }
+{
+    let first = read_if_coded(packet, at, code, left);
+    match first {
+        VectorRead::Refused(k, e) => RowRead::Refused(k, e),
+        VectorRead::Got(v, next) => {
+            let second = read_if_coded(packet, next, code, right);
+            match second {
+                VectorRead::Refused(k, e) => RowRead::Refused(k, e),
+                VectorRead::Got(u, end) => RowRead::Got(Row { left: v, right: u }, end),
+            }
+        }
+    }
+}
+
+// One prediction for all blocks of the macro block, and what is kept behind it.
+fn one_prediction(p: Prediction, last: Vector, last2: Vector) -> Moved
+    ensures { λ r. ⌜ r ≡ behind (Motion.One p) last last2 ⌝ }
+{
+    Moved {
+        motion: Motion::One(p),
+        last: last,
+        last2: last2,
+    }
+}
+
+// The modes that send nothing: INTRA, LAST, LAST2, GOLDEN_NOMV, NOMV.
+fn still_motion(mode: u8, last: Vector, last2: Vector) -> Moved
+    ensures { λ r. ⌜ r ≡ still mode last last2 ⌝ }
+{
+    if mode == 1 {
+        return one_prediction(Prediction::None, last, last2);
+    }
+    if mode == 3 {
+        return one_prediction(Prediction::Previous(last), last, last2);
+    }
+    if mode == 4 {
+        return one_prediction(Prediction::Previous(last2), last2, last);
+    }
+    let zero = zero_vector();
+    if mode == 5 {
+        return one_prediction(Prediction::Golden(zero), last, last2);
+    }
+    one_prediction(Prediction::Previous(zero), last, last2)
+}
+
+// MV: a vector, which is kept.
+fn read_moving(packet: &[u8], at: usize, code: u32, last: Vector) -> MovedRead
+    requires { ⌜ length (now packet) ≤ 2 ^ 58 ⌝ }
+    ensures { λ r. ⌜ r ≡ asMoved (moving code last (now (packet .entry)) at) ⌝ }
+{
+    let one = read_vector(packet, at, code);
+    match one {
+        VectorRead::Refused(k, e) => MovedRead::Refused(k, e),
+        VectorRead::Got(v, next) => MovedRead::Got(
+            one_prediction(Prediction::Previous(v), v, last),
+            next,
+        ),
+    }
+}
+
+// GOLDEN_MV: a vector, which is not kept.
+fn read_moving_golden(packet: &[u8], at: usize, code: u32, last: Vector, last2: Vector) -> MovedRead
+    requires { ⌜ length (now packet) ≤ 2 ^ 58 ⌝ }
+    ensures { λ r. ⌜ r ≡ asMoved (movingGolden code last last2 (now (packet .entry)) at) ⌝ }
+{
+    let one = read_vector(packet, at, code);
+    match one {
+        VectorRead::Refused(k, e) => MovedRead::Refused(k, e),
+        VectorRead::Got(v, next) => MovedRead::Got(
+            one_prediction(Prediction::Golden(v), last, last2),
+            next,
+        ),
+    }
+}
+
+// FOUR: a vector for each coded luma block, in the order A, B, C, D; D's is kept.
+fn read_moving_four(
+    packet: &[u8],
+    at: usize,
+    code: u32,
+    a: bool,
+    b: bool,
+    c: bool,
+    d: bool,
+    last: Vector,
+) -> MovedRead
+    requires { ⌜ length (now packet) ≤ 2 ^ 58 ⌝ }
+    ensures { λ r. ⌜ r ≡ asMoved (movingFour code a b c d last (now (packet .entry)) at) ⌝ }
+{
+    let first = read_row(packet, at, code, a, b);
+    match first {
+        RowRead::Refused(k, e) => MovedRead::Refused(k, e),
+        RowRead::Got(lower, next) => {
+            let second = read_row(packet, next, code, c, d);
+            match second {
+                RowRead::Refused(k, e) => MovedRead::Refused(k, e),
+                RowRead::Got(upper, end) => {
+                    let newest = upper.right;
+                    MovedRead::Got(
+                        Moved {
+                            motion: Motion::Four(lower, upper),
+                            last: newest,
+                            last2: last,
+                        },
+                        end,
+                    )
+                }
+            }
+        }
+    }
+}
+
+// A macro block of a mode; a, b, c, d say which of its luma blocks are coded.
+fn read_motion(
+    packet: &[u8],
+    at: usize,
+    code: u32,
+    mode: u8,
+    a: bool,
+    b: bool,
+    c: bool,
+    d: bool,
+    last: Vector,
+    last2: Vector,
+) -> MovedRead
+    requires { ⌜ length (now packet) ≤ 2 ^ 58 ⌝ }
+    ensures { λ r. ⌜ r ≡ asMoved (motion code mode a b c d last last2 (now (packet .entry)) at) ⌝ }
+{
+    if mode == 2 {
+        return read_moving(packet, at, code, last);
+    }
+    if mode == 6 {
+        return read_moving_golden(packet, at, code, last, last2);
+    }
+    if mode == 7 {
+        return read_moving_four(packet, at, code, a, b, c, d, last);
+    }
+    MovedRead::Got(still_motion(mode, last, last2), at)
+}
+
+fn mean_2(a: i32, b: i32) -> i32
+    requires { ⌜ (natAbs a ≤ 31) × (natAbs b ≤ 31) ⌝ }
+    ensures { λ r. ⌜ r ≡ roundOver 2 (a +ℤ b) ⌝ }
+{
+    numeric::round_over_2(a + b)
+}
+
+fn mean_4(a: i32, b: i32, c: i32, d: i32) -> i32
+    requires { ⌜ (natAbs a ≤ 31) × (natAbs b ≤ 31) × (natAbs c ≤ 31) × (natAbs d ≤ 31) ⌝ }
+    ensures { λ r. ⌜ r ≡ roundOver 4 ((a +ℤ b) +ℤ (c +ℤ d)) ⌝ }
+{
+    numeric::round_over_4((a + b) + (c + d))
+}
+
+// The rounded mean of a row.
+fn mean_of_two(r: Row) -> Vector
+    requires { ⌜ RowInRange r ⌝ }
+    ensures { λ v. ⌜ v ≡ meanOfTwo r ⌝ }
+{
+    let a = r.left;
+    let b = r.right;
+    Vector {
+        x: mean_2(a.x, b.x),
+        y: mean_2(a.y, b.y),
+    }
+}
+
+// The rounded mean of two rows.
+fn mean_of_four(l: Row, u: Row) -> Vector
+    requires { ⌜ RowInRange l × RowInRange u ⌝ }
+    ensures { λ v. ⌜ v ≡ meanOfFour l u ⌝ }
+{
+    let a = l.left;
+    let b = l.right;
+    let c = u.left;
+    let d = u.right;
+    Vector {
+        x: mean_4(a.x, b.x, c.x, d.x),
+        y: mean_4(a.y, b.y, c.y, d.y),
+    }
+}
+
+// The vector of luma block j: A, B, C, D.
+fn luma_vector(l: Row, u: Row, j: u64) -> Vector
+    requires { ⌜ j < 4 ⌝ }
+    ensures { λ v. ⌜ v ≡ lumaVector l u j ⌝ }
+{
+    if j == 0 {
+        return l.left;
+    }
+    if j == 1 {
+        return l.right;
+    }
+    if j == 2 {
+        return u.left;
+    }
+    u.right
+}
+
+// The vector of chroma block k of a macro block with four vectors.
+fn chroma_vector(format: PixelFormat, l: Row, u: Row, k: u64) -> Vector
+    requires { ⌜ RowInRange l × RowInRange u ⌝ }
+    ensures { λ v. ⌜ v ≡ chromaVector format l u k ⌝ }
+{
+    match format {
+        PixelFormat::Chroma420 => mean_of_four(l, u),
+        PixelFormat::Chroma422 => {
+            if k % 2 == 0 {
+                return mean_of_two(l);
+            }
+            mean_of_two(u)
+        }
+        PixelFormat::Chroma444 => luma_vector(l, u, k % 4),
+    }
+}
+
+fn four_vector(format: PixelFormat, l: Row, u: Row, k: u64) -> Vector
+    requires { ⌜ RowInRange l × RowInRange u ⌝ }
+    ensures { λ v. ⌜ v ≡ fourVector format l u k ⌝ }
+{
+    if k < 4 {
+        return luma_vector(l, u, k);
+    }
+    chroma_vector(format, l, u, k)
+}
+
+// The prediction of block k of a macro block.
+fn prediction_of(format: PixelFormat, m: Motion, k: u64) -> Prediction
+    requires { ⌜ MotionInRange m ⌝ }
+    ensures { λ p. ⌜ p ≡ predictionOf format m k ⌝ }
+{
+    match m {
+        Motion::One(p) => p,
+        Motion::Four(l, u) => Prediction::Previous(four_vector(format, l, u, k)),
+    }
+}
+
+// The raster number of block k of macro block q.
+fn number_in(format: PixelFormat, w: u64, h: u64, q: Place, k: u64) -> usize
+    requires { ⌜ (w ≤ 65535) × (h ≤ 65535) × (q .x < w) × (q .y < h) × (k < blocksEach format) ⌝ }
+    ensures { λ r. ⌜ (r ≡ numberIn format w h q k) × (r < blocksOf format w h) ⌝ }
+{
+    let b = geometry::block_of_macro(format, q.x, q.y, k);
+    geometry::raster_number(format, w, h, b) as usize
+}
+
+// Whether it is coded.
+fn is_coded_in(format: PixelFormat, w: u64, h: u64, q: Place, records: &[u32], k: u64) -> bool
+    requires { ⌜ (w ≤ 65535) × (h ≤ 65535) × (q .x < w) × (q .y < h) × (k < blocksEach format) × (length (now records) ≡ blocksOf format w h) ⌝ }
+    ensures { λ r. ⌜ r ≡ codedIn format w h q (recordsOf (now (records .entry))) k ⌝ }
+{
+    let i = number_in(format, w, h, q, k);
+    block_record::is_coded(records[i])
+}
+
+// The block with raster number i gets the prediction p, if it is coded.
+fn predict_block(records: &mut [u32], i: usize, p: Prediction)
+    requires { ⌜ (i < length (now records)) × PredictionInRange p × AllPacked (now records) ⌝ }
+    ensures { λ _. ⌜ (recordsOf (now (records .exit)) ≡ predictedAt i p (recordsOf (now (records .entry)))) × AllPacked (now (records .exit)) ⌝ }
+{
+    let n = records[i];
+    if block_record::is_coded(n) {
+        records[i] = block_record::with_prediction(n, p);
+        return;
+    }
+}
+
+// Each coded block of macro block q gets its prediction.
+fn predict_blocks(format: PixelFormat, w: u64, h: u64, q: Place, m: Motion, records: &mut [u32])
+    requires { ⌜ (w ≤ 65535) × (h ≤ 65535) × (q .x < w) × (q .y < h) × (length (now records) ≡ blocksOf format w h) × MotionInRange m × AllPacked (now records) ⌝ }
+    ensures { λ _. ⌜ (recordsOf (now (records .exit)) ≡ predictedFrom format w h q m (blocksEach format) 0 (recordsOf (now (records .entry)))) × AllPacked (now (records .exit)) ⌝ }
+{
+    let n = geometry::blocks_each(format);
+    let mut k: u64 = 0;
+    while k < n {
+        let i = number_in(format, w, h, q, k);
+        let p = prediction_of(format, m, k);
+        predict_block(records, i, p);
+        k += 1;
+    }
+}
+
+// One macro block: its vectors, and the predictions of its blocks.
+fn read_macro_block(
+    packet: &[u8],
+    at: usize,
+    code: u32,
+    format: PixelFormat,
+    w: u64,
+    h: u64,
+    q: Place,
+    mode: u8,
+    last: Vector,
+    last2: Vector,
+    records: &mut [u32],
+) -> Step
+    requires { ⌜ (length (now packet) ≤ 2 ^ 58) × (w ≤ 65535) × (h ≤ 65535) × (q .x < w) × (q .y < h) × (length (now records) ≡ blocksOf format w h) × VectorInRange last × VectorInRange last2 × AllPacked (now records) ⌝ }
+    ensures { λ r. ⌜ r ≡ asStep (macroBlock format w h code mode q (stateOf (now (records .entry)) last last2) (now (packet .entry)) at) ⌝ }
+    ensures { λ r. ⌜ StoredState (now (records .exit)) (macroBlock format w h code mode q (stateOf (now (records .entry)) last last2) (now (packet .entry)) at) ⌝ }
+{
+    let a = is_coded_in(format, w, h, q, records, 0);
+    let b = is_coded_in(format, w, h, q, records, 1);
+    let c = is_coded_in(format, w, h, q, records, 2);
+    let d = is_coded_in(format, w, h, q, records, 3);
+    let moved = read_motion(packet, at, code, mode, a, b, c, d, last, last2);
+    match moved {
+        MovedRead::Refused(k, e) => Step::Refused(k, e),
+        MovedRead::Got(m, next) => {
+            let motion = m.motion;
+            let newest = m.last;
+            let second = m.last2;
+            predict_blocks(format, w, h, q, motion, records);
+            Step::Next(newest, second, next)
+        }
+    }
+}
+
+// All macro blocks in coded order, behind the vector bit.
+fn read_each(
+    packet: &[u8],
+    at: usize,
+    code: u32,
+    format: PixelFormat,
+    w: u64,
+    h: u64,
+    modes: &[u8],
+    records: &mut [u32],
+) -> Done
+    requires { ⌜ (length (now packet) ≤ 2 ^ 58) × (w ≤ 65535) × (h ≤ 65535) × (length (now modes) ≡ macroBlocksOf w h) × (length (now records) ≡ blocksOf format w h) × AllPacked (now records) ⌝ }
+    ensures { λ r. ⌜ r ≡ asDone (macroBlocks format w h code (now (modes .entry)) (length (now (modes .entry))) 0 (stateOf (now (records .entry)) zeroVector zeroVector) (now (packet .entry)) at) ⌝ }
+    ensures { λ r. ⌜ StoredState (now (records .exit)) (macroBlocks format w h code (now (modes .entry)) (length (now (modes .entry))) 0 (stateOf (now (records .entry)) zeroVector zeroVector) (now (packet .entry)) at) ⌝ }
+{
+    let n = modes.len();
+    let mut last = zero_vector();
+    let mut last2 = zero_vector();
+    let mut place = at;
+    let mut m: usize = 0;
+    while m < n {
+        let q = geometry::macro_block_at(w, h, m as u64);
+        let mode = modes[m];
+        let step = read_macro_block(
+            packet,
+            place,
+            code,
+            format,
+            w,
+            h,
+            q,
+            mode,
+            last,
+            last2,
+            records,
+        );
+        match step {
+            Step::Refused(k, e) => {
+                return Done::Refused(k, e);
+            }
+            Step::Next(v, v2, next) => {
+                last = v;
+                last2 = v2;
+                place = next;
+                m += 1;
+            }
+        }
+    }
+    Done::At(place)
+}
+
+// The vectors of an inter frame of w by h macro blocks, whose modes are given in coded order. records holds the packed
+// record of each block, by raster number; the coded ones get their predictions.
+pub fn read_vectors(
+    packet: &[u8],
+    at: usize,
+    format: PixelFormat,
+    w: u64,
+    h: u64,
+    modes: &[u8],
+    records: &mut [u32],
+) -> Done
+    requires { ⌜ (length (now packet) ≤ 2 ^ 58) × (w ≤ 65535) × (h ≤ 65535) × (length (now modes) ≡ macroBlocksOf w h) × (length (now records) ≡ blocksOf format w h) × AllPacked (now records) ⌝ }
+    ensures { λ r. ⌜ r ≡ asDone (vectors format w h (now (modes .entry)) (recordsOf (now (records .entry))) (now (packet .entry)) at) ⌝ }
+    ensures { λ r. ⌜ StoredRecords (now (records .exit)) (vectors format w h (now (modes .entry)) (recordsOf (now (records .entry))) (now (packet .entry)) at) ⌝ }
+{
+    let bit = bitstream::read(packet, at, 1);
+    match bit {
+        Field::Refused(k, e) => Done::Refused(k, e),
+        Field::Got(code, next) => read_each(packet, next, code, format, w, h, modes, records),
+    }
+}
