@@ -3,11 +3,15 @@ use mathlib.Core.Path.{_≡_, refl}
 use Rattle.numeric.specs.Cut.{mod16, read16, cut}
 use Rattle.numeric.specs.Divide.{roundOver}
 use Rattle.bitstream.specs.Bits.{bitAt, number}
-use Rattle.bitstream.specs.Reading.{field}
+use Rattle.bitstream.specs.Reading.{field, judged}
 use Rattle.geometry.specs.Sizes.{blocksOf, total}
 use Rattle.geometry.specs.Order.{ordered, row, tile, inTurn, moved, present, find}
+use Rattle.quantization.specs.Parameters.{matrixCount}
+use Rattle.matrices.specs.Matrix.{minimum, scaled}
+use Rattle.loop_filter.specs.Filter.{tentOf, limitedOf}
+use Rattle.transform.specs.Residual.{dcOnly}
 use Rattle.theora.specs.Table.{threeThenFive, worked, paper}
 
 pub table : worked ≡ paper
-unfolding worked paper threeThenFive field number bitAt ordered row tile inTurn moved present find blocksOf total roundOver cut mod16 read16
+unfolding worked paper threeThenFive field number bitAt ordered row tile inTurn moved present find blocksOf total roundOver cut mod16 read16 limitedOf tentOf scaled minimum dcOnly matrixCount judged
 table = refl

@@ -8,6 +8,10 @@ use Rattle.bitstream.specs.Reading.{Outcome, got, refused, Parse, pure, bind, f
 use Rattle.geometry.specs.declared.PixelFormat.{PixelFormat}
 use Rattle.geometry.specs.Sizes.{across, up, planeOf, blocksOf}
 use Rattle.geometry.specs.Order.{blockNumber}
+use Rattle.quantization.specs.Parameters.{matrixCount}
+use Rattle.matrices.specs.Matrix.{minimum, scaled}
+use Rattle.loop_filter.specs.Filter.{limitedOf}
+use Rattle.transform.specs.Residual.{dcOnly}
 
 -- the values that a reading gets
 abbrev pub readings : Outcome (List ℕ) → List ℤ
@@ -25,6 +29,11 @@ threeThenFive = do
 abbrev pub lumaNumber : ℕ → ℕ → ℕ → ℕ → ℤ
 lumaNumber w h x y = pos (blockNumber (across PixelFormat.Chroma420 w 0) (up PixelFormat.Chroma420 h 0) x y)
 
+-- 0 and the number that is read; or the number of the refusal
+abbrev pub judgement : Outcome ℕ → List ℤ
+judgement (got n e) = pos 0 ∷ pos n ∷ []
+judgement (refused k e) = pos k ∷ []
+
 unfoldable pub worked : List (List ℤ)
 worked =
     readings (threeThenFive (0xB1 ∷ []) 0)
@@ -33,7 +42,14 @@ worked =
     ∷ (pos (planeOf PixelFormat.Chroma420 4096 4097 0 .length) ∷ pos (blocksOf PixelFormat.Chroma420 4096 4097) ∷ [])
     ∷ (pos (blocksOf PixelFormat.Chroma444 65535 65535) ∷ [])
     ∷ (roundOver 4 (negsuc 1) ∷ [])
+    ∷ (limitedOf 10 (pos 15) ∷ limitedOf 10 (negsuc 14) ∷ limitedOf 10 (pos 20) ∷ [])
+    ∷ (pos (scaled (minimum 0 0) 10 16) ∷ [])
+    ∷ (pos (scaled (minimum 0 1) 65535 255) ∷ pos (scaled (minimum 1 1) 65535 255) ∷ [])
     ∷ (cut (pos 32767 +ℤ pos 1) ∷ [])
+    ∷ (dcOnly (negsuc 0) 16 ∷ dcOnly (pos 1) 16 ∷ [])
+    -- the field of NBMS less one: 383 and 384 in 9 bits
+    ∷ judgement (matrixCount (0xBF ∷ 0x80 ∷ []) 0)
+    ∷ judgement (matrixCount (0xC0 ∷ 0x00 ∷ []) 0)
     ∷ []
 
 unfoldable pub paper : List (List ℤ)
@@ -50,6 +66,17 @@ paper =
     ∷ (pos 51538034700 ∷ [])
     -- "round(−2/4) = −1"
     ∷ (negsuc 0 ∷ [])
+    -- "L=10: R=15 gives 5, −15 gives −5, 20 gives 0"
+    ∷ (pos 5 ∷ negsuc 4 ∷ pos 0 ∷ [])
+    -- "intra DC, scale 10, BM 16: 16"
+    ∷ (pos 16 ∷ [])
+    -- "AC scale 65535, BM 255: 4096", of both types
+    ∷ (pos 4096 ∷ pos 4096 ∷ [])
     -- "DC 32767+1 cut: −32768"
     ∷ (negsuc 32767 ∷ [])
+    -- "DC-only, q 16: −1 gives −1, 1 gives 0"
+    ∷ (negsuc 0 ∷ pos 0 ∷ [])
+    -- "NBMS 384 passes, 385 is 7"
+    ∷ (pos 0 ∷ pos 384 ∷ [])
+    ∷ (pos 7 ∷ [])
     ∷ []

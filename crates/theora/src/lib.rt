@@ -3,10 +3,12 @@ use geometry::Block;
 use geometry::PixelFormat;
 use geometry::Place;
 use headers::Session;
+use setup::TableAnswer;
 ghost use mathlib.Core.Path.{_≡_};
 ghost use Prim.Native.Nat.{ℕ, _≤_, _<_};
 ghost use Rattle.geometry.specs.Frame.{block};
 ghost use Rattle.theora.specs.Orders.{hasBlock, blockAt, blockNumber, macroBlockAt, macroBlockNumber, macroBlockOf, sampleOffset, asBlock, asPlace, asNumber};
+ghost use Rattle.theora.specs.Setup.{tableLimit, matrixInto, asMatrix, leaving};
 
 // A block; the frame has no such block; or the number of the refusal.
 pub enum BlockAnswer {
@@ -25,6 +27,13 @@ pub enum PlaceAnswer {
 // The same of a number: a place in coded order, or an offset in a plane buffer.
 pub enum NumberAnswer {
     Is(u64),
+    Absent,
+    Refused(u32),
+}
+
+// A quantization matrix stands in the slice that was lent; there is no such matrix; or the number of the refusal.
+pub enum MatrixAnswer {
+    Is,
     Absent,
     Refused(u32),
 }
@@ -137,4 +146,87 @@ pub fn sample_offset(s: Session, plane: u64, x: u64, y: u64, column: u64, row: u
         return NumberAnswer::Absent;
     }
     NumberAnswer::Refused(8)
+}
+
+// The loop limit of a qi, by the setup of a table memory.
+pub fn loop_limit(table: &[u8], qi: u64) -> NumberAnswer
+    ensures { λ r. ⌜ r ≡ asNumber (tableLimit (now (table .entry)) qi) ⌝ }
+{
+    if table.len() != setup::TABLE_BYTES {
+        return NumberAnswer::Refused(1);
+    }
+    let mut limits = [0u16; 64];
+    let mut ac = [0u16; 64];
+    let mut dc = [0u16; 64];
+    let mut sizes = [0u16; 384];
+    let mut indices = [0u16; 384];
+    let mut nodes = [0u8; 5120];
+    let answer = setup::load_table(
+        table,
+        &mut limits,
+        &mut ac,
+        &mut dc,
+        &mut sizes,
+        &mut indices,
+        &mut nodes,
+    );
+    match answer {
+        TableAnswer::NotGenuine => NumberAnswer::Refused(8),
+        TableAnswer::Genuine(_) => {
+            if qi < 64 {
+                let limit = tables::loop_limit(&limits, qi as usize);
+                return NumberAnswer::Is(limit as u64);
+            }
+            NumberAnswer::Absent
+        }
+    }
+}
+
+// The quantization matrix of a type (0 intra, 1 inter), a plane and a qi, in natural order, by the setup of a table memory.
+pub fn matrix(table: &[u8], kind: u64, plane: u64, qi: u64, out: &mut [u16]) -> MatrixAnswer
+    ensures { λ r. ⌜ r ≡ asMatrix (matrixInto (now (out .entry)) (now (table .entry)) kind plane qi) ⌝ }
+    ensures { λ r. ⌜ now (out .exit) ≡ leaving (now (out .entry)) (matrixInto (now (out .entry)) (now (table .entry)) kind plane qi) ⌝ }
+{
+    if out.len() != 64 {
+        return MatrixAnswer::Refused(1);
+    }
+    if table.len() != setup::TABLE_BYTES {
+        return MatrixAnswer::Refused(1);
+    }
+    let mut limits = [0u16; 64];
+    let mut ac = [0u16; 64];
+    let mut dc = [0u16; 64];
+    let mut sizes = [0u16; 384];
+    let mut indices = [0u16; 384];
+    let mut nodes = [0u8; 5120];
+    let answer = setup::load_table(
+        table,
+        &mut limits,
+        &mut ac,
+        &mut dc,
+        &mut sizes,
+        &mut indices,
+        &mut nodes,
+    );
+    match answer {
+        TableAnswer::NotGenuine => MatrixAnswer::Refused(8),
+        TableAnswer::Genuine(place) => {
+            if (kind < 2) & (plane < 3) & (qi < 64) {
+                matrices::matrix(
+                    table,
+                    place,
+                    &ac,
+                    &dc,
+                    &sizes,
+                    &indices,
+                    kind as usize,
+                    plane as usize,
+                    qi as usize,
+                    out,
+                );
+                return MatrixAnswer::Is;
+            }
+            MatrixAnswer::Absent
+        }
+    }
 }

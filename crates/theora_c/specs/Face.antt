@@ -12,9 +12,14 @@ use Rattle.headers.specs.declared.IdentificationAnswer.{IdentificationAnswer}
 use Rattle.headers.specs.declared.SizesAnswer.{SizesAnswer}
 use Rattle.headers.specs.Identification.{identification, asIdentification}
 use Rattle.headers.specs.Sizes.{sessionSizes}
+use Rattle.setup.specs.declared.SetupAnswer.{SetupAnswer}
+use Rattle.setup.specs.Table.{tableBytes, setupOutcome, asSetupAnswer, tableAfter, isTable}
 use Rattle.theora.specs.declared.BlockAnswer.{BlockAnswer}
 use Rattle.theora.specs.declared.PlaceAnswer.{PlaceAnswer}
 use Rattle.theora.specs.declared.NumberAnswer.{NumberAnswer}
+use Rattle.theora.specs.declared.MatrixAnswer.{MatrixAnswer}
+use Rattle.theora.specs.Found.{Found, is, absent, refused}
+use Rattle.theora.specs.Setup.{tableLimit, tableMatrix}
 use Rattle.theora.specs.Orders.{blockAt, blockNumber, macroBlockAt, macroBlockNumber, macroBlockOf, sampleOffset, asBlock, asPlace, asNumber}
 
 -- what a call returns, and what the list lent for its answer holds afterwards
@@ -121,3 +126,34 @@ macroBlockOfCall session p x y old = onList 2 session old (λ s. placeReturned o
 
 abbrev pub sampleOffsetCall : List ℕ → ℕ → ℕ → ℕ → ℕ → ℕ → List ℕ → Returned
 sampleOffsetCall session p x y c r old = onList 1 session old (λ s. numberReturned old (asNumber (sampleOffset s (block p x y) c r)))
+
+-- the setup call: its number, and every byte of table memory afterwards
+abbrev pub setupNumber : SetupAnswer → ℕ
+setupNumber SetupAnswer.Accepted = 0
+setupNumber (SetupAnswer.Refused k) = k
+
+unfoldable pub setupCall : List ℕ → List ℕ → Returned
+setupCall packet old = gives (setupNumber (asSetupAnswer (setupOutcome (length old) packet))) (tableAfter old packet)
+
+-- "no accepted setup packet leaves this table memory" is 8, after 1
+unfoldable pub tableCall : List ℕ → ℕ
+tableCall table = choose (eqb (length table) tableBytes) (choose (isTable table) 0 8) 1
+
+-- the loop limit of a qi: 1 for another length, 8 for a memory that is not genuine, 255 for no such qi, in this order
+unfoldable pub limitCall : List ℕ → ℕ → List ℕ → Returned
+limitCall table qi old = sized (eqb (length old) 1) old (numberReturned old (asNumber (tableLimit table qi)))
+
+-- the answer of a matrix, whose numbers stand beside it
+abbrev pub matrixReturned : List ℕ → List ℕ → MatrixAnswer → Returned
+matrixReturned old numbers MatrixAnswer.Is = gives 0 numbers
+matrixReturned old numbers MatrixAnswer.Absent = gives 255 old
+matrixReturned old numbers (MatrixAnswer.Refused k) = gives k old
+
+-- the 64 numbers of the matrix of a type, a plane and a qi, or the number of the refusal
+abbrev pub matrixFound : List ℕ → Found (List ℕ) → Returned
+matrixFound old (is m) = gives 0 m
+matrixFound old absent = gives 255 old
+matrixFound old (refused k) = gives k old
+
+unfoldable pub matrixCall : List ℕ → ℕ → ℕ → ℕ → List ℕ → Returned
+matrixCall table type plane qi old = sized (eqb (length old) 64) old (matrixFound old (tableMatrix table type plane qi))

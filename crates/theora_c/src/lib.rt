@@ -2,13 +2,15 @@
 use headers::IdentificationAnswer;
 use headers::Session;
 use headers::SizesAnswer;
+use setup::SetupAnswer;
 use theora::BlockAnswer;
+use theora::MatrixAnswer;
 use theora::NumberAnswer;
 use theora::PlaceAnswer;
 ghost use mathlib.Core.Path.{_≡_};
 ghost use Prim.Native.Nat.{ℕ};
 ghost use lib.ListN.{length};
-ghost use Rattle.theora_c.specs.Face.{gives, flag, numbersOf, sessionOf, sessionReturned, sizesReturned, blockReturned, placeReturned, numberReturned, identificationCall, sizesCall, blockAtCall, blockNumberCall, macroBlockAtCall, macroBlockNumberCall, macroBlockOfCall, sampleOffsetCall};
+ghost use Rattle.theora_c.specs.Face.{gives, flag, numbersOf, sessionOf, sessionReturned, sizesReturned, blockReturned, placeReturned, numberReturned, identificationCall, sizesCall, blockAtCall, blockNumberCall, macroBlockAtCall, macroBlockNumberCall, macroBlockOfCall, sampleOffsetCall, setupCall, tableCall, limitCall, matrixReturned, matrixCall};
 
 // ---- lists of numbers
 
@@ -52,6 +54,19 @@ fn store(list: &mut [u64], numbers: &[u64]) -> u32
     let mut i = 0;
     while i < numbers.len() {
         list[i] = numbers[i];
+        i += 1;
+    }
+    0
+}
+
+// The same of the numbers of a quantization matrix.
+fn widen(list: &mut [u64], numbers: &[u16]) -> u32
+    requires { ⌜ length (now list) ≡ length (now numbers) ⌝ }
+    ensures { λ r. ⌜ gives r (now (list .exit)) ≡ gives 0 (now (numbers .entry)) ⌝ }
+{
+    let mut i = 0;
+    while i < numbers.len() {
+        list[i] = numbers[i] as u64;
         i += 1;
     }
     0
@@ -163,6 +178,17 @@ fn return_number(answer: NumberAnswer, list: &mut [u64]) -> u32
         }
         NumberAnswer::Absent => 255,
         NumberAnswer::Refused(k) => k,
+    }
+}
+
+fn return_matrix(answer: MatrixAnswer, numbers: &[u16], list: &mut [u64]) -> u32
+    requires { ⌜ length (now list) ≡ length (now numbers) ⌝ }
+    ensures { λ r. ⌜ gives r (now (list .exit)) ≡ matrixReturned (now (list .entry)) (now (numbers .entry)) answer ⌝ }
+{
+    match answer {
+        MatrixAnswer::Is => widen(list, numbers),
+        MatrixAnswer::Absent => 255,
+        MatrixAnswer::Refused(k) => k,
     }
 }
 
@@ -281,6 +307,57 @@ pub extern "C" fn wedgepetal_sample_offset(
             theora::sample_offset(session_of(session), plane, x, y, column, row),
             offset,
         );
+    }
+    1
+}
+
+#[no_mangle]
+pub extern "C" fn wedgepetal_setup(packet: &[u8], table: &mut [u8]) -> u32
+    ensures { λ r. ⌜ gives r (now (table .exit)) ≡ setupCall (now (packet .entry)) (now (table .entry)) ⌝ }
+{
+    match setup::setup(packet, table) {
+        SetupAnswer::Accepted => 0,
+        SetupAnswer::Refused(k) => k,
+    }
+}
+
+#[no_mangle]
+pub extern "C" fn wedgepetal_table(table: &[u8]) -> u32
+    ensures { λ r. ⌜ r ≡ tableCall (now (table .entry)) ⌝ }
+{
+    if table.len() == setup::TABLE_BYTES {
+        if setup::table_is_genuine(table) {
+            return 0;
+        }
+        return 8;
+    }
+    1
+}
+
+#[no_mangle]
+pub extern "C" fn wedgepetal_loop_limit(table: &[u8], qi: u64, limit: &mut [u64]) -> u32
+    ensures { λ r. ⌜ gives r (now (limit .exit)) ≡ limitCall (now (table .entry)) qi (now (limit .entry)) ⌝ }
+{
+    if limit.len() == 1 {
+        return return_number(theora::loop_limit(table, qi), limit);
+    }
+    1
+}
+
+#[no_mangle]
+pub extern "C" fn wedgepetal_matrix(
+    table: &[u8],
+    kind: u64,
+    plane: u64,
+    qi: u64,
+    matrix: &mut [u64],
+) -> u32
+    ensures { λ r. ⌜ gives r (now (matrix .exit)) ≡ matrixCall (now (table .entry)) kind plane qi (now (matrix .entry)) ⌝ }
+{
+    if matrix.len() == 64 {
+        let mut numbers = [0u16; 64];
+        let answer = theora::matrix(table, kind, plane, qi, &mut numbers);
+        return return_matrix(answer, &numbers, matrix);
     }
     1
 }
