@@ -7,8 +7,9 @@
  * must not overlap another list of the same call. Nothing else is asked.
  *
  * Each call returns 0 if it is accepted, else the number of its refusal. A
- * refused call writes nothing. A wrong length is found before all else, then
- * a fault of the packet or the session, then that the frame has no such thing.
+ * refused call writes nothing (but wedgepetal_setup, see there). A wrong length
+ * is found before all else, then a fault of the packet, the session or the
+ * table memory, then that there is no such thing as is asked for.
  *
  * Blocks and macro blocks are counted from the lower left corner: x to the
  * right, y up. Planes are 0 (Y'), 1 (Cb) and 2 (Cr).
@@ -32,8 +33,12 @@ enum {
     WEDGEPETAL_PACKET_END = 4,      /* a read passes the end of the packet */
     WEDGEPETAL_FIELD_RANGE = 5,     /* an identification field breaks its range */
     WEDGEPETAL_RESERVED = 6,        /* PF is 1, or the 3 last identification bits are not 0 */
+    WEDGEPETAL_SETUP_FAULT = 7,     /* setup: NBMS above 384, a matrix index not below NBMS, a qi sum
+                                       above 63, a code longer than 32, a 33rd leaf */
     WEDGEPETAL_SESSION = 8,         /* the session's identification fields break 5, 6 or their widths */
-    WEDGEPETAL_ABSENT = 255         /* the frame has no such block, macro block or sample */
+    WEDGEPETAL_TABLE = 8,           /* no accepted setup packet leaves this table memory */
+    WEDGEPETAL_ABSENT = 255         /* the frame has no such block, macro block or sample, or there is
+                                       no such type, plane or qi */
 };
 
 /* A session is a list of 17 numbers: the identification fields, and whether
@@ -53,6 +58,12 @@ enum {
     WEDGEPETAL_NMBS, WEDGEPETAL_NBS, WEDGEPETAL_NSBS, WEDGEPETAL_BUFFER,
     WEDGEPETAL_PLANE_Y, WEDGEPETAL_PLANE_CB = 8, WEDGEPETAL_PLANE_CR = 12,
     WEDGEPETAL_SIZE_NUMBERS = 16
+};
+
+/* The length of table memory in bytes, and of a quantization matrix in numbers. */
+enum {
+    WEDGEPETAL_TABLE_BYTES = 28184,
+    WEDGEPETAL_MATRIX_NUMBERS = 64
 };
 
 /* Reads an identification header; session receives the fresh session. */
@@ -92,6 +103,25 @@ uint32_t wedgepetal_sample_offset(const uint64_t *session, size_t session_length
                                   uint64_t plane, uint64_t x, uint64_t y,
                                   uint64_t column, uint64_t row,
                                   uint64_t *offset, size_t offset_length);
+
+/* Reads a setup header into table memory of WEDGEPETAL_TABLE_BYTES bytes. All
+ * of it is fixed by the packet alone: what was read if it is accepted, all zero
+ * if it is refused (2, 4 or 7). Refused by 1 it is untouched. */
+uint32_t wedgepetal_setup(const uint8_t *packet, size_t packet_length,
+                          uint8_t *table, size_t table_length);
+
+/* Whether some accepted setup packet leaves this table memory: 0 if so, else 8. */
+uint32_t wedgepetal_table(const uint8_t *table, size_t table_length);
+
+/* The loop limit of a qi, 0 to 63 (1 number). */
+uint32_t wedgepetal_loop_limit(const uint8_t *table, size_t table_length, uint64_t qi,
+                               uint64_t *limit, size_t limit_length);
+
+/* The quantization matrix of a type (0 intra, 1 inter), plane and qi, in
+ * natural order (64 numbers). */
+uint32_t wedgepetal_matrix(const uint8_t *table, size_t table_length,
+                           uint64_t type, uint64_t plane, uint64_t qi,
+                           uint64_t *matrix, size_t matrix_length);
 
 #ifdef __cplusplus
 }

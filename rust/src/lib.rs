@@ -1,7 +1,8 @@
 //! Wedgepetal, a proved Theora decoder: the safe face for Rust.
 //!
 //! So far it reads the identification header of a recording and answers the
-//! sizes and block orders of its frames.
+//! sizes and block orders of its frames, and it reads the setup header and
+//! answers loop limits and quantization matrices.
 //!
 //! ```
 //! use wedgepetal::{Refusal, identification};
@@ -15,9 +16,11 @@
 pub mod lists;
 mod refusal;
 mod session;
+mod table;
 
 pub use refusal::Refusal;
 pub use session::{Session, identification};
+pub use table::{MatrixType, Table, setup};
 
 /// The sizes of a session's frames.
 #[derive(Clone, Debug, PartialEq, Eq)]

@@ -2,8 +2,9 @@
 //!
 //! Each function is the call of the same name in `include/wedgepetal.h`, with
 //! a slice for each pointer and length. It answers 0 if the call is accepted,
-//! else the number of its refusal, and a refused call writes nothing. Every
-//! list may have any length and any contents. The functions of the crate's
+//! else the number of its refusal, and a refused call writes nothing (but
+//! `setup`, which then clears table memory of the right length). Every list
+//! may have any length and any contents. The functions of the crate's
 //! root are easier to use; these are here for those who hold lists already.
 #![allow(unsafe_code)]
 
@@ -18,6 +19,12 @@ pub const BLOCK_NUMBERS: usize = 3;
 
 /// How many numbers the place of a macro block has: x, y.
 pub const PLACE_NUMBERS: usize = 2;
+
+/// How many bytes table memory has.
+pub const TABLE_BYTES: usize = 28_184;
+
+/// How many numbers a quantization matrix has.
+pub const MATRIX_NUMBERS: usize = 64;
 
 mod face {
     unsafe extern "C" {
@@ -83,6 +90,29 @@ mod face {
             row: u64,
             offset: *mut u64,
             offset_length: usize,
+        ) -> u32;
+        pub fn wedgepetal_setup(
+            packet: *const u8,
+            packet_length: usize,
+            table: *mut u8,
+            table_length: usize,
+        ) -> u32;
+        pub fn wedgepetal_table(table: *const u8, table_length: usize) -> u32;
+        pub fn wedgepetal_loop_limit(
+            table: *const u8,
+            table_length: usize,
+            qi: u64,
+            limit: *mut u64,
+            limit_length: usize,
+        ) -> u32;
+        pub fn wedgepetal_matrix(
+            table: *const u8,
+            table_length: usize,
+            kind: u64,
+            plane: u64,
+            qi: u64,
+            matrix: *mut u64,
+            matrix_length: usize,
         ) -> u32;
     }
 }
@@ -213,6 +243,57 @@ pub fn sample_offset(
             row,
             offset.as_mut_ptr(),
             offset.len(),
+        )
+    }
+}
+
+/// Reads a setup header into table memory (28,184 bytes). Refused by another
+/// number than 1, it leaves all of table memory zero.
+pub fn setup(packet: &[u8], table: &mut [u8]) -> u32 {
+    // SAFETY: as in `identification`.
+    unsafe {
+        face::wedgepetal_setup(
+            packet.as_ptr(),
+            packet.len(),
+            table.as_mut_ptr(),
+            table.len(),
+        )
+    }
+}
+
+/// Whether some accepted setup packet leaves this table memory: 0, or 1 or 8.
+pub fn table(table: &[u8]) -> u32 {
+    // SAFETY: as in `identification`.
+    unsafe { face::wedgepetal_table(table.as_ptr(), table.len()) }
+}
+
+/// The loop limit of a qi (1 number).
+pub fn loop_limit(table: &[u8], qi: u64, limit: &mut [u64]) -> u32 {
+    // SAFETY: as in `identification`.
+    unsafe {
+        face::wedgepetal_loop_limit(
+            table.as_ptr(),
+            table.len(),
+            qi,
+            limit.as_mut_ptr(),
+            limit.len(),
+        )
+    }
+}
+
+/// The quantization matrix of a type (0 intra, 1 inter), plane and qi in
+/// natural order (64 numbers).
+pub fn matrix(table: &[u8], kind: u64, plane: u64, qi: u64, matrix: &mut [u64]) -> u32 {
+    // SAFETY: as in `identification`.
+    unsafe {
+        face::wedgepetal_matrix(
+            table.as_ptr(),
+            table.len(),
+            kind,
+            plane,
+            qi,
+            matrix.as_mut_ptr(),
+            matrix.len(),
         )
     }
 }

@@ -20,9 +20,15 @@ impl Refusal {
     pub const FIELD_RANGE: Refusal = Refusal(5);
     /// PF is 1, or the 3 last identification bits are not 0.
     pub const RESERVED: Refusal = Refusal(6);
+    /// Setup: NBMS above 384, a matrix index not below NBMS, a qi sum above
+    /// 63, a code longer than 32, or a 33rd leaf.
+    pub const SETUP_FAULT: Refusal = Refusal(7);
     /// The session's identification fields break 5, 6 or their widths.
     pub const SESSION: Refusal = Refusal(8);
-    /// The frame has no such block, macro block or sample.
+    /// No accepted setup packet leaves this table memory.
+    pub const TABLE: Refusal = Refusal(8);
+    /// The frame has no such block, macro block or sample, or there is no such
+    /// type, plane or qi.
     pub const ABSENT: Refusal = Refusal(255);
 
     /// What this number means, in words.
@@ -47,7 +53,10 @@ impl Refusal {
             11 => "an intra frame's 3 reserved bits are not 0",
             12 => "a run exceeds the bits still wanted",
             13 => "a token moves its block past position 64",
-            255 => "the frame has no such block, macro block or sample",
+            255 => {
+                "the frame has no such block, macro block or sample, \
+                 or there is no such type, plane or qi"
+            }
             _ => "a number without a meaning",
         }
     }

@@ -1,7 +1,9 @@
 //! The wrapper over the static library: values that the rules fix.
 #![allow(missing_docs)]
 
-use wedgepetal::{Block, MacroBlock, Refusal, Session, identification, lists};
+use wedgepetal::{
+    Block, MacroBlock, MatrixType, Refusal, Session, Table, identification, lists, setup,
+};
 
 /// A session of so many macro blocks.
 fn session(fmbw: u64, fmbh: u64, pf: u64) -> Session {
@@ -71,6 +73,68 @@ fn macro_blocks_and_samples() {
         session.sample_offset(chroma, 2, 1),
         Ok(cb + 25 * 24 + 8 + 2)
     );
+}
+
+/// A setup header: limits 1, scales 1, one matrix of the value 0, one range,
+/// lone leaves.
+fn setup_packet() -> Vec<u8> {
+    let common: String = b"\x82theora".map(|byte| format!("{byte:08b}")).concat();
+    let ones = "1".repeat(64);
+    let parts = [
+        &common,
+        "001",
+        &ones,
+        "0000",
+        &ones,
+        "0000",
+        &ones,
+        "000000000",
+        &"0".repeat(512),
+        "111110",
+        "00000000",
+        &"100111".repeat(80),
+    ];
+    let mut bits = parts.concat();
+    bits.push_str(&"0".repeat(bits.len().next_multiple_of(8) - bits.len()));
+    (0..bits.len())
+        .step_by(8)
+        .map(|i| u8::from_str_radix(&bits[i..i + 8], 2).unwrap())
+        .collect()
+}
+
+#[test]
+fn tables() {
+    let packet = setup_packet();
+    let table = setup(&packet).unwrap();
+    assert_eq!(table.bytes().len(), lists::TABLE_BYTES);
+    assert_eq!(Table::from_bytes(table.bytes()), Ok(table.clone()));
+    assert_eq!(table.loop_limit(63), Ok(1));
+    assert_eq!(table.loop_limit(64), Err(Refusal::ABSENT));
+    let mut least = [8; 64];
+    least[0] = 16;
+    assert_eq!(table.matrix(MatrixType::Intra, 2, 63), Ok(least));
+    let inter = table.matrix(MatrixType::Inter, 0, 0).unwrap();
+    assert_eq!(inter[..2], [32, 16]);
+    let plane = table.matrix(MatrixType::Inter, 3, 0);
+    assert_eq!(plane, Err(Refusal::ABSENT));
+}
+
+#[test]
+fn what_is_no_setup_header_or_table() {
+    let packet = setup_packet();
+    let cut = setup(&packet[..packet.len() - 1]);
+    assert_eq!(cut, Err(Refusal::PACKET_END));
+    assert_eq!(setup(b"\x80theora"), Err(Refusal::NOT_THIS_HEADER));
+    let mut bytes = setup(&packet).unwrap().bytes().to_vec();
+    bytes[lists::TABLE_BYTES - 1] = 1;
+    assert_eq!(Table::from_bytes(&bytes), Err(Refusal::TABLE));
+    bytes.pop();
+    assert_eq!(Table::from_bytes(&bytes), Err(Refusal::LENGTH));
+    assert_eq!(lists::setup(&packet, &mut bytes), 1);
+    assert_eq!(bytes[0], 0x82);
+    bytes.push(7);
+    assert_eq!(lists::setup(&packet[..50], &mut bytes), 4);
+    assert_eq!(bytes, vec![0; lists::TABLE_BYTES]);
 }
 
 #[test]

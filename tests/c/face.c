@@ -1,4 +1,5 @@
-/* The C header and the static library together: reads a header, asks for sizes. */
+/* The C header and the static library together: reads headers, asks for sizes,
+ * limits and matrices. */
 #include "wedgepetal.h"
 
 #include <stdio.h>
@@ -13,6 +14,10 @@ static const uint8_t packet[42] = {
     0xC0, 0xC0                                   /* quality 48, shift 6, format 0 */
 };
 
+/* A setup header: 152 bytes, the last of them with 6 bits to spare. */
+static uint8_t setup[152];
+static size_t setup_bits = 0;
+
 static int failures = 0;
 
 static void expect(const char *what, uint64_t got, uint64_t wanted)
@@ -22,6 +27,67 @@ static void expect(const char *what, uint64_t got, uint64_t wanted)
                (unsigned long long)wanted);
         failures++;
     }
+}
+
+static void put(unsigned value, int width)
+{
+    while (width-- > 0) {
+        if (value >> width & 1) {
+            setup[setup_bits / 8] |= (uint8_t)(0x80 >> setup_bits % 8);
+        }
+        setup_bits++;
+    }
+}
+
+/* All limits 0, all scales 1, one matrix of the value 255, one range, lone leaves. */
+static void make_setup(void)
+{
+    const char *common = "\x82theora";
+    int i;
+    for (i = 0; i < 7; i++) {
+        put((unsigned char)common[i], 8);
+    }
+    put(0, 3);
+    for (i = 0; i < 2; i++) {
+        put(0, 4);
+        put(0xFFFFFFFFu, 32);
+        put(0xFFFFFFFFu, 32);
+    }
+    put(0, 9);
+    for (i = 0; i < 64; i++) {
+        put(255, 8);
+    }
+    put(62, 6);
+    put(0, 8);
+    for (i = 0; i < 80; i++) {
+        put(32 + i % 32, 6);
+    }
+}
+
+static void try_table(void)
+{
+    static uint8_t table[WEDGEPETAL_TABLE_BYTES];
+    uint64_t limit[1] = {9}, matrix[WEDGEPETAL_MATRIX_NUMBERS] = {0};
+    const size_t t = WEDGEPETAL_TABLE_BYTES, m = WEDGEPETAL_MATRIX_NUMBERS;
+
+    make_setup();
+    expect("setup bits", setup_bits, 1210);
+    expect("no table yet", wedgepetal_table(table, t), WEDGEPETAL_TABLE);
+    expect("setup", wedgepetal_setup(setup, sizeof setup, table, t), 0);
+    expect("type byte", table[0], 0x82);
+    expect("table", wedgepetal_table(table, t), 0);
+    expect("short table", wedgepetal_table(table, t - 1), WEDGEPETAL_LENGTH);
+    expect("loop_limit", wedgepetal_loop_limit(table, t, 63, limit, 1), 0);
+    expect("limit", limit[0], 0);
+    expect("qi 64", wedgepetal_loop_limit(table, t, 64, limit, 1), WEDGEPETAL_ABSENT);
+    expect("matrix", wedgepetal_matrix(table, t, 1, 2, 63, matrix, m), 0);
+    expect("inter DC", matrix[0], 32);
+    expect("inter AC", matrix[63], 16);
+    expect("type 2", wedgepetal_matrix(table, t, 2, 0, 0, matrix, m), WEDGEPETAL_ABSENT);
+    table[t - 1] = 1;
+    expect("a bit behind", wedgepetal_table(table, t), WEDGEPETAL_TABLE);
+    expect("cut", wedgepetal_setup(setup, 151, table, t), WEDGEPETAL_PACKET_END);
+    expect("cleared", table[0] + table[t - 1], 0);
 }
 
 int main(void)
@@ -62,6 +128,7 @@ int main(void)
     session[WEDGEPETAL_PF] = 1;
     expect("bad session", wedgepetal_sizes(session, s, sizes, WEDGEPETAL_SIZE_NUMBERS),
            WEDGEPETAL_SESSION);
+    try_table();
     if (failures == 0) {
         puts("the C face answers as it should");
     }

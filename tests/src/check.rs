@@ -2,6 +2,7 @@
 
 use crate::reference::face::{Answer, Call, KINDS};
 use crate::reference::session::NAMES;
+use crate::reference::table_face::TableCall;
 use std::fmt::{self, Write};
 use wedgepetal::lists;
 
@@ -9,10 +10,19 @@ use wedgepetal::lists;
 const GUARD: usize = 4;
 
 /// The longest list that is lent to be written.
-const LONGEST: usize = 20;
+const LONGEST: usize = 66;
 
 /// How many bytes of a packet are printed; longer packets go on with zeros.
 const SHOWN: usize = 256;
+
+/// The calls that have to do with table memory; they follow on `KINDS`.
+const TABLE_KINDS: [&str; 4] = ["setup", "table", "loop_limit", "matrix"];
+
+/// The index of the setup call.
+pub const SETUP: usize = KINDS.len();
+
+/// How many calls there are.
+const CALLS: usize = KINDS.len() + TABLE_KINDS.len();
 
 /// What lies in lent memory before a call.
 const PATTERN: [u64; LONGEST + 2 * GUARD] = {
@@ -34,18 +44,30 @@ impl fmt::Display for Difference {
     }
 }
 
+impl Difference {
+    /// A difference of a call, given what it was called with and what came of it.
+    pub fn new(given: &str, came: &str) -> Difference {
+        Difference(format!("{given}{came}"))
+    }
+}
+
 /// How often each call gave each answer.
-pub struct Tally([[u64; 256]; KINDS.len()]);
+pub struct Tally([[u64; 256]; CALLS]);
 
 impl Tally {
     /// Nothing counted yet.
     pub fn new() -> Tally {
-        Tally([[0; 256]; KINDS.len()])
+        Tally([[0; 256]; CALLS])
     }
 
     /// How often a call was answered by this number.
     pub fn of(&self, kind: usize, number: u32) -> u64 {
         self.0[kind][number as usize]
+    }
+
+    /// Counts an answer.
+    pub fn count(&mut self, kind: usize, number: u32) {
+        self.0[kind][number as usize] += 1;
     }
 
     /// Calls the library and compares all that it leaves with what is expected.
@@ -56,25 +78,51 @@ impl Tally {
         output_length: usize,
         expected: &Answer,
     ) -> Result<(), Difference> {
-        let mut memory = PATTERN;
-        let lent = GUARD..GUARD + output_length;
-        let number = run(call, session, &mut memory[lent.clone()]);
-        let mut wanted = PATTERN;
-        if let Answer::Accepted(numbers) = expected {
-            wanted[lent.clone()].copy_from_slice(numbers.list());
-        }
-        if number != expected.number() || memory != wanted {
-            let text = describe(call, session, output_length, expected, number, &memory);
-            return Err(Difference(text));
-        }
-        self.0[call.kind()][number as usize] += 1;
+        let number = hold(output_length, expected, |output| run(call, session, output))
+            .map_err(|came| Difference::new(&describe(call, session), &came))?;
+        self.count(call.kind(), number);
+        Ok(())
+    }
+
+    /// The same of a call on table memory.
+    pub fn check_table(
+        &mut self,
+        call: TableCall,
+        table: &[u8],
+        output_length: usize,
+        expected: &Answer,
+    ) -> Result<(), Difference> {
+        let run = |output: &mut [u64]| run_table(call, table, output);
+        let number = hold(output_length, expected, run)
+            .map_err(|came| Difference::new(&describe_table(call, table), &came))?;
+        self.count(table_kind(call), number);
         Ok(())
     }
 }
 
+/// Lends a list and compares the answer, the list and what lies around it with
+/// what is expected. Gives the answer's number, or what came of the call.
+fn hold(
+    output_length: usize,
+    expected: &Answer,
+    run: impl FnOnce(&mut [u64]) -> u32,
+) -> Result<u32, String> {
+    let mut memory = PATTERN;
+    let lent = GUARD..GUARD + output_length;
+    let number = run(&mut memory[lent.clone()]);
+    let mut wanted = PATTERN;
+    if let Answer::Accepted(numbers) = expected {
+        wanted[lent.clone()].copy_from_slice(numbers);
+    }
+    if number != expected.number() || memory != wanted {
+        return Err(outcome(output_length, expected, number, &memory));
+    }
+    Ok(number)
+}
+
 impl fmt::Display for Tally {
     fn fmt(&self, f: &mut fmt::Formatter<'_>) -> fmt::Result {
-        for (name, counts) in KINDS.iter().zip(&self.0) {
+        for (name, counts) in KINDS.iter().chain(&TABLE_KINDS).zip(&self.0) {
             let total: u64 = counts.iter().sum();
             if total == 0 {
                 continue;
@@ -117,15 +165,26 @@ fn run(call: Call, session: &[u64], output: &mut [u64]) -> u32 {
     }
 }
 
-/// All that is needed to repeat a call, and what came of it.
-fn describe(
-    call: Call,
-    session: &[u64],
-    output_length: usize,
-    expected: &Answer,
-    number: u32,
-    memory: &[u64],
-) -> String {
+/// Calls the library on table memory.
+fn run_table(call: TableCall, table: &[u8], output: &mut [u64]) -> u32 {
+    match call {
+        TableCall::Table => lists::table(table),
+        TableCall::LoopLimit { qi } => lists::loop_limit(table, qi, output),
+        TableCall::Matrix { kind, plane, qi } => lists::matrix(table, kind, plane, qi, output),
+    }
+}
+
+/// The index of a call on table memory.
+fn table_kind(call: TableCall) -> usize {
+    match call {
+        TableCall::Table => SETUP + 1,
+        TableCall::LoopLimit { .. } => SETUP + 2,
+        TableCall::Matrix { .. } => SETUP + 3,
+    }
+}
+
+/// All that is needed to repeat a call.
+fn describe(call: Call, session: &[u64]) -> String {
     let mut text = format!("call:     wedgepetal_{}\n", KINDS[call.kind()]);
     if let Call::Identification { packet } = call {
         let shown = &packet[..packet.len().min(SHOWN)];
@@ -137,10 +196,26 @@ fn describe(
             let _ = writeln!(text, "          {name} = {value}");
         }
     }
-    let _ = writeln!(text, "output:   {output_length} numbers lent");
+    text
+}
+
+/// All that is needed to repeat a call on table memory.
+fn describe_table(call: TableCall, table: &[u8]) -> String {
+    let mut text = format!(
+        "call:     wedgepetal_{}\n",
+        TABLE_KINDS[table_kind(call) - SETUP]
+    );
+    let _ = writeln!(text, "given:    {call:?}");
+    let _ = writeln!(text, "table:    {}", long_hex(table));
+    text
+}
+
+/// What was lent, what was expected, and what came of a call.
+fn outcome(output_length: usize, expected: &Answer, number: u32, memory: &[u64]) -> String {
+    let mut text = format!("output:   {output_length} numbers lent\n");
     match expected {
         Answer::Accepted(numbers) => {
-            let _ = writeln!(text, "expected: 0, writes {:?}", numbers.list());
+            let _ = writeln!(text, "expected: 0, writes {numbers:?}");
         }
         Answer::Refused(number) => {
             let _ = writeln!(text, "expected: {number}, writes nothing");
@@ -175,4 +250,14 @@ fn changes(memory: &[u64], output_length: usize) -> String {
 /// Bytes in hex.
 fn hex(bytes: &[u8]) -> String {
     bytes.iter().map(|byte| format!("{byte:02x}")).collect()
+}
+
+/// Bytes in hex without the zeros at their end, and how many there are.
+pub fn long_hex(bytes: &[u8]) -> String {
+    let shown = bytes
+        .iter()
+        .rposition(|byte| *byte != 0)
+        .map_or(0, |i| i + 1);
+    let length = bytes.len();
+    format!("{length} bytes, zeros after: {}", hex(&bytes[..shown]))
 }

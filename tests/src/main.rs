@@ -3,6 +3,7 @@
 //! It ends with status 1 at the first difference and prints the call that
 //! shows it, and with status 2 if it is used wrongly.
 
+mod bit_writer;
 mod check;
 mod fields;
 mod orders;
@@ -10,6 +11,10 @@ mod packets;
 mod random;
 mod reference;
 mod sessions;
+mod setup_header;
+mod setups;
+mod streams;
+mod tables;
 
 use check::Difference;
 use random::Random;
@@ -17,12 +22,19 @@ use std::process::ExitCode;
 use std::time::Instant;
 
 const USAGE: &str = "\
-usage: compare [--packets N] [--sessions N] [--orders MAX] [--seed S]
+usage: compare [--packets N] [--sessions N] [--orders MAX] [--setups N]
+               [--tables N] [--matrices N] [--seed S] [--stream FILE..]
 
   --packets N   identification headers: valid, faulty, damaged, cut, extended (1000000)
   --sessions N  sessions, sound and not, each with every call on a session (500000)
   --orders MAX  block orders of every frame up to MAX by MAX macro blocks (20)
+  --setups N    setup headers: valid, damaged, cut, extended (20000)
+  --tables N    table memories: genuine, changed, random (12000)
+  --matrices N  table memories of which every limit and matrix is compared (10)
   --seed S      where the random numbers start (1)
+  --stream FILE..
+                nothing but recordings: their headers, and what the texts beside
+                them (tests/streams/README.md) say; comes last
 ";
 
 /// With fewer packets it is no fault if some refusal was not met.
@@ -33,7 +45,27 @@ struct Options {
     packets: u64,
     sessions: u64,
     orders: u64,
+    setups: u64,
+    tables: u64,
+    matrices: u64,
     seed: u64,
+    /// Recordings, to be compared in place of all else.
+    streams: Vec<String>,
+}
+
+impl Default for Options {
+    fn default() -> Options {
+        Options {
+            packets: 1_000_000,
+            sessions: 500_000,
+            orders: 20,
+            setups: 20_000,
+            tables: 12_000,
+            matrices: 10,
+            seed: 1,
+            streams: Vec::new(),
+        }
+    }
 }
 
 fn main() -> ExitCode {
@@ -59,14 +91,16 @@ fn main() -> ExitCode {
 
 /// Reads the command's words.
 fn options(words: &[String]) -> Result<Options, String> {
-    let mut options = Options {
-        packets: 1_000_000,
-        sessions: 500_000,
-        orders: 20,
-        seed: 1,
-    };
+    let mut options = Options::default();
     let mut words = words.iter();
     while let Some(name) = words.next() {
+        if name == "--stream" {
+            options.streams = words.cloned().collect();
+            if options.streams.is_empty() {
+                return Err("--stream: recordings must follow".to_string());
+            }
+            break;
+        }
         let value = words.next().and_then(|word| word.parse().ok());
         let value = value.ok_or_else(|| format!("{name}: a number must follow"))?;
         match name.as_str() {
@@ -74,6 +108,9 @@ fn options(words: &[String]) -> Result<Options, String> {
             "--sessions" => options.sessions = value,
             "--orders" if value <= 65535 => options.orders = value,
             "--orders" => return Err("--orders: at most 65535".to_string()),
+            "--setups" => options.setups = value,
+            "--tables" => options.tables = value,
+            "--matrices" => options.matrices = value,
             "--seed" => options.seed = value,
             _ => return Err(format!("{name}: no such option")),
         }
@@ -83,36 +120,76 @@ fn options(words: &[String]) -> Result<Options, String> {
 
 /// Compares all and prints what was compared.
 fn compare(options: &Options) -> Result<(), String> {
+    if !options.streams.is_empty() {
+        return streams::compare(&options.streams);
+    }
     println!("seed {}", options.seed);
     let mut random = Random::new(options.seed);
-    let text = |difference: Difference| difference.to_string();
+    compare_packets(&mut random, options)?;
+    compare_sessions(&mut random, options)?;
+    compare_setups(&mut random, options)
+}
 
-    let start = Instant::now();
-    let report = packets::compare(&mut random, options.packets).map_err(text)?;
-    println!("packets ({:.1} s)\n{report}", start.elapsed().as_secs_f64());
-    let missed = report.missed();
-    if options.packets >= ENOUGH_PACKETS && !missed.is_empty() {
+/// Prints a heading with the time that was taken.
+fn heading(name: &str, start: Instant) {
+    println!("{name} ({:.1} s)", start.elapsed().as_secs_f64());
+}
+
+/// A difference as text.
+fn text(difference: Difference) -> String {
+    difference.to_string()
+}
+
+/// Fails if something was not tried by so many packets.
+fn all_tried(missed: &[String], packets: u64) -> Result<(), String> {
+    if packets >= ENOUGH_PACKETS && !missed.is_empty() {
         return Err(format!("the packets do not try all: {}", missed.join(", ")));
     }
+    Ok(())
+}
 
+/// Identification headers.
+fn compare_packets(random: &mut Random, options: &Options) -> Result<(), String> {
     let start = Instant::now();
-    let tally = sessions::compare(&mut random, options.sessions).map_err(text)?;
-    println!("sessions ({:.1} s)\n{tally}", start.elapsed().as_secs_f64());
+    let report = packets::compare(random, options.packets).map_err(text)?;
+    heading("packets", start);
+    println!("{report}");
+    all_tried(&report.missed(), options.packets)
+}
+
+/// Sessions and block orders.
+fn compare_sessions(random: &mut Random, options: &Options) -> Result<(), String> {
+    let start = Instant::now();
+    let tally = sessions::compare(random, options.sessions).map_err(text)?;
+    heading("sessions", start);
+    println!("{tally}");
 
     let start = Instant::now();
     let tally = orders::compare_all(options.orders).map_err(text)?;
     let most = options.orders;
-    println!(
-        "orders of all frames up to {most} by {most} macro blocks ({:.1} s)\n{tally}",
-        start.elapsed().as_secs_f64()
-    );
+    let name = format!("orders of all frames up to {most} by {most} macro blocks");
+    heading(&name, start);
+    println!("{tally}");
 
     let start = Instant::now();
-    let tally = orders::compare_large(&mut random, 16 * options.orders).map_err(text)?;
-    println!(
-        "orders of large frames ({:.1} s)\n{tally}",
-        start.elapsed().as_secs_f64()
-    );
+    let tally = orders::compare_large(random, 16 * options.orders).map_err(text)?;
+    heading("orders of large frames", start);
+    println!("{tally}");
+    Ok(())
+}
+
+/// Setup headers and table memories.
+fn compare_setups(random: &mut Random, options: &Options) -> Result<(), String> {
+    let start = Instant::now();
+    let report = setups::compare(random, options.setups).map_err(text)?;
+    heading("setup packets", start);
+    println!("{report}");
+    all_tried(&report.missed(), options.setups)?;
+
+    let start = Instant::now();
+    let tally = tables::compare(random, options.tables, options.matrices).map_err(text)?;
+    heading("table memories", start);
+    println!("{tally}");
     Ok(())
 }
 
@@ -135,6 +212,9 @@ mod tests {
         assert!(options(&words("--packets x")).is_err());
         assert!(options(&words("--orders 65536")).is_err());
         assert!(options(&words("--what 1")).is_err());
+        assert!(options(&words("--stream")).is_err());
+        let read = options(&words("--seed 2 --stream a b")).ok();
+        assert_eq!(read.map(|o| o.streams), Some(words("a b")));
     }
 
     #[test]
@@ -143,7 +223,11 @@ mod tests {
             packets: 2_000,
             sessions: 2_000,
             orders: 2,
+            setups: 800,
+            tables: 800,
+            matrices: 1,
             seed: 11,
+            streams: Vec::new(),
         };
         assert_eq!(compare(&options), Ok(()));
     }

@@ -1,5 +1,6 @@
 //! Identification headers: valid, faulty, damaged, cut, extended, random.
 
+use crate::bit_writer::BitWriter;
 use crate::check::{Difference, Tally};
 use crate::fields;
 use crate::random::Random;
@@ -66,23 +67,16 @@ impl Header {
 
     /// The header's bytes, each field in its width.
     fn bytes(&self) -> Vec<u8> {
-        let mut bits = Vec::with_capacity(8 * HEADER_BYTES);
+        let mut bits = BitWriter::default();
         for byte in self.common {
-            put(&mut bits, u64::from(byte), 8);
+            bits.put(u64::from(byte), 8);
         }
         for (value, width) in self.fields.numbers().into_iter().zip(WIDTHS) {
-            put(&mut bits, value, width);
+            bits.put(value, width);
         }
-        put(&mut bits, self.last_bits, 3);
-        bits.chunks(8)
-            .map(|byte| byte.iter().fold(0, |sum, bit| 2 * sum + u8::from(*bit)))
-            .collect()
+        bits.put(self.last_bits, 3);
+        bits.bytes().to_vec()
     }
-}
-
-/// Appends a field's bits, the most significant first.
-fn put(bits: &mut Vec<bool>, value: u64, width: u32) {
-    bits.extend((0..width).rev().map(|i| value >> i & 1 == 1));
 }
 
 /// A number above a limit, within a width.
@@ -183,8 +177,16 @@ pub struct Report {
 }
 
 impl Report {
+    /// Nothing compared yet.
+    pub fn new() -> Report {
+        Report {
+            tally: Tally::new(),
+            faults: [[0; 7]; LAYOUT.len()],
+        }
+    }
+
     /// Compares one packet, and for an accepted one the sizes of its session.
-    fn compare(&mut self, packet: &[u8]) -> Result<(), Difference> {
+    pub fn compare(&mut self, packet: &[u8]) -> Result<(), Difference> {
         let call = Call::Identification { packet };
         match identification(packet) {
             Err(fault) => {
@@ -272,10 +274,7 @@ impl fmt::Display for Report {
 /// Compares every single-bit change of a header at every cut, a very long
 /// packet, then so many random packets.
 pub fn compare(random: &mut Random, packets: u64) -> Result<Report, Difference> {
-    let mut report = Report {
-        tally: Tally::new(),
-        faults: [[0; 7]; LAYOUT.len()],
-    };
+    let mut report = Report::new();
     every_bit_and_cut(random, &mut report)?;
     long_packet(random, &mut report)?;
     for _ in 0..packets {

@@ -1,10 +1,10 @@
 //! The `wedgepetal` command.
 
-mod ogg;
 mod report;
 mod sample;
 
-use ogg::{Fault, FirstPacket, FirstPackets};
+use recording::ogg::{self, Fault, FirstPacket, FirstPackets};
+use recording::packet_file;
 use std::ffi::OsString;
 use std::fmt;
 use std::fs::File;
@@ -19,6 +19,10 @@ usage:
   wedgepetal info --packet FILE    the same of a file that holds the header alone
   wedgepetal sample OUT.ogv        writes a small recording to try this with
   wedgepetal sample --packet OUT   writes its identification header alone
+  wedgepetal packets RECORDING.ogv OUT
+                                   writes the packets of its Theora stream, each as
+                                   4 bytes of length (least significant first) and
+                                   its bytes
   wedgepetal help                  this text
 
 Status: 0 all is well; 1 the recording or packet is refused; 2 wrong usage, or
@@ -83,6 +87,9 @@ fn command(words: &[OsString]) -> Result<String, Failure> {
             let recording = ogg::recording(SAMPLE_SERIAL, &sample::packet());
             write_new(Path::new(&words[1]), &recording)
         }
+        ["packets", first, second] if !is_option(first) && !is_option(second) => {
+            write_packets(Path::new(&words[1]), Path::new(&words[2]))
+        }
         ["help" | "--help" | "-h"] => Ok(USAGE.to_string()),
         _ => Err(Failure::Usage),
     }
@@ -119,6 +126,18 @@ fn info_recording(path: &Path) -> Result<String, Failure> {
         Failure::Refused(text)
     })?;
     Ok(format!("{}: stream {serial}\n{text}", path.display()))
+}
+
+/// Writes the packets of a recording's Theora stream as a packet file.
+fn write_packets(path: &Path, out: &Path) -> Result<String, Failure> {
+    let packets = recording::packets(BufReader::new(open(path)?))
+        .map_err(|fault| Failure::Refused(format!("{}: {fault}", path.display())))?;
+    if packets.is_empty() {
+        let text = format!("{}: no Theora stream", path.display());
+        return Err(Failure::Refused(text));
+    }
+    let text = write_new(out, &packet_file::write(&packets))?;
+    Ok(format!("{} packets, {text}", packets.len()))
 }
 
 /// Why a recording gives no identification header.
@@ -196,6 +215,7 @@ mod tests {
         assert!(usage(&["info", "--packet"]));
         assert!(usage(&["info", "--what"]));
         assert!(usage(&["sample"]));
+        assert!(usage(&["packets", "x.ogv"]));
         assert!(usage(&["play", "x.ogv"]));
         assert!(!usage(&["help"]));
     }

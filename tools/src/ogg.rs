@@ -1,6 +1,7 @@
-//! Ogg pages, as far as the first packet of each logical stream.
+//! Ogg pages: the first packet of each logical stream, and all packets of the
+//! Theora stream.
 
-use std::collections::BTreeMap;
+use std::collections::{BTreeMap, VecDeque};
 use std::fmt;
 use std::io::{self, ErrorKind, Read};
 
@@ -33,8 +34,11 @@ pub enum Fault {
     Cut(u64),
     /// The page that begins here has a wrong checksum.
     Checksum(u64),
-    /// It ends before a stream's first packet is complete.
+    /// It ends inside a packet.
     Ends,
+    /// A packet begins before the page that begins here and does not go on in
+    /// it, or the other way round.
+    Lost(u64),
 }
 
 impl fmt::Display for Fault {
@@ -44,7 +48,13 @@ impl fmt::Display for Fault {
             Fault::NoPage(0) => write!(f, "not an Ogg recording: it does not begin with a page"),
             Fault::NoPage(place) => write!(f, "damaged: no Ogg page begins at byte {place}"),
             Fault::Version(place) => write!(f, "the Ogg page at byte {place} is not of version 0"),
-            Fault::Ends => write!(f, "cut short: it ends inside a stream's first packet"),
+            Fault::Ends => write!(f, "cut short: it ends inside a packet"),
+            Fault::Lost(place) => {
+                write!(
+                    f,
+                    "damaged: a page is missing before the one at byte {place}"
+                )
+            }
             Fault::Cut(place) => write!(f, "cut short in the Ogg page at byte {place}"),
             Fault::Checksum(place) => {
                 write!(
@@ -67,6 +77,8 @@ pub struct FirstPacket {
 
 /// One page.
 struct Page {
+    /// Its first byte in the recording.
+    place: u64,
     flags: u8,
     serial: u32,
     lacing: Vec<u8>,
@@ -143,6 +155,88 @@ impl<R: Read> Iterator for FirstPackets<R> {
     }
 }
 
+/// Gives all packets of a recording's first Theora stream, one by one: the
+/// first stream whose first packet begins as an identification header does.
+pub struct TheoraPackets<R> {
+    pages: Pages<R>,
+    /// The stream's serial number, once it is known.
+    serial: Option<u32>,
+    /// A packet that goes on in a later page.
+    open: Option<Vec<u8>>,
+    /// Complete packets that are not yet given.
+    complete: VecDeque<Vec<u8>>,
+    done: bool,
+}
+
+impl<R: Read> TheoraPackets<R> {
+    /// Reads a recording from its beginning.
+    pub fn new(reader: R) -> TheoraPackets<R> {
+        TheoraPackets {
+            pages: Pages { reader, place: 0 },
+            serial: None,
+            open: None,
+            complete: VecDeque::new(),
+            done: false,
+        }
+    }
+
+    /// Takes a page in, if it belongs to the stream.
+    fn take(&mut self, page: &Page) -> Result<(), Fault> {
+        let first = page.flags & FIRST != 0;
+        if self.serial.is_none() && first && page.body.starts_with(b"\x80theora") {
+            self.serial = Some(page.serial);
+        }
+        if self.serial != Some(page.serial) {
+            return Ok(());
+        }
+        if self.open.is_some() != (page.flags & CONTINUED != 0) {
+            return Err(Fault::Lost(page.place));
+        }
+        let mut rest = &page.body[..];
+        for value in &page.lacing {
+            let (segment, after) = rest.split_at(usize::from(*value));
+            rest = after;
+            let mut packet = self.open.take().unwrap_or_default();
+            packet.extend(segment);
+            match value {
+                255 => self.open = Some(packet),
+                _ => self.complete.push_back(packet),
+            }
+        }
+        self.done = page.flags & LAST != 0;
+        Ok(())
+    }
+
+    /// Reads on until a packet is complete.
+    fn advance(&mut self) -> Result<Option<Vec<u8>>, Fault> {
+        loop {
+            if let Some(packet) = self.complete.pop_front() {
+                return Ok(Some(packet));
+            }
+            let page = if self.done { None } else { self.pages.next()? };
+            match page {
+                Some(page) => self.take(&page)?,
+                None if self.open.is_some() => return Err(Fault::Ends),
+                None => return Ok(None),
+            }
+        }
+    }
+}
+
+impl<R: Read> Iterator for TheoraPackets<R> {
+    type Item = Result<Vec<u8>, Fault>;
+
+    fn next(&mut self) -> Option<Self::Item> {
+        let packet = self.advance();
+        if packet.is_err() {
+            self.done = true;
+            self.open = None;
+            self.complete.clear();
+        }
+        packet.transpose()
+    }
+}
+
 /// How many bytes of a page belong to its first packet, and whether the packet
 /// ends there: at the first lacing value below 255.
 fn first_packet(lacing: &[u8]) -> (usize, bool) {
@@ -186,8 +280,10 @@ impl<R: Read> Pages<R> {
         if number(&header[22..26]) != page_checksum(&header, &lacing, &body) {
             return Err(Fault::Checksum(self.place));
         }
+        let place = self.place;
         self.place += (PAGE_HEADER + lacing.len() + body.len()) as u64;
         Ok(Some(Page {
+            place,
             flags: header[5],
             serial: number(&header[14..18]),
             lacing,
@@ -316,6 +412,63 @@ mod tests {
         let mut first = long.to_vec();
         first.extend(b"ab");
         assert_eq!(good(&bytes), [(2, b"z".to_vec()), (1, first)]);
+    }
+
+    /// The Theora stream's packets up to a fault.
+    fn theora(bytes: &[u8]) -> (Vec<Vec<u8>>, Option<Fault>) {
+        let mut packets = Vec::new();
+        for packet in TheoraPackets::new(bytes) {
+            match packet {
+                Ok(packet) => packets.push(packet),
+                Err(fault) => return (packets, Some(fault)),
+            }
+        }
+        (packets, None)
+    }
+
+    /// Two streams; a packet of 513 bytes over three pages, an empty packet.
+    fn two_streams() -> Vec<u8> {
+        [
+            page(FIRST, 4, &[7], b"\x01vorbis"),
+            page(FIRST, 5, &[8], b"\x80theora!"),
+            page(0, 5, &[1, 255], &[7; 256]),
+            page(0, 4, &[1], b"x"),
+            page(CONTINUED, 5, &[255], &[7; 255]),
+            page(CONTINUED, 5, &[3, 0, 2], b"abcde"),
+            page(LAST, 5, &[1], b"z"),
+            page(LAST, 4, &[1], b"y"),
+        ]
+        .concat()
+    }
+
+    #[test]
+    fn all_packets_of_the_theora_stream() {
+        let (packets, fault) = theora(&two_streams());
+        assert!(fault.is_none());
+        let lengths: Vec<usize> = packets.iter().map(Vec::len).collect();
+        assert_eq!(lengths, [8, 1, 513, 0, 2, 1]);
+        assert_eq!(packets[2][508..], *b"\x07\x07abc");
+        assert_eq!(packets[4], b"de");
+        assert!(theora(&recording(1, b"\x01vorbis")).0.is_empty());
+    }
+
+    #[test]
+    fn a_lost_page_is_a_fault() {
+        let parts = [
+            page(FIRST, 5, &[255], &[0x80; 255]),
+            page(0, 5, &[1], b"a"),
+            page(FIRST, 5, &[7], b"\x80theora"),
+            page(CONTINUED, 5, &[1], b"a"),
+        ];
+        let lost =
+            |first: usize, second: usize| theora(&[&parts[first][..], &parts[second]].concat());
+        assert!(matches!(lost(2, 3), (packets, Some(Fault::Lost(35))) if packets.len() == 1));
+        let long = page(FIRST, 5, &[255], &[b"\x80theora", &[0; 248][..]].concat());
+        let cut = theora(&long);
+        assert!(matches!(cut, (packets, Some(Fault::Ends)) if packets.is_empty()));
+        let (_, fault) = theora(&[long, parts[1].clone()].concat());
+        assert!(matches!(fault, Some(Fault::Lost(283))));
+        assert!(theora(&parts[0]).0.is_empty());
     }
 
     #[test]

@@ -22,6 +22,11 @@ impl<'a> BitReader<'a> {
         BitReader { packet, place: 0 }
     }
 
+    /// The place of the next bit.
+    pub fn place(&self) -> u64 {
+        self.place
+    }
+
     /// The bit at a place, or none behind the end.
     fn bit(&self, place: u64) -> Option<u64> {
         let byte = self.packet.get(usize::try_from(place / 8).ok()?)?;

@@ -101,27 +101,15 @@ impl Call<'_> {
 #[derive(Clone, Debug, PartialEq, Eq)]
 pub enum Answer {
     /// Accepted; the numbers that it writes.
-    Accepted(Numbers),
+    Accepted(Vec<u64>),
     /// Refused by this number; nothing is written.
     Refused(u32),
-}
-
-/// Up to 17 numbers.
-#[derive(Clone, Debug, PartialEq, Eq)]
-pub struct Numbers {
-    numbers: [u64; SESSION_NUMBERS],
-    length: usize,
 }
 
 impl Answer {
     /// Accepted with these numbers.
     pub fn accepted(list: &[u64]) -> Answer {
-        let mut numbers = [0; SESSION_NUMBERS];
-        numbers[..list.len()].copy_from_slice(list);
-        Answer::Accepted(Numbers {
-            numbers,
-            length: list.len(),
-        })
+        Answer::Accepted(list.to_vec())
     }
 
     /// 0 or the number of the refusal.
@@ -130,13 +118,6 @@ impl Answer {
             Answer::Accepted(_) => 0,
             Answer::Refused(number) => *number,
         }
-    }
-}
-
-impl Numbers {
-    /// The numbers as a list.
-    pub fn list(&self) -> &[u64] {
-        &self.numbers[..self.length]
     }
 }
 

@@ -1,5 +1,6 @@
-//! An independent implementation of the identification header, the sizes and
-//! the block orders, written from the rules alone.
+//! An independent implementation of the identification header, the sizes, the
+//! block orders, the setup header and table memory, written from the rules
+//! alone.
 //!
 //! It is meant to be read beside the rules, not to be fast: it reads bit by
 //! bit, walks the super blocks and the curve as they are described, and counts
@@ -9,11 +10,17 @@
 pub mod bits;
 pub mod face;
 pub mod identification;
+pub mod matrices;
 pub mod members;
 pub mod order;
+pub mod ranges;
 pub mod samples;
 pub mod session;
+pub mod setup;
 pub mod sizes;
+pub mod table_face;
+pub mod table_memory;
+pub mod trees;
 
 #[cfg(test)]
 mod table;

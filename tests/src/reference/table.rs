@@ -1,8 +1,11 @@
 //! The values that the rules' table fixes for these parts.
 
 use super::bits::BitReader;
+use super::matrices::value;
 use super::order::Grid;
 use super::session::Fields;
+use super::setup::setup;
+use super::setup::tests::{begin, put_copies, put_lone_leaves};
 use super::sizes::{Sizes, sizes};
 
 fn frame(fmbw: u64, fmbh: u64, pf: u64) -> Sizes {
@@ -44,4 +47,27 @@ fn sizes_of_4096_by_4097_macro_blocks() {
 #[test]
 fn blocks_of_65535_squared_444() {
     assert_eq!(frame(65535, 65535, 3).nbs, 51_538_034_700);
+}
+
+#[test]
+fn intra_dc_of_scale_10_and_base_16() {
+    assert_eq!(value(10, 16, 16), 16);
+}
+
+#[test]
+fn ac_of_scale_65535_and_base_255() {
+    assert_eq!(value(65535, 255, 8), 4096);
+    assert_eq!(value(65535, 255, 16), 4096);
+}
+
+#[test]
+fn nbms_384_passes_and_385_is_7() {
+    let header = |nbms: u64| {
+        let mut bits = begin(nbms - 1);
+        put_copies(&mut bits, 9);
+        put_lone_leaves(&mut bits);
+        setup(bits.bytes()).map_err(|refused| refused.fault.number)
+    };
+    assert!(header(384).is_ok());
+    assert_eq!(header(385).err(), Some(7));
 }

@@ -1,0 +1,162 @@
+//! Table memories: genuine, genuine with one bit or byte changed, refused
+//! headers, random, of wrong lengths; loop limits and quantization matrices.
+
+use crate::check::{Difference, Tally};
+use crate::random::Random;
+use crate::reference::setup::setup;
+use crate::reference::table_face::{Table, TableCall};
+use crate::reference::table_memory::{TABLE_BYTES, left_by};
+use crate::setup_header::{accepted, with_bad_tree};
+
+/// How many table memories are made of one genuine one.
+const TABLES_OF_A_HEADER: u64 = 16;
+
+/// Compares so many table memories, and all limits and matrices of some
+/// genuine ones, `samples` in number.
+pub fn compare(random: &mut Random, tables: u64, samples: u64) -> Result<Tally, Difference> {
+    let mut tally = Tally::new();
+    let headers = tables.div_ceil(TABLES_OF_A_HEADER);
+    for number in 0..headers {
+        let small = random.once_in(4);
+        let packet = accepted(random, small);
+        let bits = packet.length() as usize;
+        let mut table = left_by(packet.bytes(), &setup(packet.bytes()));
+        compare_one(random, &mut tally, &table)?;
+        for _ in 1..TABLES_OF_A_HEADER {
+            changed(random, &mut tally, &mut table, bits)?;
+        }
+        if number < samples {
+            whole(&mut tally, &table)?;
+        }
+    }
+    Ok(tally)
+}
+
+/// Compares every loop limit and every matrix of a table memory.
+pub fn whole(tally: &mut Tally, bytes: &[u8]) -> Result<(), Difference> {
+    let table = Table::read(bytes);
+    for qi in 0..64 {
+        let limit = TableCall::LoopLimit { qi };
+        tally.check_table(limit, bytes, 1, &table.answer(limit, 1))?;
+        for set in 0..6 {
+            let (kind, plane) = (set / 3, set % 3);
+            let matrix = TableCall::Matrix { kind, plane, qi };
+            tally.check_table(matrix, bytes, 64, &table.answer(matrix, 64))?;
+        }
+    }
+    Ok(())
+}
+
+/// Compares a changed table memory; a genuine one is restored afterwards.
+fn changed(
+    random: &mut Random,
+    tally: &mut Tally,
+    table: &mut [u8],
+    bits: usize,
+) -> Result<(), Difference> {
+    match random.below(16) {
+        0..12 => {
+            let bit = bit(random, bits);
+            let old = table[bit / 8];
+            table[bit / 8] = if random.once_in(4) {
+                random.byte()
+            } else {
+                old ^ 0x80 >> (bit % 8)
+            };
+            compare_one(random, tally, table)?;
+            table[bit / 8] = old;
+            Ok(())
+        }
+        12 => {
+            let other = refused_header(random);
+            compare_one(random, tally, &other)
+        }
+        13 => {
+            let length = random.pick(&[0, 1, TABLE_BYTES - 1, TABLE_BYTES + 1, 2 * TABLE_BYTES]);
+            let mut other = table.to_vec();
+            other.resize(length, 0);
+            compare_one(random, tally, &other)
+        }
+        _ => {
+            let other = arbitrary(random, table);
+            compare_one(random, tally, &other)
+        }
+    }
+}
+
+/// A bit of table memory: one that was read, one just behind, or any.
+fn bit(random: &mut Random, bits: usize) -> usize {
+    match random.below(8) {
+        0..4 => random.index(bits),
+        4 => bits + random.index(17),
+        5 => 8 * TABLE_BYTES - 1 - random.index(16),
+        _ => random.index(8 * TABLE_BYTES),
+    }
+}
+
+/// The bits of a header that is refused.
+fn refused_header(random: &mut Random) -> Vec<u8> {
+    let mut table = with_bad_tree(random).bytes().to_vec();
+    table.resize(TABLE_BYTES, 0);
+    table
+}
+
+/// Zeros, random bytes, or a genuine table memory with a random tail.
+fn arbitrary(random: &mut Random, table: &[u8]) -> Vec<u8> {
+    match random.below(4) {
+        0 => vec![random.pick(&[0, 0xFF, 0x82]); TABLE_BYTES],
+        1 => (0..TABLE_BYTES).map(|_| random.byte()).collect(),
+        2 => {
+            let mut table: Vec<u8> = (0..TABLE_BYTES).map(|_| random.byte()).collect();
+            table[..7].copy_from_slice(b"\x82theora");
+            table
+        }
+        _ => {
+            let mut table = table.to_vec();
+            let kept = random.index(TABLE_BYTES);
+            table[kept..].fill_with(|| random.byte());
+            table
+        }
+    }
+}
+
+/// Compares the test of a table memory, and now and then the other calls with
+/// any numbers and lengths.
+pub fn compare_one(random: &mut Random, tally: &mut Tally, bytes: &[u8]) -> Result<(), Difference> {
+    let table = Table::read(bytes);
+    let mut check = |call: TableCall, length: usize| {
+        tally.check_table(call, bytes, length, &table.answer(call, length))
+    };
+    check(TableCall::Table, 0)?;
+    if random.once_in(8) {
+        let qi = number(random, 64);
+        let length = if random.once_in(8) {
+            random.index(3)
+        } else {
+            1
+        };
+        check(TableCall::LoopLimit { qi }, length)?;
+    }
+    if random.once_in(8) {
+        let kind = number(random, 2);
+        let plane = number(random, 3);
+        let qi = number(random, 64);
+        let length = if random.once_in(8) {
+            random.pick(&[0, 1, 63, 65])
+        } else {
+            64
+        };
+        check(TableCall::Matrix { kind, plane, qi }, length)?;
+    }
+    Ok(())
+}
+
+/// A number that is mostly below `end`, else at or past it.
+fn number(random: &mut Random, end: u64) -> u64 {
+    match random.below(16) {
+        0 => end,
+        1 => random.any(),
+        2 => random.below(end) + (1 << random.pick(&[8, 32, 63])),
+        _ => random.below(end),
+    }
+}
