@@ -242,19 +242,3 @@ module _ (out : List ℕ) (o : Outcome (List ℕ)) where
 
   pub on-string : {e : ℕ} → o ≡ got out e → (At e ≡ asDone o) × Stored out o
   on-string h = rw h (refl, refl)
-
--- ---- what an answer says of the outcome, by its arm, where the slice holds `out`
-module _ (out : List ℕ) (o : Outcome (List ℕ)) {r : Done} where
-  pub done-at : {e : ℕ} → r ≡ asDone o → Stored out o → r ≡ At e → o ≡ got out e
-  done-at s k g = at o s k g
-    where
-      at : (o : Outcome (List ℕ)) {e : ℕ} → r ≡ asDone o → Stored out o → r ≡ At e → o ≡ got out e
-      at (got l d) s k g = let z = sym g ∙ s in cc
-      at (refused j d) s k g = let z : _≡_ {A = ℕ} 0 1 = cc in absurd (omega arith)
-
-  pub done-refused : {k e : ℕ} → r ≡ asDone o → r ≡ Refused k e → o ≡ refused k e
-  done-refused s g = at o s g
-    where
-      at : (o : Outcome (List ℕ)) {k e : ℕ} → r ≡ asDone o → r ≡ Refused k e → o ≡ refused k e
-      at (got l d) s g = let z : _≡_ {A = ℕ} 0 1 = cc in absurd (omega arith)
-      at (refused j d) s g = cc

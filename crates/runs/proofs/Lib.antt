@@ -1,4 +1,6 @@
 pub mod Table
 pub mod Facts
 pub mod Laws
+pub mod ListLaws
+pub mod Strings
 pub mod Examples

@@ -70,7 +70,7 @@ fn bit_is_fresh(length: usize) -> u8
 }
 
 // Sets `count` bytes from `from` on.
-fn fill(bytes: &mut [u8], from: usize, count: usize, value: u8)
+pub fn fill(bytes: &mut [u8], from: usize, count: usize, value: u8)
     requires { ⌜ from + count ≤ length (now bytes) ⌝ }
     ensures { λ _. ⌜ now (bytes .exit) ≡ take from (now (bytes .entry)) ++ replicate count value ++ drop (from + count) (now (bytes .entry)) ⌝ }
 {

@@ -16,10 +16,12 @@ pub record IsPacked (n : ℕ) : Type 0 where
   pub in-range : InRange (unpacked n)
   pub same : packed (unpacked n) ≡ n
 
+-- each number is one of those
 unfoldable pub AllPacked : List ℕ → Type 0
 AllPacked [] = Unit {0}
 AllPacked (n ∷ ns) = IsPacked n × AllPacked ns
 
+-- the records that the numbers stand for, and with the kept vectors the state
 abbrev pub recordsOf : List ℕ → List BlockRecord
 recordsOf ns = map unpacked ns
 
@@ -31,10 +33,12 @@ abbrev pub StoredRecords : List ℕ → Outcome (List BlockRecord) → Type 0
 StoredRecords out (got rs e) = out ≡ map packed rs
 StoredRecords out (refused k e) = Unit {0}
 
+-- the same between macro blocks
 abbrev pub StoredState : List ℕ → Outcome State → Type 0
 StoredState out (got s e) = (recordsOf out ≡ s .records) × AllPacked out
 StoredState out (refused k e) = Unit {0}
 
+-- what the code answers behind a macro block
 abbrev pub asStep : Outcome State → Step
 asStep (got s e) = Next (s .last) (s .last2) e
 asStep (refused k e) = Refused k e

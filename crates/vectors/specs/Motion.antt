@@ -23,6 +23,7 @@ use Rattle.vectors.specs.declared.MovedRead.{MovedRead}
 use Rattle.vectors.specs.declared.MovedRead.the-variants as moved-read
 use Rattle.vectors.specs.Component.{vector}
 
+-- the vector (0, 0)
 abbrev pub zeroVector : Vector
 zeroVector = record { x = pos 0; y = pos 0 }
 
@@ -69,7 +70,7 @@ movingFour code a b c d last = do
   upper ← row code c d
   pure (behind (Four lower upper) (upper .right) last)
 
--- a macro block of a mode, where a, b, c, d say which of its luma blocks are coded
+-- a macro block of a mode, where a, b, c, d say which of its luma blocks are coded. A mode is at most 7; any other number would count as NOMV
 unfoldable pub motion : ℕ → ℕ → Bool → Bool → Bool → Bool → Vector → Vector → Parse Moved
 motion code mode a b c d last last2 =
     pick (eqb mode 2) (moving code last)

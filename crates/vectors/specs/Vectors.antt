@@ -18,7 +18,7 @@ use Rattle.block_record.specs.Record.{withPrediction, uncoded}
 use Rattle.vectors.specs.declared.Motion.{Motion}
 use Rattle.vectors.specs.Motion.{zeroVector, motion, predictionOf}
 
--- the raster number of block k of macro block (x, y)
+-- the raster number of block k of macro block q: luma A, B, C, D, then Cb, then Cr
 unfoldable pub numberIn : PixelFormat → ℕ → ℕ → Place → ℕ → ℕ
 numberIn f w h q k = rasterNumber f w h (getD (blocksOfMacro f (q .x) (q .y)) k (block 0 0 0))
 
@@ -52,7 +52,7 @@ unfoldable pub macroBlocks : PixelFormat → ℕ → ℕ → ℕ → List ℕ �
 macroBlocks f w h code modes zero m s = pure s
 macroBlocks f w h code modes (suc n) m s = bind (macroBlock f w h code (getD modes m 0) (getD (codedMacros w h) m (at 0 0)) s) (macroBlocks f w h code modes n (m + 1))
 
--- "one bit: 0 variable code, 1 five bits and a sign"; "last, last2 start each frame at 0"
+-- "one bit: 0 variable code, 1 five bits and a sign", also where no block is coded; "last, last2 start each frame at 0"
 unfoldable pub vectors : PixelFormat → ℕ → ℕ → List ℕ → List BlockRecord → Parse (List BlockRecord)
 vectors f w h modes rs = do
   code ← field 1

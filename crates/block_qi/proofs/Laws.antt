@@ -1,0 +1,123 @@
+-- The steps keep the reading algebra's laws; they change nothing but the index, which stays in its range. Assumes nothing.
+use Prim.Native.Nat.{ℕ, zero, suc, _+_, _-_, _*_, _≤_, _<_}
+use native.Mathlib.Omega.{arith}
+use native.Mathlib.Nat.{zero-mul, suc-mul}
+use mathlib.Core.Path.{_≡_, refl, sym, ap, _∙_, subst}
+use mathlib.Core.List.{List, [], _∷_}
+use mathlib.Core.Bool.{Bool, true, false}
+use lib.Dec.{eqb, ltb}
+use lib.ListN.{length, getD, drop, set, length-set}
+use lib.Seq.{getD-set-same, getD-set-other, set-out}
+use borrow.Author.Tests.{eqb-true, eqb-false, ltb-true, ltb-false}
+use Rattle.bitstream.specs.Reading.{got, pure, choose}
+use Rattle.bitstream.proofs.Laws.{Lawful, pure-lawful, bind-lawful, bind-got}
+use Rattle.bitstream.proofs.Spends.{Spends, spends-more, pure-spends, bind-spends}
+use Rattle.runs.specs.Lists.{none, one, AllBelow}
+use Rattle.runs.specs.Runs.{bitString}
+use Rattle.runs.specs.declared.RunCode.the-variants.{Long}
+use Rattle.runs.proofs.Laws.{bitString-lawful, bitString-spends}
+use Rattle.runs.proofs.Strings.{string-bits}
+use Rattle.block_record.specs.declared.BlockRecord.{BlockRecord}
+use Rattle.block_record.specs.Record.{InRange, uncoded, withQiIndex}
+use Rattle.block_record.proofs.MemoryLaws.{AllInRange, in-range-at, in-range-set}
+use Rattle.block_qi.specs.BlockQi.{indexAt, atStep, raised, oneStep, steps, blockQi}
+
+step-lawful : (q : ℕ) (coded : List ℕ) (rs : List BlockRecord) → Lawful (oneStep q coded rs)
+unfolding oneStep
+step-lawful q coded rs = bind-lawful (bitString-lawful Long (atStep q coded rs)) (λ bits. pure-lawful _)
+
+steps-lawful : (n q : ℕ) (coded : List ℕ) (rs : List BlockRecord) → Lawful (steps n q coded rs)
+unfolding steps
+steps-lawful zero q coded rs = pure-lawful rs
+steps-lawful (suc n) q coded rs = bind-lawful (step-lawful q coded rs) (steps-lawful n (q + 1) coded)
+
+pub qi-lawful : (n : ℕ) (coded : List ℕ) (rs : List BlockRecord) → Lawful (blockQi n coded rs)
+unfolding blockQi
+qi-lawful n coded rs = steps-lawful (n - 1) 0 coded rs
+
+-- ---- bits that are spent: a step has at most a bit for each coded block, and 19 for each of these
+at-most : (q : ℕ) (coded : List ℕ) (rs : List BlockRecord) → atStep q coded rs ≤ length coded
+unfolding atStep
+at-most q [] rs = omega arith
+at-most q (b ∷ coded) rs = omega (arith, at-most q coded rs, one-most (eqb (indexAt rs b) q))
+  where
+    one-most : (t : Bool) → choose t 1 0 ≤ 1
+    one-most true = omega arith
+    one-most false = omega arith
+
+step-spends : (q : ℕ) (coded : List ℕ) (rs : List BlockRecord) → Spends (length coded * 19) (oneStep q coded rs)
+unfolding oneStep
+step-spends q coded rs = spends-more (omega (arith, at-most q coded rs)) (bind-spends {b = 0} (bitString-spends Long (atStep q coded rs)) (λ bits. pure-spends _))
+
+steps-spends : (n q : ℕ) (coded : List ℕ) (rs : List BlockRecord) → Spends (n * (length coded * 19)) (steps n q coded rs)
+unfolding steps
+steps-spends zero q coded rs = rw zero-mul (pure-spends rs)
+steps-spends (suc n) q coded rs = spends-more (rw suc-mul (omega arith)) (bind-spends (step-spends q coded rs) (steps-spends n (q + 1) coded))
+
+pub qi-spends : (n : ℕ) (coded : List ℕ) (rs : List BlockRecord) → Spends ((n - 1) * (length coded * 19)) (blockQi n coded rs)
+unfolding blockQi
+qi-spends n coded rs = steps-spends (n - 1) 0 coded rs
+
+-- ---- what holds of the records after each raised block holds of them in the end
+module _ (P : List BlockRecord → Type 0) (q : ℕ) (keeps : (rs : List BlockRecord) (b bit : ℕ) → bit < 2 → P rs → P (set rs b (withQiIndex (q + bit) (getD rs b uncoded)))) where
+  raised-keeps : (coded bits : List ℕ) (rs : List BlockRecord) → AllBelow 2 bits → P rs → P (raised q coded bits rs)
+  unfolding raised
+  raised-keeps [] bits rs small h = h
+  raised-keeps (b ∷ coded) bits rs small h =
+      go (eqb (indexAt rs b) q) (raised-keeps coded (drop 1 bits) (set rs b (withQiIndex (q + getD bits 0 0) (getD rs b uncoded))) (rest small) (keeps rs b (getD bits 0 0) (first small) h)) (raised-keeps coded bits rs small h)
+    where
+      first : {l : List ℕ} → AllBelow 2 l → getD l 0 0 < 2
+      first none = omega arith
+      first (one k a) = k
+
+      rest : {l : List ℕ} → AllBelow 2 l → AllBelow 2 (drop 1 l)
+      rest none = none
+      rest (one k a) = a
+
+      go : {x y : List BlockRecord} (t : Bool) → P x → P y → P (choose t x y)
+      go true a b = a
+      go false a b = b
+
+module _ (P : List BlockRecord → Type 0) (coded : List ℕ) where
+  steps-keep : (keeps : (q : ℕ) → q ≤ 1 → (rs : List BlockRecord) (b bit : ℕ) → bit < 2 → P rs → P (set rs b (withQiIndex (q + bit) (getD rs b uncoded))))
+      → (n q : ℕ) → q + n ≤ 2 → (rs : List BlockRecord) (p : List ℕ) (i : ℕ) (rs′ : List BlockRecord) (e : ℕ) → P rs → steps n q coded rs p i ≡ got rs′ e → P rs′
+  unfolding steps oneStep
+  steps-keep keeps zero q l rs p i rs′ e h g = subst P (cc) h
+  steps-keep keeps (suc n) q l rs p i rs′ e h g =
+      let u = bind-got (oneStep q coded rs) (steps n (q + 1) coded) p i g in
+      let v = bind-got (bitString Long (atStep q coded rs)) (λ bits. pure (raised q coded bits rs)) p i (u .2) in
+      let z : raised q coded (v .0) rs ≡ u .0 = cc in
+      steps-keep keeps n (q + 1) (omega arith) (u .0) p (u .1) rs′ e
+      (subst P z (raised-keeps P q (keeps q (omega arith)) coded (v .0) rs (string-bits Long (atStep q coded rs) p i (v .2)) h)) (u .3)
+
+  qi-keeps : (keeps : (q : ℕ) → q ≤ 1 → (rs : List BlockRecord) (b bit : ℕ) → bit < 2 → P rs → P (set rs b (withQiIndex (q + bit) (getD rs b uncoded))))
+      → (n : ℕ) → n ≤ 3 → (rs : List BlockRecord) (p : List ℕ) (i : ℕ) (rs′ : List BlockRecord) (e : ℕ) → P rs → blockQi n coded rs p i ≡ got rs′ e → P rs′
+  unfolding blockQi
+  qi-keeps keeps n l rs p i rs′ e h g = steps-keep keeps (n - 1) 0 (omega arith) rs p i rs′ e h g
+
+-- another index, and a block's record with its index left out
+set-but : (rs : List BlockRecord) (b k n : ℕ) → withQiIndex 0 (getD (set rs b (withQiIndex k (getD rs b uncoded))) n uncoded) ≡ withQiIndex 0 (getD rs n uncoded)
+set-but rs b k n = go (eqb n b) refl (ltb b (length rs)) refl
+  where
+    go : (t : Bool) → eqb n b ≡ t → (s : Bool) → ltb b (length rs) ≡ s → withQiIndex 0 (getD (set rs b (withQiIndex k (getD rs b uncoded))) n uncoded) ≡ withQiIndex 0 (getD rs n uncoded)
+    go true t true s =
+        let z : n ≡ b = eqb-true n b t in
+        ap (λ (m : ℕ). withQiIndex 0 (getD (set rs b (withQiIndex k (getD rs b uncoded))) m uncoded)) z
+        ∙ ap (withQiIndex 0) (getD-set-same rs b (withQiIndex k (getD rs b uncoded)) uncoded (ltb-true b (length rs) s))
+        ∙ ap (λ (m : ℕ). withQiIndex 0 (getD rs m uncoded)) (sym z)
+    go true t false s = ap (λ (l : List BlockRecord). withQiIndex 0 (getD l n uncoded)) (set-out rs b (withQiIndex k (getD rs b uncoded)) (ltb-false b (length rs) s))
+    go false t s e = ap (withQiIndex 0) (getD-set-other rs b n (withQiIndex k (getD rs b uncoded)) uncoded (eqb-false n b t))
+
+module _ (n : ℕ) (few : n ≤ 3) (coded : List ℕ) (rs : List BlockRecord) (p : List ℕ) (i : ℕ) (rs′ : List BlockRecord) (e : ℕ) (g : blockQi n coded rs p i ≡ got rs′ e) where
+  pub qi-in-range : AllInRange rs → AllInRange rs′
+  qi-in-range h =
+      qi-keeps AllInRange coded
+      (λ q l s b bit k a. in-range-set s b _ a (record { qi-index = omega arith; prediction = in-range-at s b a .prediction }))
+      n few rs p i rs′ e h g
+
+  pub qi-length : length rs′ ≡ length rs
+  qi-length = qi-keeps (λ s. length s ≡ length rs) coded (λ q l s b bit k a. length-set s b _ ∙ a) n few rs p i rs′ e refl g
+
+  -- nothing but the index changes
+  pub qi-but : (m : ℕ) → withQiIndex 0 (getD rs′ m uncoded) ≡ withQiIndex 0 (getD rs m uncoded)
+  qi-but m = qi-keeps (λ s. withQiIndex 0 (getD s m uncoded) ≡ withQiIndex 0 (getD rs m uncoded)) coded (λ q l s b bit k a. set-but s b (q + bit) m ∙ a) n few rs p i rs′ e refl g

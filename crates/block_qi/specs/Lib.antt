@@ -1,0 +1,2 @@
+pub mod BlockQi
+pub mod Answer

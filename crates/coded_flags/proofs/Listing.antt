@@ -1,0 +1,160 @@
+-- The coded blocks, block by block in coded order. Assumes nothing.
+use Prim.Native.Nat.{ℕ, zero, suc, _+_, _*_, _/_, _≤_, _<_}
+use native.Mathlib.Omega.{arith}
+use native.Mathlib.Nat.{le-of-suc-le-suc, not-suc-le-zero}
+use native.Mathlib.Numerals.{add-one}
+use mathlib.Core.Path.{_≡_, refl, sym, ap, _∙_}
+use mathlib.Core.List.{List, [], _∷_, _++_, map, append-nil, append-assoc}
+use mathlib.Core.Bool.{Bool, true, false}
+use lib.Dec.{eqb}
+use lib.ListN.{length, getD, take, drop, set, replicate, length-map, length-set, take-append-drop, drop-of-length-le}
+use lib.Seq.{take-suc-set, drop-set-lt, drop-drop, length-take-le}
+use Rattle.bitstream.specs.Reading.{choose}
+use Rattle.geometry.specs.declared.PixelFormat.{PixelFormat}
+use Rattle.geometry.specs.declared.Plane.{Plane}
+use Rattle.geometry.specs.Sizes.{planeBlocks, blocksOf, planeOf}
+use Rattle.geometry.specs.Frame.{block, frameOrder}
+use Rattle.geometry.proofs.FrameLaws.{frame-length, frame-back}
+use Rattle.geometry.proofs.SizeLaws.{before-luma, before-next, before-to}
+use Rattle.geometry.specs.Raster.{rasterNumber}
+use Rattle.geometry.proofs.RasterLaws.{raster-number-below}
+use Rattle.block_record.specs.Record.{uncoded}
+use Rattle.block_record.specs.Packed.{packed, predictionNumber}
+use Rattle.block_record.proofs.Laws.{packed-uncoded}
+use Rattle.coded_flags.specs.Flags.{ones}
+use Rattle.coded_flags.specs.Coded.{order, flagged, codedBlocks, codedLuma, nowCoded, setAt, codedRecords}
+use Rattle.coded_flags.specs.Answer.{listedOf}
+use Rattle.runs.proofs.ListLaws.{drop-next}
+
+-- ---- lists
+map-at : {A : Type 0} (g : A → ℕ) (l : List A) (i : ℕ) (d : A) → i < length l → getD (map g l) i 0 ≡ g (getD l i d)
+map-at g [] i d h = absurd (not-suc-le-zero h)
+map-at g (x ∷ l) zero d h = refl
+map-at g (x ∷ l) (suc i) d h = map-at g l i d (le-of-suc-le-suc h)
+
+map-set : {A : Type 0} (g : A → ℕ) (l : List A) (i : ℕ) (v : A) → map g (set l i v) ≡ set (map g l) i (g v)
+map-set g [] i v = refl
+map-set g (x ∷ l) zero v = refl
+map-set g (x ∷ l) (suc i) v = ap (λ (m : List ℕ). g x ∷ m) (map-set g l i v)
+
+map-replicate : {A : Type 0} (g : A → ℕ) (n : ℕ) (v : A) → map g (replicate n v) ≡ replicate n (g v)
+map-replicate g zero v = refl
+map-replicate g (suc n) v = ap (λ (m : List ℕ). g v ∷ m) (map-replicate g n v)
+
+map-set-at : {A : Type 0} (g : A → ℕ) (v : A) (ns : List ℕ) (l : List A) → map g (setAt v ns l) ≡ setAt (g v) ns (map g l)
+unfolding setAt
+map-set-at g v [] l = refl
+map-set-at g v (n ∷ ns) l = map-set-at g v ns (set l n v) ∙ ap (setAt (g v) ns) (map-set g l n v)
+
+pub set-at-length : {A : Type 0} (v : A) (ns : List ℕ) (l : List A) → length (setAt v ns l) ≡ length l
+unfolding setAt
+set-at-length v [] l = refl
+set-at-length v (n ∷ ns) l = set-at-length v ns (set l n v) ∙ length-set l n v
+
+-- ---- raster numbers
+module _ (f : PixelFormat) (w h : ℕ) where
+  pub order-length : length (order f w h) ≡ blocksOf f w h
+  unfolding order
+  order-length = length-map (frameOrder f w h) (rasterNumber f w h) ∙ frame-length f w h
+
+  pub order-at : (i : ℕ) → i < blocksOf f w h → getD (order f w h) i 0 ≡ rasterNumber f w h (getD (frameOrder f w h) i (block 0 0 0))
+  unfolding order
+  order-at i l = map-at (rasterNumber f w h) (frameOrder f w h) i (block 0 0 0) (omega (arith, frame-length f w h))
+
+  pub order-small : (i : ℕ) → i < blocksOf f w h → getD (order f w h) i 0 < blocksOf f w h
+  order-small i l = rw (order-at i l) (raster-number-below f w h (getD (frameOrder f w h) i (block 0 0 0)) (frame-back f w h i l .0))
+
+-- ---- the packed records
+pub packed-coded : packed nowCoded ≡ 1
+unfolding packed predictionNumber
+packed-coded = refl
+
+pub records-packed : (f : PixelFormat) (w h : ℕ) (flags : List ℕ) → map packed (codedRecords f w h flags) ≡ setAt 1 (codedBlocks f w h flags) (replicate (blocksOf f w h) 0)
+unfolding codedRecords
+records-packed f w h flags =
+    map-set-at packed nowCoded (codedBlocks f w h flags) (replicate (blocksOf f w h) uncoded)
+    ∙ (λ i. setAt (packed-coded i) (codedBlocks f w h flags) ((map-replicate packed (blocksOf f w h) uncoded ∙ ap (replicate (blocksOf f w h)) packed-uncoded) i))
+
+-- ---- the flagged ones, from place i on
+flagged-step : (bs flags : List ℕ) (i : ℕ) → i < length bs → i < length flags
+    → flagged (drop i bs) (drop i flags) ≡ choose (eqb (getD flags i 0) 1) (getD bs i 0 ∷ flagged (drop (i + 1) bs) (drop (i + 1) flags)) (flagged (drop (i + 1) bs) (drop (i + 1) flags))
+unfolding flagged
+flagged-step bs flags i hb hf = rw (drop-next bs i hb, drop-next flags i hf)
+
+flagged-done : (bs flags : List ℕ) (i : ℕ) → length bs ≤ i → flagged (drop i bs) (drop i flags) ≡ []
+unfolding flagged
+flagged-done bs flags i h = rw (drop-of-length-le bs h)
+
+-- what the loop over the blocks keeps
+pub record Listing (bs flags records₀ coded₀ records coded : List ℕ) (count i : ℕ) : Type 0 where
+  pub fewer : count ≤ i
+  pub numbers : flagged bs flags ≡ take count coded ++ flagged (drop i bs) (drop i flags)
+  pub behind : drop count coded ≡ drop count coded₀
+  pub marks : setAt 1 (flagged bs flags) records₀ ≡ setAt 1 (flagged (drop i bs) (drop i flags)) records
+
+pub listing-start : (bs flags records coded : List ℕ) → Listing bs flags records coded records coded 0 0
+listing-start bs flags records coded = record { fewer = omega arith; numbers = refl; behind = refl; marks = refl }
+
+module _ (bs flags records₀ coded₀ records coded : List ℕ) (count i : ℕ) (l : Listing bs flags records₀ coded₀ records coded count i) where
+  pub listing-on : i < length bs → i < length flags → count < length coded → let t = eqb (getD flags i 0) 1 in let n = getD bs i 0 in
+      Listing bs flags records₀ coded₀ (choose t (set records n 1) records) (choose t (set coded count n) coded) (choose t (count + 1) count) (i + 1)
+  unfolding setAt
+  listing-on hb hf hc = go (eqb (getD flags i 0) 1) (flagged-step bs flags i hb hf)
+    where
+      go : (t : Bool) → let n = getD bs i 0 in let more = flagged (drop (i + 1) bs) (drop (i + 1) flags) in flagged (drop i bs) (drop i flags) ≡ choose t (n ∷ more) more
+          → Listing bs flags records₀ coded₀ (choose t (set records n 1) records) (choose t (set coded count n) coded) (choose t (count + 1) count) (i + 1)
+      go true s =
+          let n = getD bs i 0 in
+          let more = flagged (drop (i + 1) bs) (drop (i + 1) flags) in
+          let z = add-one count in
+          let a : take (count + 1) (set coded count n) ≡ take count coded ++ n ∷ [] = rw z (take-suc-set coded count n hc) in
+          let d : drop (count + 1) coded ≡ drop (count + 1) coded₀ = sym (drop-drop 1 count coded) ∙ ap (drop 1) (l .behind) ∙ drop-drop 1 count coded₀ in
+          record {
+            fewer = omega (arith, l .fewer);
+            numbers = l .numbers ∙ ap (λ (x : List ℕ). take count coded ++ x) s ∙ sym (append-assoc (take count coded) (n ∷ []) more) ∙ ap (λ (x : List ℕ). x ++ more) (sym a);
+            behind = drop-set-lt (count + 1) coded count n (omega arith) ∙ d;
+            marks = l .marks ∙ ap (λ (x : List ℕ). setAt 1 x records) s;
+          }
+      go false s =
+          record {
+            fewer = omega (arith, l .fewer);
+            numbers = l .numbers ∙ ap (λ (x : List ℕ). take count coded ++ x) s;
+            behind = l .behind;
+            marks = l .marks ∙ ap (λ (x : List ℕ). setAt 1 x records) s;
+          }
+
+  -- all blocks are done
+  module _ (r : length bs ≤ i) (hc : count ≤ length coded) where
+    all : flagged bs flags ≡ take count coded
+    all = l .numbers ∙ ap (λ (x : List ℕ). take count coded ++ x) (flagged-done bs flags i r) ∙ append-nil (take count coded)
+
+    pub listing-count : count ≡ length (flagged bs flags)
+    listing-count = sym (ap length all ∙ length-take-le count coded hc)
+
+    pub listing-numbers : coded ≡ flagged bs flags ++ drop (length (flagged bs flags)) coded₀
+    listing-numbers =
+        let e = listing-count in
+        sym (take-append-drop count coded) ∙ (λ i. sym all i ++ l .behind i) ∙ ap (λ (n : ℕ). flagged bs flags ++ drop n coded₀) e
+
+    pub listing-marks : records ≡ setAt 1 (flagged bs flags) records₀
+    unfolding setAt
+    listing-marks = sym (l .marks ∙ ap (λ (x : List ℕ). setAt 1 x records) (flagged-done bs flags i r))
+
+-- over the lists and the number that a program has in its variables
+pub listing-by : (bs flags records₀ coded₀ records coded : List ℕ) (count i : ℕ) → Listing bs flags records₀ coded₀ records coded count i → i < length bs → i < length flags → count < length coded
+    → (records′ coded′ : List ℕ) (count′ : ℕ) → let t = eqb (getD flags i 0) 1 in let n = getD bs i 0 in
+    count′ ≡ choose t (count + 1) count → records′ ≡ choose t (set records n 1) records → coded′ ≡ choose t (set coded count n) coded → Listing bs flags records₀ coded₀ records′ coded′ count′ (i + 1)
+listing-by bs flags records₀ coded₀ records coded count i l hb hf hc records′ coded′ count′ en er ec = rw (en, er, ec) (listing-on bs flags records₀ coded₀ records coded count i l hb hf hc)
+
+-- what list_coded answers
+pub listed-by : (f : PixelFormat) (w h : ℕ) (flags : List ℕ) (count luma : ℕ) → count ≡ length (codedBlocks f w h flags) → luma ≡ codedLuma f w h flags
+    → record { count = count; luma = luma } ≡ listedOf f w h flags
+listed-by f w h flags count luma a b = λ i. record { count = a i; luma = b i }
+
+-- the luma plane, over what a program has in its variables
+module _ (f : PixelFormat) (w h : ℕ) (q : Plane) where
+  pub luma-blocks : q ≡ planeOf f w h 0 → q .length / 64 ≡ planeBlocks f w h 0
+  luma-blocks e = let d : 64 * planeBlocks f w h 0 / 64 ≡ planeBlocks f w h 0 = omega arith in rw (e, d)
+
+  pub luma-part : (flags : List ℕ) → q ≡ planeOf f w h 0 → length flags ≡ blocksOf f w h → length (take (q .length / 64) flags) ≡ q .length / 64
+  luma-part flags e k = length-take-le (q .length / 64) flags (omega (arith, luma-blocks e, before-luma f w h, before-next f w h 0, before-to f w h 0 (omega arith)))

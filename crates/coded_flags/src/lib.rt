@@ -1,0 +1,291 @@
+// Which blocks of a frame are coded: their flags in coded order, the list of the coded ones, and the records of all.
+use geometry::PixelFormat;
+use runs::Done;
+use runs::RunCode;
+ghost use mathlib.Core.Path.{_≡_};
+ghost use mathlib.Core.List.{_++_, map};
+ghost use Prim.Native.Nat.{ℕ, _+_, _*_, _/_, _≤_, _<_, _^_};
+ghost use lib.Dec.{eqb};
+ghost use lib.ListN.{length, getD, take, drop, set, replicate};
+ghost use Rattle.bitstream.specs.Reading.{choose};
+ghost use Rattle.geometry.specs.Sizes.{blocksOf, superBlocksOf};
+ghost use Rattle.block_record.specs.Packed.{packed};
+ghost use Rattle.runs.specs.Runs.{asDone, Stored};
+ghost use Rattle.coded_flags.specs.Flags.{ones, rest, superSizes, superFlags, partlyBlocks, spread, interFlags};
+ghost use Rattle.coded_flags.specs.Coded.{order, codedBlocks, codedRecords};
+ghost use Rattle.coded_flags.specs.Answer.{asSupers, StoredSupers, blockFlags, takenNext, listedOf};
+
+// How many super blocks are not partly coded, and the place behind both strings of super blocks; or the refusal.
+enum SuperRead {
+    At(usize, usize),
+    Refused(u32, usize),
+}
+
+// How much is taken of the string of fully coded super blocks, and of the string of blocks.
+struct Taken {
+    full: usize,
+    bits: usize,
+}
+
+// How many blocks are coded, and how many of them are luma blocks, which come first.
+pub struct Listed {
+    pub count: usize,
+    pub luma: usize,
+}
+
+// The packed record of a coded block with qi index 0 and no prediction.
+const NOW_CODED: u32 = 1;
+
+fn one_if(b: u8) -> usize
+    ensures { λ r. ⌜ (r ≡ choose (eqb b 1) 1 0) × (r ≤ 1) ⌝ }
+{
+    if b == 1 {
+        return 1;
+    }
+    0
+}
+
+// How many of the bits are 1.
+fn count_ones(bits: &[u8]) -> usize
+    ensures { λ r. ⌜ (r ≡ ones (now (bits .entry))) × (r ≤ length (now (bits .entry))) ⌝ }
+{
+    let mut n: usize = 0;
+    let mut i = 0;
+    while i < bits.len() {
+        n += one_if(bits[i]);
+        i += 1;
+    }
+    n
+}
+
+// The two strings of super blocks, the first into the first half of `supers`, the second into the second half.
+fn read_super_flags(packet: &[u8], at: usize, supers: &mut [u8]) -> SuperRead
+    requires { ⌜ length (now packet) ≤ 2 ^ 58 ⌝ }
+    ensures { λ r. ⌜ r ≡ asSupers (superFlags (length (now (supers .entry)) / 2) (now (packet .entry)) at) ⌝ }
+    ensures { λ r. ⌜ StoredSupers (now (supers .exit)) (length (now (supers .entry)) / 2) (superFlags (length (now (supers .entry)) / 2) (now (packet .entry)) at) ⌝ }
+{
+    let n = supers.len() / 2;
+    let partly = runs::read_string(packet, at, RunCode::Long, &mut supers[..n]);
+    match partly {
+        Done::Refused(k, e) => SuperRead::Refused(k, e),
+        Done::At(next) => {
+            let left = n - count_ones(&supers[..n]);
+            let end = n + left;
+            let full = runs::read_string(packet, next, RunCode::Long, &mut supers[n..end]);
+            match full {
+                Done::Refused(k, e) => SuperRead::Refused(k, e),
+                Done::At(place) => SuperRead::At(left, place),
+            }
+        }
+    }
+}
+
+fn count_if(b: u8, count: u64) -> usize
+    ensures { λ r. ⌜ (r ≡ choose (eqb b 1) count 0) × (r ≤ count) ⌝ }
+{
+    if b == 1 {
+        return count as usize;
+    }
+    0
+}
+
+// How many blocks the partly coded super blocks have.
+fn partly_blocks(format: PixelFormat, w: u64, h: u64, partly: &[u8]) -> usize
+    requires { ⌜ (w ≤ 65535) × (h ≤ 65535) × (length (now partly) ≡ superBlocksOf format w h) ⌝ }
+    ensures { λ r. ⌜ r ≡ partlyBlocks (superSizes format w h) (now (partly .entry)) ⌝ }
+{
+    let mut n: usize = 0;
+    let mut k = 0;
+    while k < partly.len() {
+        let s = geometry::super_block(format, w, h, k as u64);
+        n += count_if(partly[k], s.count);
+        k += 1;
+    }
+    n
+}
+
+// Copies `count` bytes of `from`, from `at` on, to `bytes`, from `to` on.
+fn copy(bytes: &mut [u8], to: usize, from: &[u8], at: usize, count: usize)
+    requires { ⌜ (to + count ≤ length (now bytes)) × (at + count ≤ length (now from)) ⌝ }
+    ensures { λ _. ⌜ now (bytes .exit) ≡ take to (now (bytes .entry)) ++ take count (drop at (now (from .entry))) ++ drop (to + count) (now (bytes .entry)) ⌝ }
+{
+    let mut k = 0;
+    while k < count {
+        bytes[to + k] = from[at + k];
+        k += 1;
+    }
+}
+
+// The flags of one super block, whose blocks are `count` from `first` on.
+fn flag_blocks(
+    flags: &mut [u8],
+    first: usize,
+    count: usize,
+    partly: u8,
+    full: &[u8],
+    bits: &[u8],
+    taken: Taken,
+) -> Taken
+    requires { ⌜ (first + count ≤ length (now flags)) × (partly ≡ 1 → taken .bits + count ≤ length (now bits)) × ((partly ≡ 1 → ⊥) → taken .full < length (now full)) ⌝ }
+    ensures { λ r. ⌜ r ≡ takenNext partly count taken ⌝ }
+    ensures { λ r. ⌜ now (flags .exit) ≡ take first (now (flags .entry)) ++ blockFlags partly count (now (full .entry)) (now (bits .entry)) taken ++ drop (first + count) (now (flags .entry)) ⌝ }
+{
+    let j = taken.full;
+    let m = taken.bits;
+    if partly == 1 {
+        copy(flags, first, bits, m, count);
+        return Taken {
+            full: j,
+            bits: m + count,
+        };
+    }
+    runs::fill(flags, first, count, full[j]);
+    Taken {
+        full: j + 1,
+        bits: m,
+    }
+}
+
+// Spreads the three strings over the flags of all blocks.
+fn spread_flags(
+    format: PixelFormat,
+    w: u64,
+    h: u64,
+    partly: &[u8],
+    full: &[u8],
+    bits: &[u8],
+    flags: &mut [u8],
+)
+    requires { ⌜ (w ≤ 65535) × (h ≤ 65535) × (length (now partly) ≡ superBlocksOf format w h) × (length (now full) ≡ rest (now partly)) × (length (now bits) ≡ partlyBlocks (superSizes format w h) (now partly)) × (length (now flags) ≡ blocksOf format w h) ⌝ }
+    ensures { λ _. ⌜ now (flags .exit) ≡ spread (superSizes format w h) (now (partly .entry)) (now (full .entry)) (now (bits .entry)) ⌝ }
+{
+    let mut taken = Taken { full: 0, bits: 0 };
+    let mut k = 0;
+    while k < partly.len() {
+        let s = geometry::super_block(format, w, h, k as u64);
+        taken = flag_blocks(
+            flags,
+            s.first as usize,
+            s.count as usize,
+            partly[k],
+            full,
+            bits,
+            taken,
+        );
+        k += 1;
+    }
+}
+
+// The same, with the two strings of super blocks in the two halves of `supers`.
+fn spread_strings(
+    format: PixelFormat,
+    w: u64,
+    h: u64,
+    supers: &[u8],
+    left: usize,
+    bits: &[u8],
+    flags: &mut [u8],
+)
+    requires { ⌜ (w ≤ 65535) × (h ≤ 65535) × (length (now supers) ≡ 2 * superBlocksOf format w h) × (left ≡ rest (take (superBlocksOf format w h) (now supers))) × (length (now bits) ≡ partlyBlocks (superSizes format w h) (take (superBlocksOf format w h) (now supers))) × (length (now flags) ≡ blocksOf format w h) ⌝ }
+    ensures { λ _. ⌜ now (flags .exit) ≡ spread (superSizes format w h) (take (superBlocksOf format w h) (now (supers .entry))) (take left (drop (superBlocksOf format w h) (now (supers .entry)))) (now (bits .entry)) ⌝ }
+{
+    let n = supers.len() / 2;
+    let end = n + left;
+    spread_flags(format, w, h, &supers[..n], &supers[n..end], bits, flags);
+}
+
+// The flags of an inter frame. `supers` and `bits` are scratch for the strings; what they hold afterwards is open.
+pub fn read_flags(
+    packet: &[u8],
+    at: usize,
+    format: PixelFormat,
+    w: u64,
+    h: u64,
+    supers: &mut [u8],
+    bits: &mut [u8],
+    flags: &mut [u8],
+) -> Done
+    requires { ⌜ (length (now packet) ≤ 2 ^ 58) × (w ≤ 65535) × (h ≤ 65535) × (length (now supers) ≡ 2 * superBlocksOf format w h) × (length (now bits) ≡ blocksOf format w h) × (length (now flags) ≡ blocksOf format w h) ⌝ }
+    ensures { λ r. ⌜ r ≡ asDone (interFlags format w h (now (packet .entry)) at) ⌝ }
+    ensures { λ r. ⌜ Stored (now (flags .exit)) (interFlags format w h (now (packet .entry)) at) ⌝ }
+{
+    let n = supers.len() / 2;
+    let read = read_super_flags(packet, at, supers);
+    match read {
+        SuperRead::Refused(k, e) => Done::Refused(k, e),
+        SuperRead::At(left, next) => {
+            let m = partly_blocks(format, w, h, &supers[..n]);
+            let string = runs::read_string(packet, next, RunCode::Short, &mut bits[..m]);
+            match string {
+                Done::Refused(k, e) => Done::Refused(k, e),
+                Done::At(place) => {
+                    spread_strings(format, w, h, supers, left, &bits[..m], flags);
+                    Done::At(place)
+                }
+            }
+        }
+    }
+}
+
+// The flags of an intra frame.
+pub fn flag_all(flags: &mut [u8])
+    ensures { λ _. ⌜ now (flags .exit) ≡ replicate (length (now (flags .entry))) 1 ⌝ }
+{
+    let n = flags.len();
+    runs::fill(flags, 0, n, 1);
+}
+
+// Block i of the coded order: where it is coded, its record, and its number behind the first `count` of `coded`.
+fn list_block(
+    format: PixelFormat,
+    w: u64,
+    h: u64,
+    i: usize,
+    flag: u8,
+    records: &mut [u32],
+    coded: &mut [u64],
+    count: usize,
+) -> usize
+    requires { ⌜ (w ≤ 65535) × (h ≤ 65535) × (i < blocksOf format w h) × (length (now records) ≡ blocksOf format w h) × (count < length (now coded)) ⌝ }
+    ensures { λ r. ⌜ r ≡ choose (eqb flag 1) (count + 1) count ⌝ }
+    ensures { λ r. ⌜ now (records .exit) ≡ choose (eqb flag 1) (set (now (records .entry)) (getD (order format w h) i 0) 1) (now (records .entry)) ⌝ }
+    ensures { λ r. ⌜ now (coded .exit) ≡ choose (eqb flag 1) (set (now (coded .entry)) count (getD (order format w h) i 0)) (now (coded .entry)) ⌝ }
+{
+    if flag != 1 {
+        return count;
+    }
+    let b = geometry::block_at(format, w, h, i as u64);
+    let n = geometry::raster_number(format, w, h, b);
+    records[n as usize] = NOW_CODED;
+    coded[count] = n;
+    count + 1
+}
+
+// The coded blocks' raster numbers, in coded order, into the front of `coded`, whose rest stays; and all blocks' records.
+pub fn list_coded(
+    format: PixelFormat,
+    w: u64,
+    h: u64,
+    flags: &[u8],
+    records: &mut [u32],
+    coded: &mut [u64],
+) -> Listed
+    requires { ⌜ (w ≤ 65535) × (h ≤ 65535) × (length (now flags) ≡ blocksOf format w h) × (now records ≡ replicate (blocksOf format w h) 0) × (length (now coded) ≡ blocksOf format w h) ⌝ }
+    ensures { λ r. ⌜ r ≡ listedOf format w h (now (flags .entry)) ⌝ }
+    ensures { λ r. ⌜ now (records .exit) ≡ map packed (codedRecords format w h (now (flags .entry))) ⌝ }
+    ensures { λ r. ⌜ now (coded .exit) ≡ codedBlocks format w h (now (flags .entry)) ++ drop (length (codedBlocks format w h (now (flags .entry)))) (now (coded .entry)) ⌝ }
+{
+    let mut count: usize = 0;
+    let mut i = 0;
+    while i < flags.len() {
+        count = list_block(format, w, h, i, flags[i], records, coded, count);
+        i += 1;
+    }
+    let luma = geometry::plane_of(format, w, h, 0);
+    let n = (luma.length / 64) as usize;
+    let first = count_ones(&flags[..n]);
+    Listed {
+        count: count,
+        luma: first,
+    }
+}

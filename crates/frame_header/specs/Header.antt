@@ -1,0 +1,53 @@
+-- The header of a frame packet. An empty packet has none: it is a repeat.
+use Prim.Native.Nat.{ℕ, zero, suc}
+use mathlib.Core.List.{List, [], _∷_, _++_}
+use mathlib.Core.Bool.{Bool, true}
+use lib.Dec.{eqb}
+use Rattle.bitstream.specs.Reading.{Parse, pure, bind, pick, choose, field, judged, _>>=_, _>>_}
+use Rattle.frame_header.specs.declared.Kind.{Kind}
+use Rattle.frame_header.specs.declared.Kind.the-variants.{Intra, Inter}
+
+abbrev pub isZero : ℕ → Bool
+isZero v = eqb v 0
+
+-- "type (0 intra)"; 9, "an inter or empty packet and no references", comes at the type bit
+abbrev pub allowed : Bool → ℕ → Bool
+allowed references t = choose (eqb t 0) true references
+
+-- "Else bit 0; type": 10, "first bit of a frame packet is 1"
+unfoldable pub frameType : Bool → Parse ℕ
+frameType references = do
+  judged 1 isZero 10
+  judged 1 (allowed references) 9
+
+-- the qi so far, and "up to two more each announced by a 1 bit, the third qi needing no closing bit"
+unfoldable pub moreQis : ℕ → List ℕ → Parse (List ℕ)
+moreQis zero qis = pure qis
+moreQis (suc n) qis = do
+  more ← field 1
+  pick (eqb more 0) (pure qis) (bind (field 6) (λ q. moreQis n (qis ++ q ∷ [])))
+
+-- "qi 6 bits"
+unfoldable pub qiList : Parse (List ℕ)
+qiList = do
+  q ← field 6
+  moreQis 2 (q ∷ [])
+
+-- "intra: 3 zero bits": 11, "intra frame's 3 reserved bits are not 0"
+unfoldable pub reserved : ℕ → Parse ℕ
+reserved t = pick (eqb t 0) (judged 3 isZero 11) (pure 0)
+
+unfoldable pub kindOf : ℕ → Kind
+kindOf t = choose (eqb t 0) Intra Inter
+
+-- a frame's kind and its list of qi
+pub record FrameHeader : Type 0 where
+  pub kind : Kind
+  pub qis : List ℕ
+
+unfoldable pub frameHeader : Bool → Parse FrameHeader
+frameHeader references = do
+  t ← frameType references
+  qis ← qiList
+  reserved t
+  pure (record { kind = kindOf t; qis = qis })
