@@ -3,7 +3,7 @@
 use mathlib.Core.Path.{_≡_, refl, sym, ap, _∙_, subst}
 use mathlib.Core.Bool.{Bool, true, false, cond}
 use mathlib.Core.List.{List}
-use Prim.Native.Nat.{ℕ, zero, suc, _+_, _-_, _*_, _/_, _%_, _≤_, _<_, min}
+use Prim.Native.Nat.{ℕ, zero, suc, _+_, _-_, _*_, _/_, _≤_, _<_, min}
 use native.Mathlib.Nat.{mul-mul-mul-comm, mul-le-mul}
 use native.Mathlib.Omega.{arith}
 use native.Mathlib.Decide.{ℕ-discrete}
@@ -27,16 +27,15 @@ use Rattle.geometry.proofs.Raster.{raster-below}
 use Rattle.ways.specs.Loops.{upTo}
 use Rattle.ways.specs.Corner.{rowAt, blockAt}
 use Rattle.ways.proofs.Corner.{from-corner}
-use Rattle.ways.proofs.Steps.{upTo-same}
+use Rattle.ways.proofs.Steps.{Stays, Puts, Long, set-stays, set-puts, set-long, upTo-stays, upTo-puts, upTo-long, upTo-same}
 use Rattle.block_record.specs.declared.Vector.{Vector}
 use Rattle.block_record.specs.declared.Prediction.{Prediction}
 use Rattle.block_record.specs.declared.Prediction.the-variants.{None, Previous, Golden}
 use Rattle.prediction.specs.declared.Fetches.{Fetches}
-use Rattle.prediction.specs.declared.Start.{Start}
 use Rattle.prediction.specs.declared.Start.the-variants.{At, Outside}
 use Rattle.prediction.specs.Motion.{subsampledAcross, subsampledUp, steps, down, upward, inside, fetch}
 use Rattle.prediction.specs.Predicted.{mean, fetched, moved, predicted, summed}
-use Rattle.prediction.specs.Block.{Small, Lies, fetchesOf, withResidual, meanAt, MeansOf, meanOf, startOf}
+use Rattle.prediction.specs.Block.{Small, Lies, fetchesOf, withResidual, meanAt, RowByRow, meanOf, startOf}
 
 -- ---- a component of a vector
 pub quot-down : (d : ℕ) (z : ℤ) → quotZ z (pos d) ≡ down d z
@@ -117,15 +116,10 @@ module _ (q : Plane) where
     start-at h l = sym (start-is ∙ rw (le-leb _ _ h, le-leb _ _ l))
 
 -- ---- which planes are subsampled
-pub chroma-across : (f g : PixelFormat) (p : ℕ) → (p ≡ 0 → ⊥) → f ≡ g → subsampledAcross f p ≡ subsampledAcross g 1
-unfolding subsampledAcross
-chroma-across f g zero n e = absurd (n refl)
-chroma-across f g (suc p) n e = ap (λ (v : PixelFormat). subsampledAcross v 1) e
-
-pub chroma-up : (f g : PixelFormat) (p : ℕ) → (p ≡ 0 → ⊥) → f ≡ g → subsampledUp f p ≡ subsampledUp g 1
-unfolding subsampledUp
-chroma-up f g zero n e = absurd (n refl)
-chroma-up f g (suc p) n e = ap (λ (v : PixelFormat). subsampledUp v 1) e
+pub chroma : (f g : PixelFormat) (p : ℕ) → (p ≡ 0 → ⊥) → f ≡ g → (subsampledAcross f p ≡ subsampledAcross g 1) × (subsampledUp f p ≡ subsampledUp g 1)
+unfolding subsampledAcross subsampledUp
+chroma f g zero n e = absurd (n refl)
+chroma f g (suc p) n e = (ap (λ (v : PixelFormat). subsampledAcross v 1) e, ap (λ (v : PixelFormat). subsampledUp v 1) e)
 
 -- ---- a fetch that lies in the plane
 record Inner (q : Plane) (x y : ℤ) (a : ℕ) : Type 0 where
@@ -195,14 +189,27 @@ block-same f g corner row s h =
     (λ r l. upTo-same 8 (λ c s. set s (corner + r * row + c) (f c r)) (λ c s. set s (corner + r * row + c) (g c r))
     (λ c k s. ap (set s (corner + r * row + c)) (h c r k l))) s
 
+-- rows of 8, one after the other: each sample stands in its place
+pub rows-are : (f : ℕ → ℕ → ℕ) (s t : List ℕ) → length s ≡ 64 → t ≡ upTo 8 (λ r. rowAt (λ c. f c r) (r * 8)) s → RowByRow f t
+unfolding rowAt
+rows-are f s t l e = record { each = λ c r hc hr. ap (λ (t : List ℕ). getD t (r * 8 + c) 0) e ∙ at c r hc hr .puts s (omega arith) }
+  where
+    at : (c r : ℕ) → c < 8 → r < 8 → Puts (r * 8 + c) (f c r) (upTo 8 (λ r. upTo 8 (λ c s. set s (r * 8 + c) (f c r))))
+    at c r hc hr =
+        let here : (r′ c′ : ℕ) → r′ * 8 + c′ ≡ r * 8 + c → c′ < 8 → f c′ r′ ≡ f c r =
+        λ r′ c′ e k. let x : c′ ≡ c = omega arith in let y : r′ ≡ r = omega arith in λ i. f (x i) (y i) in
+        let stays : (r′ : ℕ) → r′ < 8 → (c′ : ℕ) → c′ < 8 → Stays (r * 8 + c) (f c r) (λ s. set s (r′ * 8 + c′) (f c′ r′)) =
+        λ r′ l c′ k. set-stays (r′ * 8 + c′) (f c′ r′) (λ e. here r′ c′ e k) in
+        let long : (r′ c′ : ℕ) → Long (λ s. set s (r′ * 8 + c′) (f c′ r′)) = λ r′ c′. set-long (r′ * 8 + c′) (f c′ r′) in
+        upTo-puts (λ r. upTo 8 (λ c s. set s (r * 8 + c) (f c r))) 8 (λ r′ l. upTo-stays (λ c s. set s (r′ * 8 + c) (f c r′)) 8 (stays r′ l)) (λ r′. upTo-long (λ c s. set s (r′ * 8 + c) (f c r′)) 8 (long r′)) r hr
+        (upTo-puts (λ c′ s. set s (r * 8 + c′) (f c′ r)) 8 (stays r hr) (long r) c hc (set-puts (r * 8 + c) (f c r) refl refl))
+
 module _ (m : List ℕ) (c r : ℕ) (hc : c < 8) (hr : r < 8) where
-  -- the mean of a list of means
-  pub of-means : (q : Plane) (s : List ℕ) (t : Fetches) → MeansOf q s t m → meanOf m (0 + r * 8 + c) (0 + r * 8 + c) ≡ meanAt q s t c r
-  of-means q s t h =
+  -- the mean of a list of samples with itself
+  pub of-means : (f : ℕ → ℕ → ℕ) → RowByRow f m → meanOf m (0 + r * 8 + c) (0 + r * 8 + c) ≡ f c r
+  of-means f h =
       let i : 0 + r * 8 + c ≡ r * 8 + c = omega arith in
-      let e₁ : (r * 8 + c) % 8 ≡ c = omega arith in
-      let e₂ : (r * 8 + c) / 8 ≡ r = omega arith in
-      mean-same (getD m (0 + r * 8 + c) 0) ∙ ap (λ (n : ℕ). getD m n 0) i ∙ h .each (r * 8 + c) (omega arith) ∙ (λ i. meanAt q s t (e₁ i) (e₂ i))
+      mean-same (getD m (0 + r * 8 + c) 0) ∙ ap (λ (n : ℕ). getD m n 0) i ∙ h .each c r hc hr
 
   -- and of a source of which both fetches lie in the plane
   pub of-inner : (q : Plane) (t : Fetches) (a b : ℕ) → startOf q (t .x1) (t .y1) ≡ At a → startOf q (t .x2) (t .y2) ≡ At b

@@ -2,7 +2,7 @@
 use mathlib.Core.Path.{_≡_}
 use mathlib.Core.Bool.{cond}
 use mathlib.Core.List.{List}
-use Prim.Native.Nat.{ℕ, _+_, _*_, _/_, _%_, _≤_, _<_}
+use Prim.Native.Nat.{ℕ, _+_, _*_, _≤_, _<_}
 use lib.Dec.{leb}
 use lib.IntN.{ℤ, pos, negsuc, natAbs, _+ℤ_}
 use lib.ListN.{getD}
@@ -53,9 +53,9 @@ pub record Near (t : Fetches) : Type 0 where
 unfoldable pub meanAt : Plane → List ℕ → Fetches → ℕ → ℕ → ℕ
 meanAt q s t c r = mean (fetch q s (t .x1 +ℤ pos c) (t .y1 +ℤ pos r)) (fetch q s (t .x2 +ℤ pos c) (t .y2 +ℤ pos r))
 
--- a list of them, row by row
-pub record MeansOf (q : Plane) (s : List ℕ) (t : Fetches) (m : List ℕ) : Type 0 where
-  pub each : (i : ℕ) → i < 64 → getD m i 0 ≡ meanAt q s t (i % 8) (i / 8)
+-- 64 samples in a list, row by row
+pub record RowByRow (sample : ℕ → ℕ → ℕ) (t : List ℕ) : Type 0 where
+  pub each : (c r : ℕ) → c < 8 → r < 8 → getD t (r * 8 + c) 0 ≡ sample c r
 
 -- a prediction with residual i of the block
 unfoldable pub withResidual : List ℤ → ℕ → ℕ → ℕ

@@ -5,9 +5,10 @@ use geometry::Block;
 use geometry::PixelFormat;
 use geometry::Plane;
 ghost use mathlib.Core.Path.{_≡_};
+ghost use mathlib.Core.Bool.{cond};
 ghost use Prim.Native.Nat.{_+_, _*_, _≤_, _<_};
 ghost use lib.IntN.{pos, natAbs, _+ℤ_};
-ghost use lib.ListN.{length};
+ghost use lib.ListN.{length, getD};
 ghost use Rattle.numeric.specs.Clamp.{clamp255};
 ghost use Rattle.geometry.specs.Sizes.{across, blocksOf};
 ghost use Rattle.geometry.specs.Frame.{InFrame};
@@ -16,7 +17,13 @@ ghost use Rattle.block_record.specs.Record.{VectorInRange, PredictionInRange};
 ghost use Rattle.ways.specs.Corner.{rowAt, blockAt};
 ghost use Rattle.prediction.specs.Motion.{subsampledAcross, subsampledUp, steps, down, upward, inside, fetch};
 ghost use Rattle.prediction.specs.Predicted.{mean, summed};
-ghost use Rattle.prediction.specs.Block.{Small, Lies, Near, fetchesOf, meanAt, MeansOf, meanOf, withResidual, startOf};
+ghost use Rattle.prediction.specs.Block.{Small, Lies, Near, fetchesOf, meanAt, RowByRow, meanOf, withResidual, startOf};
+
+// The axes of a plane: is it subsampled across, and up?
+pub struct Axes {
+    pub across: bool,
+    pub up: bool,
+}
 
 // Where the two fetches of a block begin: column and row in the plane, or outside of it.
 pub struct Fetches {
@@ -32,31 +39,29 @@ pub enum Start {
     Outside,
 }
 
-// Is plane p subsampled across?
-fn subsampled_across(format: PixelFormat, p: u64) -> bool
-    ensures { λ r. ⌜ r ≡ subsampledAcross format p ⌝ }
+// Along which axes is plane p subsampled?
+fn subsampling(format: PixelFormat, p: u64) -> Axes
+    ensures { λ r. ⌜ (r .across ≡ subsampledAcross format p) × (r .up ≡ subsampledUp format p) ⌝ }
 {
     if p == 0 {
-        return false;
+        return Axes {
+            across: false,
+            up: false,
+        };
     }
     match format {
-        PixelFormat::Chroma420 => true,
-        PixelFormat::Chroma422 => true,
-        PixelFormat::Chroma444 => false,
-    }
-}
-
-// Is it subsampled up?
-fn subsampled_up(format: PixelFormat, p: u64) -> bool
-    ensures { λ r. ⌜ r ≡ subsampledUp format p ⌝ }
-{
-    if p == 0 {
-        return false;
-    }
-    match format {
-        PixelFormat::Chroma420 => true,
-        PixelFormat::Chroma422 => false,
-        PixelFormat::Chroma444 => false,
+        PixelFormat::Chroma420 => Axes {
+            across: true,
+            up: true,
+        },
+        PixelFormat::Chroma422 => Axes {
+            across: true,
+            up: false,
+        },
+        PixelFormat::Chroma444 => Axes {
+            across: false,
+            up: false,
+        },
     }
 }
 
@@ -88,20 +93,16 @@ fn upward(subsampled: bool, z: i32) -> i32
     (z + 1) / 2
 }
 
-// Where the fetch of a block begins along an axis on which the block is number `at`: magnitude down.
-fn begin_down(subsampled: bool, at: u64, z: i32) -> i32
+// Where a fetch begins along an axis on which the block is number `at`, the component's magnitude rounded up or down.
+fn begin(subsampled: bool, more: bool, at: u64, z: i32) -> i32
     requires { ⌜ (at < 131070) × (natAbs z ≤ 31) ⌝ }
-    ensures { λ r. ⌜ (r ≡ pos (8 * at) +ℤ down (steps subsampled) z) × (natAbs r ≤ 1048591) ⌝ }
+    ensures { λ r. ⌜ (r ≡ pos (8 * at) +ℤ cond more (upward (steps subsampled) z) (down (steps subsampled) z)) × (natAbs r ≤ 1048591) ⌝ }
 {
-    (8 * at) as i32 + down(subsampled, z)
-}
-
-// Magnitude up.
-fn begin_up(subsampled: bool, at: u64, z: i32) -> i32
-    requires { ⌜ (at < 131070) × (natAbs z ≤ 31) ⌝ }
-    ensures { λ r. ⌜ (r ≡ pos (8 * at) +ℤ upward (steps subsampled) z) × (natAbs r ≤ 1048591) ⌝ }
-{
-    (8 * at) as i32 + upward(subsampled, z)
+    let from = (8 * at) as i32;
+    if more {
+        return from + upward(subsampled, z);
+    }
+    from + down(subsampled, z)
 }
 
 // Where the fetches of block b begin.
@@ -109,15 +110,16 @@ fn fetches_of(format: PixelFormat, b: Block, v: Vector) -> Fetches
     requires { ⌜ (b .x < 131070) × (b .y < 131070) × VectorInRange v ⌝ }
     ensures { λ r. ⌜ (r ≡ fetchesOf format b v) × Near r ⌝ }
 {
-    let across = subsampled_across(format, b.plane);
-    let up = subsampled_up(format, b.plane);
+    let axes = subsampling(format, b.plane);
+    let across = axes.across;
+    let up = axes.up;
     let x = v.x;
     let y = v.y;
     Fetches {
-        x1: begin_down(across, b.x, x),
-        y1: begin_down(up, b.y, y),
-        x2: begin_up(across, b.x, x),
-        y2: begin_up(up, b.y, y),
+        x1: begin(across, false, b.x, x),
+        y1: begin(up, false, b.y, y),
+        x2: begin(across, true, b.x, x),
+        y2: begin(up, true, b.y, y),
     }
 }
 
@@ -158,7 +160,7 @@ fn mean(p: u8, q: u8) -> u8
 // The means of the two fetches of a block, row by row.
 fn fetch_block(s: &[u8], plane: Plane, t: Fetches) -> [u8; 64]
     requires { ⌜ Lies plane (length (now s)) × Near t ⌝ }
-    ensures { λ r. ⌜ MeansOf plane (now (s .entry)) t r ⌝ }
+    ensures { λ r. ⌜ RowByRow (meanAt plane (now (s .entry)) t) r ⌝ }
 {
     let x1 = t.x1;
     let y1 = t.y1;
@@ -205,7 +207,54 @@ fn write_row(
     }
 }
 
-// A block of `new`, where a row has `row` samples, predicted by what source has from a and from b on, where a row has `stride`.
+// The 64 samples of a block, row by row, predicted by what source has from a and from b on, where a row has `stride` samples.
+// They are made in an array of their own, which nothing else can refer to, so that a row is a few vector instructions.
+fn sum_rows(source: &[u8], a: usize, b: usize, stride: usize, residual: &[i16]) -> [u8; 64]
+    requires { ⌜ (a + 7 * stride + 8 ≤ length (now source)) × (b + 7 * stride + 8 ≤ length (now source)) × (length (now residual) ≡ 64) ⌝ }
+    ensures { λ t. ⌜ RowByRow (λ c r. withResidual (now (residual .entry)) (r * 8 + c) (meanOf (now (source .entry)) (a + r * stride + c) (b + r * stride + c))) t ⌝ }
+{
+    let mut t = [0u8; 64];
+    let mut r: usize = 0;
+    while r < 8 {
+        write_row(
+            &mut t,
+            r * 8,
+            source,
+            a + r * stride,
+            b + r * stride,
+            residual,
+            r * 8,
+        );
+        r += 1;
+    }
+    t
+}
+
+// 8 samples from `at` on: those of t from k on.
+fn copy_row(new: &mut [u8], at: usize, t: &[u8], k: usize)
+    requires { ⌜ (at + 8 ≤ length (now new)) × (k + 8 ≤ length (now t)) ⌝ }
+    ensures { λ _. ⌜ now (new .exit) ≡ rowAt (λ c. getD (now (t .entry)) (k + c) 0) at (now (new .entry)) ⌝ }
+{
+    let mut c: usize = 0;
+    while c < 8 {
+        new[at + c] = t[k + c];
+        c += 1;
+    }
+}
+
+// A block of `new`, where a row has `row` samples: those of t, row by row.
+fn copy_rows(new: &mut [u8], corner: usize, row: usize, t: &[u8])
+    requires { ⌜ (corner + 7 * row + 8 ≤ length (now new)) × (length (now t) ≡ 64) ⌝ }
+    ensures { λ _. ⌜ now (new .exit) ≡ blockAt (λ c r. getD (now (t .entry)) (r * 8 + c) 0) corner row (now (new .entry)) ⌝ }
+{
+    let mut r: usize = 0;
+    while r < 8 {
+        copy_row(new, corner + r * row, t, r * 8);
+        r += 1;
+    }
+}
+
+// The block at `corner`, predicted as above.
 fn write_rows(
     new: &mut [u8],
     corner: usize,
@@ -219,19 +268,8 @@ fn write_rows(
     requires { ⌜ (corner + 7 * row + 8 ≤ length (now new)) × (a + 7 * stride + 8 ≤ length (now source)) × (b + 7 * stride + 8 ≤ length (now source)) × (length (now residual) ≡ 64) ⌝ }
     ensures { λ _. ⌜ now (new .exit) ≡ blockAt (λ c r. withResidual (now (residual .entry)) (r * 8 + c) (meanOf (now (source .entry)) (a + r * stride + c) (b + r * stride + c))) corner row (now (new .entry)) ⌝ }
 {
-    let mut r: usize = 0;
-    while r < 8 {
-        write_row(
-            new,
-            corner + r * row,
-            source,
-            a + r * stride,
-            b + r * stride,
-            residual,
-            r * 8,
-        );
-        r += 1;
-    }
+    let t = sum_rows(source, a, b, stride, residual);
+    copy_rows(new, corner, row, &t);
 }
 
 // Where the fetch that begins in column x and row y starts, if it lies in the plane.

@@ -4,8 +4,8 @@ use mathlib.Core.Path.{_≡_, refl, sym, ap, _∙_, subst}
 use mathlib.Core.Bool.{Bool, true, false, cond}
 use mathlib.Core.List.{List, [], _∷_, map}
 use mathlib.Core.Logic.{inl, inr}
-use Prim.Native.Nat.{ℕ, zero, suc, _+_, _-_, _*_, _/_, _%_, _≤_, _<_, min}
-use native.Mathlib.Nat.{not-suc-le-zero, mod-lt, div-lt-iff-lt-mul, div-add-mod'}
+use Prim.Native.Nat.{ℕ, zero, suc, _+_, _-_, _*_, _/_, _%_, _≤_, _<_}
+use native.Mathlib.Nat.{not-suc-le-zero}
 use native.Mathlib.Omega.{arith}
 use borrow.Author.Tests.{eq-eqb, eqb-true}
 use lib.Dec.{eqb}
@@ -15,7 +15,7 @@ use lib.Seq.{take-all, getD-take, getD-drop}
 use Rattle.geometry.specs.declared.PixelFormat.{PixelFormat}
 use Rattle.geometry.specs.declared.Block.{Block}
 use Rattle.geometry.specs.declared.Plane.{Plane}
-use Rattle.geometry.specs.Sizes.{across, up, planeBlocks, blocksBefore, blocksOf, planeOf}
+use Rattle.geometry.specs.Sizes.{across, up, blocksBefore, blocksOf, planeOf}
 use Rattle.geometry.specs.Frame.{block, InFrame}
 use Rattle.geometry.specs.Raster.{rasterNumber}
 use Rattle.geometry.proofs.SizeLaws.{before-next}
@@ -28,7 +28,7 @@ use Rattle.ways.specs.Loops.{_∈_, upTo, over}
 use Rattle.ways.specs.Raster.{blockNo}
 use Rattle.ways.proofs.Steps.{upTo-same, over-more}
 use Rattle.ways.proofs.Where.{block-at-number, number-of-block}
-use Rattle.reconstruct.specs.Picture.{Matrices, rankOf, gathered, blockResidual, dcOf, recordOf, residualOf, sampleOf}
+use Rattle.reconstruct.specs.Picture.{Blocks, Matrices, rankOf, gathered, blockResidual, dcOf, recordOf, residualOf, sampleOf}
 use Rattle.reconstruct.specs.Lent.{blocksIn, matrixPlace, matrixIn, CodedBlocks}
 
 -- ---- what stands at a place stands in the list
@@ -36,6 +36,25 @@ pub at-in : (ns : List ℕ) (k : ℕ) → k < length ns → getD ns k 0 ∈ ns
 at-in [] k h = absurd (not-suc-le-zero h)
 at-in (n ∷ ns) zero h = inl refl
 at-in (n ∷ ns) (suc k) h = inr (at-in ns k (omega arith))
+
+pub in-at : (ns : List ℕ) (n : ℕ) → n ∈ ns → (k : ℕ) × (k < length ns) × (getD ns k 0 ≡ n)
+in-at [] n m = absurd m
+in-at (x ∷ ns) n (inl e) = (0, omega arith, sym e)
+in-at (x ∷ ns) n (inr m) = let t = in-at ns n m in (suc (t .0), (let h = t .1 in omega arith), t .2)
+
+-- the coded blocks, by rank
+pub coded-by : (f : PixelFormat) (w h : ℕ) (bs : Blocks)
+    → ((k : ℕ) → k < length (bs .coded) → (getD (bs .coded) k 0 < blocksOf f w h) × (getD (bs .records) (getD (bs .coded) k 0) uncoded .coded ≡ true) × InRange (getD (bs .records) (getD (bs .coded) k 0) uncoded))
+    → ((n : ℕ) → n < blocksOf f w h → getD (bs .records) n uncoded .coded ≡ true → (k : ℕ) × (k < length (bs .coded)) × (getD (bs .coded) k 0 ≡ n))
+    → ((j k : ℕ) → j < length (bs .coded) → k < length (bs .coded) → getD (bs .coded) j 0 ≡ getD (bs .coded) k 0 → j ≡ k)
+    → CodedBlocks f w h bs
+coded-by f w h bs each all once = record {
+  in-frame = λ n m. let t = in-at (bs .coded) n m in subst (λ (n : ℕ). n < blocksOf f w h) (t .2) (each (t .0) (t .1) .0);
+  are-coded = λ n m. let t = in-at (bs .coded) n m in subst (λ (n : ℕ). getD (bs .records) n uncoded .coded ≡ true) (t .2) (each (t .0) (t .1) .1);
+  in-range = λ n m. let t = in-at (bs .coded) n m in subst (λ (n : ℕ). InRange (getD (bs .records) n uncoded)) (t .2) (each (t .0) (t .1) .2);
+  every = λ n h c. let t = all n h c in subst (λ (n : ℕ). n ∈ bs .coded) (t .2) (at-in (bs .coded) (t .0) (t .1));
+  once = once;
+}
 
 -- ---- each number once: the rank of the one at place k is k
 pub rank-at : (ns : List ℕ) (k : ℕ) → k < length ns → ((i j : ℕ) → i < length ns → j < length ns → getD ns i 0 ≡ getD ns j 0 → i ≡ j) → rankOf ns (getD ns k 0) ≡ k

@@ -1,15 +1,14 @@
 -- The coded blocks written over previous, in coded order, and then filtered: the frame of the first way.
 -- Assumes nothing.
 use mathlib.Core.Path.{_≡_, sym, ap, _∙_, fun-ext}
-use mathlib.Core.Bool.{Bool, true}
+use mathlib.Core.Bool.{Bool}
 use mathlib.Core.List.{List, map}
-use Prim.Native.Nat.{ℕ, _*_, _<_}
+use Prim.Native.Nat.{ℕ, _*_}
 use lib.IntN.{ℤ}
 use lib.ListN.{length, getD, take}
 use Rattle.geometry.specs.declared.PixelFormat.{PixelFormat}
 use Rattle.geometry.specs.declared.Block.{Block}
 use Rattle.geometry.specs.Sizes.{blocksOf}
-use Rattle.geometry.specs.Frame.{InFrame}
 use Rattle.geometry.specs.Raster.{rasterNumber}
 use Rattle.geometry.proofs.RasterLaws.{raster-number-below}
 use Rattle.block_record.specs.declared.BlockRecord.{BlockRecord}
@@ -18,7 +17,7 @@ use Rattle.block_record.specs.Record.{uncoded}
 use Rattle.block_record.proofs.Laws.{unpacked-at}
 use Rattle.loop_filter.specs.Filter.{filtered}
 use Rattle.loop_filter.specs.Flags.{codedAt, codedBy}
-use Rattle.ways.specs.Loops.{_∈_, over}
+use Rattle.ways.specs.Loops.{over}
 use Rattle.ways.specs.Raster.{blockNo}
 use Rattle.ways.specs.Ways.{Picture, filterAll, firstWay, writeBlock}
 use Rattle.ways.proofs.Corner.{write-at}

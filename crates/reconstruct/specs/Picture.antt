@@ -35,6 +35,7 @@ pub record Blocks : Type 0 where
 abbrev pub Matrices : Type 0
 Matrices = (type plane index : ℕ) → List ℕ
 
+-- the rank of block number n: its place in the list of the coded ones
 unfoldable pub rankOf : List ℕ → ℕ → ℕ
 rankOf [] n = 0
 rankOf (m ∷ ms) n = cond (eqb m n) 0 (suc (rankOf ms n))
@@ -60,9 +61,11 @@ module _ (f : PixelFormat) (w h : ℕ) (bs : Blocks) where
   unfoldable pub dcOf : List ℤ
   dcOf = predictedDc (bs .records) (across f w 0) (up f h 0) (across f w 1) (up f h 1) (gathered (bs .coded) (bs .coefs) (replicate (blocksOf f w h) (pos 0)))
 
+  -- a block's record
   unfoldable pub recordOf : Block → BlockRecord
   recordOf b = getD (bs .records) (rasterNumber f w h b) uncoded
 
+  -- a coded block's residuals, row by row
   unfoldable pub residualOf : Matrices → Block → List ℤ
   residualOf matrix b =
       let n = rasterNumber f w h b in

@@ -1,7 +1,7 @@
 -- `prediction::fetch_block` meets its contract. The loop's invariant: the first i means are made.
 -- Assumes nothing.
 use mathlib.Core.Path.{_≡_, refl, sym, ap, _∙_}
-use Prim.Native.Nat.{ℕ, _+_, _-_, _/_, _%_, _≤_, _<_}
+use Prim.Native.Nat.{ℕ, _+_, _-_, _*_, _/_, _%_, _≤_, _<_}
 use native.Mathlib.Omega.{arith}
 use lib.IntN.{pos}
 use lib.ListN.{length, getD, length-set}
@@ -114,7 +114,13 @@ returns : tie.Need-returns Inv-loop μ-loop
 returns c =
     let l = c .before .loop in
     let g = c .before .before .before .before .before .before .before .args in
-    record { each = λ i h. l .inv .2 i (omega arith) ∙ ap (λ (t : Fetches). meanAt (g .plane) (g .s .now) t (i % 8) (i / 8)) (bits-are (c .before .before)) }
+    record {
+      each = λ n r hc hr.
+          let x : (r * 8 + n) % 8 ≡ n = omega arith in
+          let y : (r * 8 + n) / 8 ≡ r = omega arith in
+          let b = bits-are (c .before .before) in
+          l .inv .2 (r * 8 + n) (omega arith) ∙ (λ i. meanAt (g .plane) (g .s .now) (b i) (x i) (y i));
+    }
 
 pub fetch-block-spec : {M : Type 1} → statement M
 fetch-block-spec =

@@ -1,6 +1,6 @@
 -- `prediction::fetches_of` meets its contract.
 -- Assumes nothing.
-use mathlib.Core.Path.{_≡_, ap, _∙_}
+use mathlib.Core.Path.{_≡_, _∙_}
 use Prim.Native.Nat.{_*_}
 use lib.IntN.{pos, _+ℤ_}
 use mir.Syntax.{w32}
@@ -14,9 +14,9 @@ use borrow.Author.Needs.{needs}
 use Rattle.prediction.proofs.fetches_of.Statement.{statement}
 use Rattle.prediction.proofs.fetches_of.Tie as tie
 
-module _ (c : tie.After-begin-up2) where
+module _ (c : tie.After-begin4) where
   abbrev a : tie.Start
-  a = c .before .before .before .before .before .before .before .before
+  a = c .before .before .before .before .before .before .before
 
   abbrev b : Block
   b = a .args .b
@@ -25,11 +25,11 @@ module _ (c : tie.After-begin-up2) where
   v = a .args .v
 
   -- the steps along the axes
-  m : c .before .before .before .before .before .before .before .subsampled-across .result ≡ subsampledAcross (a .args .format) (b .plane)
-  m = c .before .before .before .before .before .before .before .subsampled-across .ensures
+  m : c .before .before .before .before .before .before .subsampling .result .across ≡ subsampledAcross (a .args .format) (b .plane)
+  m = c .before .before .before .before .before .before .subsampling .ensures .0
 
-  n : c .before .before .before .before .before .before .subsampled-up .result ≡ subsampledUp (a .args .format) (b .plane)
-  n = c .before .before .before .before .before .before .subsampled-up .ensures
+  n : c .before .before .before .before .before .before .subsampling .result .up ≡ subsampledUp (a .args .format) (b .plane)
+  n = c .before .before .before .before .before .before .subsampling .ensures .1
 
   -- the components
   x : toZ w32 (ofZ w32 (v .x)) ≡ v .x
@@ -39,34 +39,31 @@ module _ (c : tie.After-begin-up2) where
   y = back w32 (v .y) (c .before .before .before .before .before .struct-told .given .1 .0 .1)
 
   abbrev kx1 : Known w32 (pos (8 * b .x) +ℤ down (steps (subsampledAcross (a .args .format) (b .plane))) (v .x)) 1048591
-  kx1 = k-got (c .before .before .before .begin-down .ok) (c .before .before .before .begin-down .ensures .0 ∙ (λ i. pos (8 * b .x) +ℤ down (steps (m i)) (x i))) (c .before .before .before .begin-down .ensures .1)
+  kx1 = k-got (c .before .before .before .begin .ok) (c .before .before .before .begin .ensures .0 ∙ (λ i. pos (8 * b .x) +ℤ down (steps (m i)) (x i))) (c .before .before .before .begin .ensures .1)
 
   abbrev ky1 : Known w32 (pos (8 * b .y) +ℤ down (steps (subsampledUp (a .args .format) (b .plane))) (v .y)) 1048591
-  ky1 = k-got (c .before .before .begin-down2 .ok) (c .before .before .begin-down2 .ensures .0 ∙ (λ i. pos (8 * b .y) +ℤ down (steps (n i)) (y i))) (c .before .before .begin-down2 .ensures .1)
+  ky1 = k-got (c .before .before .begin2 .ok) (c .before .before .begin2 .ensures .0 ∙ (λ i. pos (8 * b .y) +ℤ down (steps (n i)) (y i))) (c .before .before .begin2 .ensures .1)
 
   abbrev kx2 : Known w32 (pos (8 * b .x) +ℤ upward (steps (subsampledAcross (a .args .format) (b .plane))) (v .x)) 1048591
-  kx2 = k-got (c .before .begin-up .ok) (c .before .begin-up .ensures .0 ∙ (λ i. pos (8 * b .x) +ℤ upward (steps (m i)) (x i))) (c .before .begin-up .ensures .1)
+  kx2 = k-got (c .before .begin3 .ok) (c .before .begin3 .ensures .0 ∙ (λ i. pos (8 * b .x) +ℤ upward (steps (m i)) (x i))) (c .before .begin3 .ensures .1)
 
   abbrev ky2 : Known w32 (pos (8 * b .y) +ℤ upward (steps (subsampledUp (a .args .format) (b .plane))) (v .y)) 1048591
-  ky2 = k-got (c .begin-up2 .ok) (c .begin-up2 .ensures .0 ∙ (λ i. pos (8 * b .y) +ℤ upward (steps (n i)) (y i))) (c .begin-up2 .ensures .1)
+  ky2 = k-got (c .begin4 .ok) (c .begin4 .ensures .0 ∙ (λ i. pos (8 * b .y) +ℤ upward (steps (n i)) (y i))) (c .begin4 .ensures .1)
 
-subsampled-across-requires : tie.Need-subsampled-across-requires
-subsampled-across-requires c κs = search needs
+subsampling-requires : tie.Need-subsampling-requires
+subsampling-requires c κs = search needs
 
-subsampled-up-requires : tie.Need-subsampled-up-requires
-subsampled-up-requires c κs = search needs
+begin-requires : tie.Need-begin-requires
+begin-requires c κs = search needs
 
-begin-down-requires : tie.Need-begin-down-requires
-begin-down-requires c κs = search needs
+begin-requires-2 : tie.Need-begin-requires-2
+begin-requires-2 c κs = search needs
 
-begin-down-requires-2 : tie.Need-begin-down-requires-2
-begin-down-requires-2 c κs = search needs
+begin-requires-3 : tie.Need-begin-requires-3
+begin-requires-3 c κs = search needs
 
-begin-up-requires : tie.Need-begin-up-requires
-begin-up-requires c κs = search needs
-
-begin-up-requires-2 : tie.Need-begin-up-requires-2
-begin-up-requires-2 c κs = search needs
+begin-requires-4 : tie.Need-begin-requires-4
+begin-requires-4 c κs = search needs
 
 returns : tie.Need-returns
 unfolding fetchesOf
@@ -83,10 +80,9 @@ pub fetches-of-spec : {M : Type 1} → statement M
 fetches-of-spec =
     tie.close
     (tie.spec
-    subsampled-across-requires
-    subsampled-up-requires
-    begin-down-requires
-    begin-down-requires-2
-    begin-up-requires
-    begin-up-requires-2
+    subsampling-requires
+    begin-requires
+    begin-requires-2
+    begin-requires-3
+    begin-requires-4
     returns)

@@ -28,7 +28,7 @@ returns c =
     let a = c .before .before .before .before .before .before .before .before .before .args in
     c .before .before .write-rows .ensures
     ∙ block-same _ (λ c r. withResidual (a .residual .now) (r * 8 + c) (meanAt (a .plane) (a .source .now) (a .t) c r)) (a .corner) (8 * a .plane .across) (a .new .now)
-    (λ n r hc hr. ap (withResidual (a .residual .now) (r * 8 + n)) (of-means (c .before .before .before .before .before .fetch-block .result) n r hc hr (a .plane) (a .source .now) (a .t) (c .before .before .before .before .before .fetch-block .ensures)))
+    (λ n r hc hr. ap (withResidual (a .residual .now) (r * 8 + n)) (of-means (c .before .before .before .before .before .fetch-block .result) n r hc hr (meanAt (a .plane) (a .source .now) (a .t)) (c .before .before .before .before .before .fetch-block .ensures)))
 
 pub write-clamped-spec : {M : Type 1} → statement M
 write-clamped-spec =

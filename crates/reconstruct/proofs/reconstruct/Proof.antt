@@ -1,9 +1,8 @@
 -- `reconstruct::reconstruct` meets its contract.
 -- Assumes nothing.
 use mathlib.Core.Path.{_≡_, ap, _∙_}
-use mathlib.Core.List.{List, map}
+use mathlib.Core.List.{map}
 use native.Mathlib.Omega.{arith}
-use Prim.Native.Nat.{_≤_, _<_}
 use lib.ListN.{length, take, length-replicate}
 use lib.IntN.{pos}
 use Rattle.geometry.specs.Sizes.{across, up, blocksOf}

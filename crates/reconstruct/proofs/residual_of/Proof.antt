@@ -1,6 +1,6 @@
 -- `reconstruct::residual_of` meets its contract.
 -- Assumes nothing.
-use mathlib.Core.Path.{_≡_, ap, _∙_}
+use mathlib.Core.Path.{ap, _∙_}
 use Prim.Native.Nat.{ℕ, _*_}
 use lib.ListN.{getD}
 use mir.Syntax.{w16}

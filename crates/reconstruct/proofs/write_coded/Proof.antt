@@ -1,17 +1,15 @@
 -- `reconstruct::write_coded` meets its contract.
 -- Assumes nothing.
-use mathlib.Core.Path.{_≡_, sym, ap, _∙_, subst}
+use mathlib.Core.Path.{sym, ap, _∙_, subst}
 use mathlib.Core.List.{List}
-use Prim.Native.Nat.{_*_, _≤_, _<_}
+use Prim.Native.Nat.{_*_}
 use lib.IntN.{ℤ}
 use lib.ListN.{getD}
 use mir.Syntax.{w16}
 use Rattle.numeric.proofs.Known.{back}
-use Rattle.geometry.specs.declared.Block.{Block}
 use Rattle.geometry.specs.Sizes.{across}
 use Rattle.geometry.specs.Frame.{InFrame}
 use Rattle.geometry.specs.Sample.{sampleAt}
-use Rattle.block_record.specs.declared.BlockRecord.{BlockRecord}
 use Rattle.block_record.specs.Record.{InRange}
 use Rattle.transform.specs.Residual.{residual}
 use Rattle.prediction.specs.Predicted.{summed}
