@@ -1,0 +1,105 @@
+// For the tests alone: each part of making a frame behind a call on numbers and slices, so that it can be compared by itself.
+// A call has the contract of the part, and its caller meets what that requires. A pixel format is PF, a prediction the packed record of a block.
+use geometry::Block;
+ghost use mathlib.Core.Path.{_≡_};
+ghost use mathlib.Core.List.{map};
+ghost use Prim.Native.Nat.{_+_, _*_, _≤_};
+ghost use lib.ListN.{length};
+ghost use Rattle.geometry.specs.Sizes.{across, blocksOf};
+ghost use Rattle.geometry.specs.Frame.{block, InFrame};
+ghost use Rattle.geometry.specs.Sample.{sampleAt};
+ghost use Rattle.headers.specs.Sizes.{formatOf};
+ghost use Rattle.block_record.specs.Record.{PredictionInRange};
+ghost use Rattle.block_record.specs.Packed.{unpacked};
+ghost use Rattle.transform.specs.Residual.{residual};
+ghost use Rattle.dc_prediction.specs.Planes.{predictedDc};
+ghost use Rattle.prediction.specs.Predicted.{summed};
+ghost use Rattle.loop_filter.specs.Filter.{filtered};
+ghost use Rattle.loop_filter.specs.Flags.{codedBy};
+ghost use Rattle.ways.specs.Corner.{blockAt};
+ghost use Rattle.ways.specs.Ways.{filterAll};
+
+// The 64 residuals of a block, from the coefficients that start at `at`.
+#[no_mangle]
+pub extern "C" fn parts_residual(
+    coefs: &[i16],
+    at: usize,
+    dc: i16,
+    last: u8,
+    q: u16,
+    matrix: &[u16],
+    out: &mut [i16],
+)
+    requires { ⌜ (at + 64 ≤ length (now coefs)) × (length (now matrix) ≡ 64) × (length (now out) ≡ 64) ⌝ }
+    ensures { λ _. ⌜ now (out .exit) ≡ residual (now (coefs .entry)) at dc last q (now (matrix .entry)) ⌝ }
+{
+    transform::residual(coefs, at, dc, last, q, matrix, out);
+}
+
+// DC prediction over the planes of a frame.
+#[no_mangle]
+pub extern "C" fn parts_predict_dc(
+    dc: &mut [i16],
+    records: &[u32],
+    across: usize,
+    up: usize,
+    chroma_across: usize,
+    chroma_up: usize,
+)
+    requires { ⌜ (up * across + «chroma_up» * «chroma_across» * 2 ≤ length (now dc)) × (up * across + «chroma_up» * «chroma_across» * 2 ≤ length (now records)) ⌝ }
+    ensures { λ _. ⌜ now (dc .exit) ≡ predictedDc (map unpacked (now (records .entry))) across up «chroma_across» «chroma_up» (now (dc .entry)) ⌝ }
+{
+    dc_prediction::predict_dc(dc, records, across, up, chroma_across, chroma_up);
+}
+
+// The samples of block (x, y) of a plane, predicted as its record says, with its 64 residuals.
+#[no_mangle]
+pub extern "C" fn parts_write_block(
+    new: &mut [u8],
+    golden: &[u8],
+    previous: &[u8],
+    residual: &[i16],
+    pf: u64,
+    w: u64,
+    h: u64,
+    plane: u64,
+    x: u64,
+    y: u64,
+    packed: u32,
+)
+    requires { ⌜ (w ≤ 65535) × (h ≤ 65535) × InFrame (formatOf pf) w h (block plane x y) × PredictionInRange (unpacked packed .prediction) × (length (now new) ≡ 64 * blocksOf (formatOf pf) w h)
+        × (length (now golden) ≡ 64 * blocksOf (formatOf pf) w h) × (length (now previous) ≡ 64 * blocksOf (formatOf pf) w h) × (length (now residual) ≡ 64) ⌝ }
+    ensures { λ _. ⌜ now (new .exit) ≡ blockAt (summed (formatOf pf) w h (now (golden .entry)) (now (previous .entry)) (now (residual .entry)) (unpacked packed .prediction) (block plane x y)) (sampleAt (formatOf pf) w h (block plane x y) 0 0) (8 * across (formatOf pf) w plane) (now (new .entry)) ⌝ }
+{
+    let format = headers::pixel_format(pf);
+    let b = Block { plane, x, y };
+    let r = block_record::unpack(packed);
+    let p = r.prediction;
+    prediction::write_block(new, golden, previous, residual, format, w, h, b, p);
+}
+
+// The frame `new`, filtered. A record says whether its block is coded.
+#[no_mangle]
+pub extern "C" fn parts_filter_frame(
+    new: &mut [u8],
+    records: &[u32],
+    limit: u32,
+    pf: u64,
+    w: u64,
+    h: u64,
+)
+    requires { ⌜ (w ≤ 65535) × (h ≤ 65535) × (length (now new) ≡ 64 * blocksOf (formatOf pf) w h) × (length (now records) ≡ blocksOf (formatOf pf) w h) × (limit ≤ 127) ⌝ }
+    ensures { λ _. ⌜ now (new .exit) ≡ filterAll (formatOf pf) w h (codedBy (formatOf pf) w h (now (records .entry))) (filtered limit) (now (new .entry)) ⌝ }
+{
+    let format = headers::pixel_format(pf);
+    loop_filter::filter_frame(new, records, limit, format, w, h);
+}
+
+// Every byte of src, in its place.
+#[no_mangle]
+pub extern "C" fn parts_copy(dst: &mut [u8], src: &[u8])
+    requires { ⌜ length (now dst) ≡ length (now src) ⌝ }
+    ensures { λ _. ⌜ now (dst .exit) ≡ now (src .entry) ⌝ }
+{
+    buffer::copy(dst, src);
+}
