@@ -4,7 +4,8 @@ use geometry::Block;
 ghost use mathlib.Core.Path.{_≡_};
 ghost use mathlib.Core.List.{map};
 ghost use Prim.Native.Nat.{_+_, _*_, _≤_};
-ghost use lib.ListN.{length};
+ghost use lib.IntN.{pos};
+ghost use lib.ListN.{length, replicate};
 ghost use Rattle.geometry.specs.Sizes.{across, blocksOf};
 ghost use Rattle.geometry.specs.Frame.{block, InFrame};
 ghost use Rattle.geometry.specs.Sample.{sampleAt};
@@ -17,7 +18,9 @@ ghost use Rattle.prediction.specs.Predicted.{summed};
 ghost use Rattle.loop_filter.specs.Filter.{filtered};
 ghost use Rattle.loop_filter.specs.Flags.{codedBy};
 ghost use Rattle.ways.specs.Corner.{blockAt};
-ghost use Rattle.ways.specs.Ways.{filterAll};
+ghost use Rattle.ways.specs.Ways.{filterAll, firstWay};
+ghost use Rattle.reconstruct.specs.Picture.{pictureOf};
+ghost use Rattle.reconstruct.specs.Lent.{blocksIn, matrixIn, Lent, ZerosBehind};
 
 // The 64 residuals of a block, from the coefficients that start at `at`.
 #[no_mangle]
@@ -93,6 +96,49 @@ pub extern "C" fn parts_filter_frame(
 {
     let format = headers::pixel_format(pf);
     loop_filter::filter_frame(new, records, limit, format, w, h);
+}
+
+// The frame of the coded blocks that are lent. What held them is 0 everywhere at last.
+#[no_mangle]
+pub extern "C" fn parts_make_frame(
+    new: &mut [u8],
+    golden: &[u8],
+    previous: &[u8],
+    records: &mut [u32],
+    coded: &mut [u64],
+    count: usize,
+    coefs: &mut [i16],
+    dc: &mut [i16],
+    lasts: &mut [u8],
+    matrices: &[u16],
+    limit: u32,
+    pf: u64,
+    w: u64,
+    h: u64,
+)
+    requires { ⌜ (w ≤ 65535) × (h ≤ 65535) × Lent (formatOf pf) w h (now records) (now coded) count (now coefs) (now lasts) (now matrices) × ZerosBehind (now coded) count (now coefs) (now lasts) × (now dc ≡ replicate (blocksOf (formatOf pf) w h) (pos 0)) × (limit ≤ 127)
+        × (length (now new) ≡ 64 * blocksOf (formatOf pf) w h) × (length (now golden) ≡ 64 * blocksOf (formatOf pf) w h) × (length (now previous) ≡ 64 * blocksOf (formatOf pf) w h) ⌝ }
+    ensures { λ _. ⌜ now (new .exit) ≡ firstWay (formatOf pf) w h (pictureOf (formatOf pf) w h (blocksIn (now (records .entry)) (now (coded .entry)) count (now (coefs .entry)) (now (lasts .entry))) (matrixIn (now (matrices .entry))) limit (now (golden .entry)) (now (previous .entry))) (now (previous .entry)) ⌝ }
+    ensures { λ _. ⌜ (now (records .exit) ≡ replicate (length (now (records .entry))) 0) × (now (coded .exit) ≡ replicate (length (now (coded .entry))) 0) × (now (coefs .exit) ≡ replicate (length (now (coefs .entry))) (pos 0))
+        × (now (dc .exit) ≡ replicate (length (now (dc .entry))) (pos 0)) × (now (lasts .exit) ≡ replicate (length (now (lasts .entry))) 0) ⌝ }
+{
+    let format = headers::pixel_format(pf);
+    reconstruct::make_frame(
+        new,
+        golden,
+        previous,
+        records,
+        coded,
+        count,
+        coefs,
+        dc,
+        lasts,
+        matrices,
+        limit,
+        format,
+        w,
+        h,
+    );
 }
 
 // Every byte of src, in its place.

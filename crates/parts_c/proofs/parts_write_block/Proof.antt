@@ -26,9 +26,16 @@ write-block-requires c κs =
     let a = s .args in
     let p = s .pre in
     let e = sym (c .before .before .pixel-format .ensures) in
-    let l = ap (λ (f : PixelFormat). 64 * blocksOf f (a .w) (a .h)) e in
-    (p .0, p .1, subst (λ (f : PixelFormat). InFrame f (a .w) (a .h) (block (a .plane) (a .x) (a .y))) e (p .2), subst (λ (r : BlockRecord). PredictionInRange (r .prediction)) (sym (c .before .unpack .ensures)) (p .3),
-    p .4 ∙ l, p .5 ∙ l, p .6 ∙ l, p .7)
+    let l = ap (λ (f : PixelFormat). 64 * blocksOf f (a .w) (a .h)) e in (
+      p .0,
+      p .1,
+      subst (λ (f : PixelFormat). InFrame f (a .w) (a .h) (block (a .plane) (a .x) (a .y))) e (p .2),
+      subst (λ (r : BlockRecord). PredictionInRange (r .prediction)) (sym (c .before .unpack .ensures)) (p .3),
+      p .4 ∙ l,
+      p .5 ∙ l,
+      p .6 ∙ l,
+      p .7,
+    )
 
 same-length : tie.Need-same-length
 same-length c = search needs
