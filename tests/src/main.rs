@@ -5,6 +5,7 @@
 
 mod bit_writer;
 mod check;
+mod decoded;
 mod fields;
 mod orders;
 mod packets;
@@ -23,7 +24,8 @@ use std::time::Instant;
 
 const USAGE: &str = "\
 usage: compare [--packets N] [--sessions N] [--orders MAX] [--setups N]
-               [--tables N] [--matrices N] [--seed S] [--stream FILE..]
+               [--tables N] [--matrices N] [--seed S]
+               [--stream FILE.. | --decode FILE..]
 
   --packets N   identification headers: valid, faulty, damaged, cut, extended (1000000)
   --sessions N  sessions, sound and not, each with every call on a session (500000)
@@ -35,6 +37,9 @@ usage: compare [--packets N] [--sessions N] [--orders MAX] [--setups N]
   --stream FILE..
                 nothing but recordings: their headers, and what the texts beside
                 them (tests/streams/README.md) say; comes last
+  --decode FILE..
+                nothing but recordings, decoded by the independent implementation
+                alone: every frame must be libtheora's; comes last
 ";
 
 /// With fewer packets it is no fault if some refusal was not met.
@@ -51,6 +56,8 @@ struct Options {
     seed: u64,
     /// Recordings, to be compared in place of all else.
     streams: Vec<String>,
+    /// Recordings, to be decoded in place of all else.
+    decode: Vec<String>,
 }
 
 impl Default for Options {
@@ -64,6 +71,7 @@ impl Default for Options {
             matrices: 10,
             seed: 1,
             streams: Vec::new(),
+            decode: Vec::new(),
         }
     }
 }
@@ -94,10 +102,14 @@ fn options(words: &[String]) -> Result<Options, String> {
     let mut options = Options::default();
     let mut words = words.iter();
     while let Some(name) = words.next() {
-        if name == "--stream" {
-            options.streams = words.cloned().collect();
-            if options.streams.is_empty() {
-                return Err("--stream: recordings must follow".to_string());
+        if name == "--stream" || name == "--decode" {
+            let files: Vec<String> = words.cloned().collect();
+            if files.is_empty() {
+                return Err(format!("{name}: recordings must follow"));
+            }
+            match name.as_str() {
+                "--stream" => options.streams = files,
+                _ => options.decode = files,
             }
             break;
         }
@@ -122,6 +134,9 @@ fn options(words: &[String]) -> Result<Options, String> {
 fn compare(options: &Options) -> Result<(), String> {
     if !options.streams.is_empty() {
         return streams::compare(&options.streams);
+    }
+    if !options.decode.is_empty() {
+        return decoded::compare(&options.decode);
     }
     println!("seed {}", options.seed);
     let mut random = Random::new(options.seed);
@@ -213,8 +228,11 @@ mod tests {
         assert!(options(&words("--orders 65536")).is_err());
         assert!(options(&words("--what 1")).is_err());
         assert!(options(&words("--stream")).is_err());
+        assert!(options(&words("--decode")).is_err());
         let read = options(&words("--seed 2 --stream a b")).ok();
         assert_eq!(read.map(|o| o.streams), Some(words("a b")));
+        let read = options(&words("--decode a")).ok();
+        assert_eq!(read.map(|o| o.decode), Some(words("a")));
     }
 
     #[test]
@@ -227,7 +245,7 @@ mod tests {
             tables: 800,
             matrices: 1,
             seed: 11,
-            streams: Vec::new(),
+            ..Options::default()
         };
         assert_eq!(compare(&options), Ok(()));
     }
