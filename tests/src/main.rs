@@ -9,6 +9,7 @@ mod decoded;
 mod fields;
 mod orders;
 mod packets;
+mod parts;
 mod random;
 mod reference;
 mod sessions;
@@ -24,8 +25,8 @@ use std::time::Instant;
 
 const USAGE: &str = "\
 usage: compare [--packets N] [--sessions N] [--orders MAX] [--setups N]
-               [--tables N] [--matrices N] [--seed S]
-               [--stream FILE.. | --decode FILE..]
+               [--tables N] [--matrices N] [--parts N] [--seed S]
+               [--stream FILE.. | --decode FILE.. | --time]
 
   --packets N   identification headers: valid, faulty, damaged, cut, extended (1000000)
   --sessions N  sessions, sound and not, each with every call on a session (500000)
@@ -33,6 +34,8 @@ usage: compare [--packets N] [--sessions N] [--orders MAX] [--setups N]
   --setups N    setup headers: valid, damaged, cut, extended (20000)
   --tables N    table memories: genuine, changed, random (12000)
   --matrices N  table memories of which every limit and matrix is compared (10)
+  --parts N     frames made of random block data, and the parts of making one
+                on their extremes and on random values (2000)
   --seed S      where the random numbers start (1)
   --stream FILE..
                 nothing but recordings: their headers, and what the texts beside
@@ -40,6 +43,7 @@ usage: compare [--packets N] [--sessions N] [--orders MAX] [--setups N]
   --decode FILE..
                 nothing but recordings, decoded by the independent implementation
                 alone: every frame must be libtheora's; comes last
+  --time        nothing but how long each part of making a frame takes
 ";
 
 /// With fewer packets it is no fault if some refusal was not met.
@@ -53,7 +57,10 @@ struct Options {
     setups: u64,
     tables: u64,
     matrices: u64,
+    parts: u64,
     seed: u64,
+    /// The parts are timed in place of all else.
+    time: bool,
     /// Recordings, to be compared in place of all else.
     streams: Vec<String>,
     /// Recordings, to be decoded in place of all else.
@@ -69,7 +76,9 @@ impl Default for Options {
             setups: 20_000,
             tables: 12_000,
             matrices: 10,
+            parts: 2_000,
             seed: 1,
+            time: false,
             streams: Vec::new(),
             decode: Vec::new(),
         }
@@ -85,6 +94,10 @@ fn main() -> ExitCode {
             return ExitCode::from(2);
         }
     };
+    if options.time {
+        parts::time::time(&mut Random::new(options.seed));
+        return ExitCode::SUCCESS;
+    }
     match compare(&options) {
         Ok(()) => {
             println!("no difference");
@@ -113,6 +126,10 @@ fn options(words: &[String]) -> Result<Options, String> {
             }
             break;
         }
+        if name == "--time" {
+            options.time = true;
+            continue;
+        }
         let value = words.next().and_then(|word| word.parse().ok());
         let value = value.ok_or_else(|| format!("{name}: a number must follow"))?;
         match name.as_str() {
@@ -123,6 +140,7 @@ fn options(words: &[String]) -> Result<Options, String> {
             "--setups" => options.setups = value,
             "--tables" => options.tables = value,
             "--matrices" => options.matrices = value,
+            "--parts" => options.parts = value,
             "--seed" => options.seed = value,
             _ => return Err(format!("{name}: no such option")),
         }
@@ -142,7 +160,8 @@ fn compare(options: &Options) -> Result<(), String> {
     let mut random = Random::new(options.seed);
     compare_packets(&mut random, options)?;
     compare_sessions(&mut random, options)?;
-    compare_setups(&mut random, options)
+    compare_setups(&mut random, options)?;
+    compare_parts(&mut random, options)
 }
 
 /// Prints a heading with the time that was taken.
@@ -208,6 +227,15 @@ fn compare_setups(random: &mut Random, options: &Options) -> Result<(), String> 
     Ok(())
 }
 
+/// The parts of making a frame.
+fn compare_parts(random: &mut Random, options: &Options) -> Result<(), String> {
+    let start = Instant::now();
+    let report = parts::compare(random, options.parts).map_err(text)?;
+    heading("parts of making a frame", start);
+    println!("{report}");
+    all_tried(&report.missed(), 50 * options.parts)
+}
+
 #[cfg(test)]
 mod tests {
     use super::*;
@@ -231,6 +259,8 @@ mod tests {
         assert!(options(&words("--decode")).is_err());
         let read = options(&words("--seed 2 --stream a b")).ok();
         assert_eq!(read.map(|o| o.streams), Some(words("a b")));
+        let read = options(&words("--time --seed 3")).ok();
+        assert_eq!(read.map(|o| (o.time, o.seed)), Some((true, 3)));
         let read = options(&words("--decode a")).ok();
         assert_eq!(read.map(|o| o.decode), Some(words("a")));
     }
@@ -244,6 +274,7 @@ mod tests {
             setups: 800,
             tables: 800,
             matrices: 1,
+            parts: 20,
             seed: 11,
             ..Options::default()
         };
