@@ -1,107 +1,119 @@
--- `bitstream::read` meets its contract. The invariant: v is the number of the first k bits of the field. Assumes nothing.
-use borrow.Author.Needs.{needs}
-use Prim.Native.Nat.{ℕ, _+_, _-_, _*_, _/_, _^_, _≤_, _<_}
+-- `bitstream::read` meets its contract: the field is a part of the number of whole bytes. Assumes nothing.
+use Prim.Native.Nat.{ℕ, _+_, _-_, _*_, _/_, _%_, _^_, _≤_, _<_}
 use native.Mathlib.Omega.{arith}
-use native.Mathlib.Nat.{lt-of-le-of-lt, le-add-right}
 use mathlib.Core.Path.{_≡_, refl, sym, ap, _∙_}
-use lib.ListN.{length, getD}
-use lib.Pow.{pow-mono}
-use Rattle.bitstream.specs.Bits.{bits, bitAt, number}
+use mathlib.Core.List.{List}
+use lib.ListN.{length}
+use Rattle.bitstream.specs.Bits.{bits, number}
 use Rattle.bitstream.specs.Reading.{got, refused, field}
 use Rattle.bitstream.specs.Answer.{asField}
+use Rattle.bitstream.specs.declared.Field.the-variants.{Got}
 use Rattle.bitstream.proofs.Fields.{field-got, field-end}
-use Rattle.bitstream.proofs.Numbers.{number-more, turn-fits}
+use Rattle.bitstream.proofs.Bytes.{one-shifted-pos, lowest-fit, field-of-eight, field-of-own}
+use borrow.Author.Needs.{needs}
 use Rattle.bitstream.proofs.read.Statement.{statement}
 use Rattle.bitstream.proofs.read.Tie as tie
 use Rattle.bitstream.proofs.read.Reads as reads
 use Rattle.bitstream.proofs.read.Lts as lts
+use Rattle.bitstream.proofs.bytes_from.Reads as bytes-from-reads
 
-abbrev Inv-loop : tie.InvT-loop
-Inv-loop packet at width total value₀ k₀ value k = (k ≤ width) × (value ≡ number packet at k) × (at + width ≤ bits packet)
+-- the answer with the number that stands there
+answer : (p : List ℕ) (i n : ℕ) {v : ℕ} → i + n ≤ bits p → v ≡ number p i n → Got v (i + n) ≡ asField (field n p i)
+answer p i n h e = rw (field-got n p i h, e)
 
-abbrev μ-loop : tie.MeasureT-loop
-μ-loop packet at width total value₀ k₀ value k = width - k
-
-fits-turn : (c : tie.After-shared-slice-known Inv-loop μ-loop) → c .before .before .loop .value * 2 + bitAt (c .before .before .before .before .before .args .packet .now) (c .before .before .before .before .before .args .at + c .before .before .loop .k) < 2 ^ 32
-fits-turn c = rw (c .before .before .loop .inv .1) (turn-fits _ _ _ (omega arith))
-
-mul-total : tie.Need-mul-total Inv-loop μ-loop
+mul-total : tie.Need-mul-total
 mul-total c = search needs
 
-returns : tie.Need-returns Inv-loop μ-loop
+returns : tie.Need-returns
 returns c = ap asField (sym (field-end _ _ _ (omega arith)))
 
-returns-2 : tie.Need-returns-2 Inv-loop μ-loop
-returns-2 c = ap asField (sym (field-end _ _ _ (omega arith)))
+add-end : tie.Need-add-end
+add-end c = search needs
 
-loop-holds : tie.Need-loop-holds Inv-loop μ-loop
-unfolding number
-loop-holds c = (search needs, refl, omega arith)
+add-if2 : tie.Need-add-if2
+add-if2 c = search needs
 
-add-place : tie.Need-add-place Inv-loop μ-loop
-add-place c = search needs
+bytes-from-requires : tie.Need-bytes-from-requires
+bytes-from-requires c κs = search needs
 
-shared-slice-read-byte : tie.Need-shared-slice-read-byte Inv-loop μ-loop
-shared-slice-read-byte c = search needs
-
-cast-byte : tie.Need-cast-byte Inv-loop μ-loop
-cast-byte c = omega (arith, c .shared-slice-known .given ((c .before .before .before .before .before .args .at + c .before .before .loop .k) / 8))
-
-mul-value : tie.Need-mul-value Inv-loop μ-loop
-mul-value c = record { fits = lt-of-le-of-lt (le-add-right _ _) (fits-turn c) }
-
-sub-value : tie.Need-sub-value Inv-loop μ-loop
+sub-value : tie.Need-sub-value
 sub-value c = search needs
 
-cast-value : tie.Need-cast-value Inv-loop μ-loop
-cast-value c = search needs
+sub-value-2 : tie.Need-sub-value-2
+sub-value-2 c = search needs
 
-shr-value : tie.Need-shr-value Inv-loop μ-loop
+shr-value : tie.Need-shr-value
 shr-value c = search needs
 
-add-value : tie.Need-add-value Inv-loop μ-loop
-unfolding bitAt
-add-value c = record { fits = fits-turn c }
+shl-value : tie.Need-shl-value
+shl-value c = search needs
 
-add-k : tie.Need-add-k Inv-loop μ-loop
-add-k c = search needs
+rem-value : tie.Need-rem-value
+rem-value c = one-shifted-pos _ (omega arith)
 
-loop-less : tie.Need-loop-less Inv-loop μ-loop
-loop-less c = search needs
+cast-value : tie.Need-cast-value
+cast-value c = record { fits = lowest-fit _ _ (omega arith) }
 
-loop-again : tie.Need-loop-again Inv-loop μ-loop
-unfolding bitAt
-loop-again c = (search needs, rw (c .before .before .loop .inv .1, number-more), omega arith)
+returns-2 : tie.Need-returns-2
+returns-2 c = answer _ _ _ (omega arith) (rw (c .bytes-from .ensures) (field-of-eight _ _ _ (omega arith)))
 
-add-t9 : tie.Need-add-t9 Inv-loop μ-loop
-add-t9 c = search needs
+returns-3 : tie.Need-returns-3
+returns-3 c = ap asField (sym (field-end _ _ _ (omega arith)))
 
-returns-3 : tie.Need-returns-3 Inv-loop μ-loop
-returns-3 c =
-    let a = c .before .before .before .before .args in
-    let e : c .before .loop .k ≡ a .width = omega arith in
-    sym (rw (field-got (a .width) (a .packet .now) (a .at) (omega arith), ← e, c .before .loop .inv .1))
+add-last : tie.Need-add-last
+add-last c = search needs
+
+sub-bytes-from : tie.Need-sub-bytes-from
+sub-bytes-from c = search needs
+
+bytes-from-requires-2 : tie.Need-bytes-from-requires-2
+bytes-from-requires-2 c κs = search needs
+
+mul-value : tie.Need-mul-value
+mul-value c = search needs
+
+sub-value-3 : tie.Need-sub-value-3
+sub-value-3 c = search needs
+
+shr-value-2 : tie.Need-shr-value-2
+shr-value-2 c = search needs
+
+shl-value-2 : tie.Need-shl-value-2
+shl-value-2 c = search needs
+
+rem-value-2 : tie.Need-rem-value-2
+rem-value-2 c = one-shifted-pos _ (omega arith)
+
+cast-value-2 : tie.Need-cast-value-2
+cast-value-2 c = record { fits = lowest-fit _ _ (omega arith) }
+
+returns-4 : tie.Need-returns-4
+returns-4 c = answer _ _ _ (omega arith) (rw (c .bytes-from2 .ensures) (field-of-own _ _ _ (omega arith)))
 
 pub read-spec : {M : Type 1} → statement M
 read-spec =
     tie.close
     (tie.spec
-    Inv-loop
-    μ-loop
     mul-total
     returns
-    returns-2
-    loop-holds
-    add-place
-    shared-slice-read-byte
-    cast-byte
-    mul-value
+    add-end
+    add-if2
+    bytes-from-requires
     sub-value
-    cast-value
+    sub-value-2
     shr-value
-    add-value
-    add-k
-    loop-less
-    loop-again
-    add-t9
-    returns-3)
+    shl-value
+    rem-value
+    cast-value
+    returns-2
+    returns-3
+    add-last
+    sub-bytes-from
+    bytes-from-requires-2
+    mul-value
+    sub-value-3
+    shr-value-2
+    shl-value-2
+    rem-value-2
+    cast-value-2
+    returns-4)
