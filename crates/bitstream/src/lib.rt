@@ -12,6 +12,12 @@ pub enum Field {
     Refused(u32, usize),
 }
 
+// The reader of bits holds the lent packet and its bit place.
+pub struct BitReader<'a> {
+    pub packet: &'a [u8],
+    pub place: usize,
+}
+
 // The longest part of a packet that is looked at, in bytes: every bit place in it fits 64 bits, and no reader gets so far.
 const LONGEST: usize = 288230376151711744;
 
@@ -42,7 +48,7 @@ fn bytes_from(packet: &[u8], first: usize, count: usize) -> u64
 }
 
 // The field of `width` bits at the bit place `at`: out of eight bytes at once, near the end of the packet out of its own.
-pub fn read(packet: &[u8], at: usize, width: usize) -> Field
+fn field_at(packet: &[u8], at: usize, width: usize) -> Field
     requires { ⌜ (length (now packet) ≤ 2 ^ 58) × (width ≤ 32) ⌝ }
     ensures { λ r. ⌜ r ≡ asField (field width (now (packet .entry)) at) ⌝ }
 {
@@ -65,4 +71,26 @@ pub fn read(packet: &[u8], at: usize, width: usize) -> Field
     let own = bytes_from(packet, first, last - first);
     let value = ((own >> (last * 8 - end)) % (1 << width)) as u32;
     Field::Got(value, end)
+}
+
+pub fn reader_at<'a>(packet: &'a [u8], place: usize) -> BitReader<'a>
+    ensures { λ r. ⌜ (r .packet ≡ packet .entry) × (r .place ≡ place) ⌝ }
+{
+    BitReader { packet, place }
+}
+
+// The field of `width` bits at the reader's place.
+pub fn next_field<'a>(reader: BitReader<'a>, width: usize) -> Field
+    requires { ⌜ (length (now (reader .packet)) ≤ 2 ^ 58) × (width ≤ 32) ⌝ }
+    ensures { λ r. ⌜ r ≡ asField (field width (now (reader .entry .packet)) (reader .entry .place)) ⌝ }
+{
+    field_at(reader.packet, reader.place, width)
+}
+
+// The field of `width` bits at the bit place `at`, by a reader that stands there.
+pub fn read(packet: &[u8], at: usize, width: usize) -> Field
+    requires { ⌜ (length (now packet) ≤ 2 ^ 58) × (width ≤ 32) ⌝ }
+    ensures { λ r. ⌜ r ≡ asField (field width (now (packet .entry)) at) ⌝ }
+{
+    next_field(reader_at(packet, at), width)
 }
