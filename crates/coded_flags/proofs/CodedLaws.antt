@@ -76,15 +76,15 @@ flagged-misses (g ∷ flags) (suc i) (more {x} {l} a o) hb e =
 
 -- ---- a value set at some places of a list
 module _ {A : Type 0} (v d : A) where
-  set-at-keeps : (ns : List ℕ) (l : List A) (n : ℕ) → n < length l → getD l n d ≡ v → getD (setAt v ns l) n d ≡ v
+  set-at-all : (P : A → Type 0) (ns : List ℕ) (l : List A) (n : ℕ) → P v → P (getD l n d) → P (getD (setAt v ns l) n d)
   unfolding setAt
-  set-at-keeps [] l n h e = e
-  set-at-keeps (m ∷ ns) l n h e = set-at-keeps ns (set l m v) n (rw length-set h) (set-cases (λ x. x ≡ v) l m n v d (λ _. refl) e)
+  set-at-all P [] l n new old = old
+  set-at-all P (m ∷ ns) l n new old = set-at-all P ns (set l m v) n new (set-cases P l m n v d (λ _. new) old)
 
   set-at-hit : (ns : List ℕ) (l : List A) (k : ℕ) → k < length ns → getD ns k 0 < length l → getD (setAt v ns l) (getD ns k 0) d ≡ v
   unfolding setAt
   set-at-hit [] l k h r = absurd (not-suc-le-zero h)
-  set-at-hit (n ∷ ns) l zero h r = set-at-keeps ns (set l n v) n (rw length-set r) (getD-set-same l n v d r)
+  set-at-hit (n ∷ ns) l zero h r = set-at-all (λ x. x ≡ v) ns (set l n v) n refl (getD-set-same l n v d r)
   set-at-hit (n ∷ ns) l (suc k) h r = set-at-hit ns (set l n v) k (le-of-suc-le-suc h) (rw length-set r)
 
   set-at-miss : {ns : List ℕ} (l : List A) (n : ℕ) → All (Other n) ns → getD (setAt v ns l) n d ≡ getD l n d
@@ -202,6 +202,16 @@ module _ (f : PixelFormat) (w h : ℕ) where
         go other =
             let z = set-at-miss nowCoded uncoded (replicate (blocksOf f w h) uncoded) n other ∙ getD-replicate (blocksOf f w h) n uncoded uncoded l in
             true≢false (sym c ∙ ap (λ (r : BlockRecord). r .coded) z)
+
+    -- nothing else is known yet of any block
+    pub records-all : (P : BlockRecord → Type 0) → P nowCoded → P uncoded → (n : ℕ) → P (getD (codedRecords f w h flags) n uncoded)
+    unfolding codedRecords
+    records-all P new old n = set-at-all nowCoded uncoded P (codedBlocks f w h flags) (replicate (blocksOf f w h) uncoded) n new (go (blocksOf f w h) n)
+      where
+        go : (k n : ℕ) → P (getD (replicate k uncoded) n uncoded)
+        go zero n = old
+        go (suc k) zero = old
+        go (suc k) (suc n) = go k n
 
     pub records-length : length (codedRecords f w h flags) ≡ blocksOf f w h
     unfolding codedRecords
