@@ -5,7 +5,7 @@ use native.Mathlib.Nat.{not-suc-le-zero}
 use mathlib.Core.Path.{_≡_, refl, sym, ap, _∙_, subst}
 use mathlib.Core.List.{List, [], _∷_}
 use mathlib.Core.Bool.{Bool, true, false, true≢false}
-use mathlib.Core.Logic.{_⊎_}
+use mathlib.Core.Logic.{_⊎_, ⊎-elim}
 use lib.ListN.{length, getD, length-replicate, getD-replicate}
 use Rattle.bitstream.specs.Reading.{Outcome, got, refused, pure, bind, pick, choose}
 use Rattle.bitstream.proofs.Fields.{no-mix}
@@ -19,7 +19,7 @@ use Rattle.block_record.specs.declared.Prediction.the-variants.{None}
 use Rattle.block_record.specs.Record.{uncoded}
 use Rattle.block_record.proofs.MemoryLaws.{AllInRange, in-range-replicate}
 use Rattle.frame_header.specs.declared.Kind.{Kind}
-use Rattle.frame_header.specs.declared.Kind.the-variants.{Intra, Inter}
+use Rattle.frame_header.specs.declared.Kind.the-variants.{Intra, Inter, Repeat}
 use Rattle.frame_header.specs.Header.{FrameHeader, frameHeader}
 use Rattle.frame_header.proofs.Laws.{header-fits, header-kind}
 use Rattle.coded_flags.specs.Coded.{codedBlocks, codedLuma, codedRecords}
@@ -181,6 +181,15 @@ module _ (f : PixelFormat) (w h : ℕ) where
     -- any other packet gives an intra frame, or where there are references an inter frame
     pub packet-kind : (p : List ℕ) {fr : Frame} {e : ℕ} → 1 ≤ length p → framePacket f w h trees references p ≡ got fr e → (fr .header .kind ≡ Intra) ⊎ ((fr .header .kind ≡ Inter) × (references ≡ true))
     packet-kind p {fr} l g = let t = frame-through p 0 (sym (packet-some f w h trees references p l) ∙ g) in header-kind references p 0 (fr .header) (t .0) (t .1)
+
+    -- so a repeat is what an empty packet gives, and no other
+    pub repeat-empty : (p : List ℕ) {fr : Frame} {e : ℕ} → framePacket f w h trees references p ≡ got fr e → fr .header .kind ≡ Repeat → p ≡ []
+    repeat-empty [] g y = refl
+    repeat-empty (b ∷ p) g y = ⊎-elim (λ k. no-repeat true (sym k ∙ y)) (λ k. no-repeat false (sym (k .0) ∙ y)) (packet-kind (b ∷ p) (omega arith) g)
+      where
+        no-repeat : {X : Type 0} (t : Bool) → choose t Intra Inter ≡ Repeat → X
+        no-repeat true z = let z : _≡_ {A = ℕ} 0 1 = cc in absurd (omega arith)
+        no-repeat false z = let z : _≡_ {A = ℕ} 0 1 = cc in absurd (omega arith)
 
     pub packet-fits : (p : List ℕ) {fr : Frame} {e : ℕ} → framePacket f w h trees references p ≡ got fr e → Fits f w h fr
     packet-fits [] g = subst (Fits f w h) (sym (packet-repeat g .0)) repeated-fits
