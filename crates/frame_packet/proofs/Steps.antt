@@ -1,0 +1,99 @@
+-- What each function has to show, over plain lists and outcomes. Assumes nothing.
+use Prim.Native.Nat.{ℕ, zero, suc, _+_, _-_, _*_, _≤_, _^_}
+use native.Mathlib.Omega.{arith}
+use mathlib.Core.Path.{_≡_, refl, sym, ap, _∙_, subst}
+use mathlib.Core.List.{List, [], _∷_, _++_, map}
+use mathlib.Core.Bool.{Bool, true, false}
+use mathlib.Core.Logic.{⊎-elim}
+use lib.IntN.{ℤ, pos}
+use lib.ListN.{length, take, drop, replicate, length-replicate, take-append-drop}
+use lib.Seq.{length-take-le}
+use denote.Enum.Declared.{tagOf}
+use types.Run.{OneOf}
+use Rattle.bitstream.specs.Reading.{Outcome, got, refused}
+use Rattle.buffer.proofs.Laws.{cleared, cleared-all, cleared-front, take-cleared, drop-cleared}
+use Rattle.geometry.specs.declared.PixelFormat.{PixelFormat}
+use Rattle.geometry.specs.Sizes.{blocksOf}
+use Rattle.runs.specs.declared.Done.{Done}
+use Rattle.runs.specs.declared.Done.the-variants as done
+use Rattle.runs.specs.Runs.{asDone, Stored}
+use Rattle.block_record.specs.Packed.{packed}
+use Rattle.frame_header.specs.declared.Kind.{Kind}
+use Rattle.frame_header.specs.declared.Kind.the-variants.{Intra, Inter, Repeat}
+use Rattle.frame_header.proofs.Kind as kind
+use Rattle.coded_flags.specs.declared.Listed.{Listed}
+use Rattle.coded_flags.specs.Flags.{interFlags, intraFlags}
+use Rattle.coded_flags.specs.Coded.{codedBlocks, codedLuma, codedRecords}
+use Rattle.coded_flags.specs.Answer.{listedOf}
+use Rattle.tokens.specs.Tokens.{Tokens}
+use Rattle.tokens.specs.Answer as tokens
+use Rattle.frame_packet.specs.declared.CodedRead.the-variants as answer
+use Rattle.frame_packet.specs.Frame.{isIntra, flagsOf}
+use Rattle.frame_packet.specs.Work.{padded, asCoded, StoredCoded, StoredTokens}
+
+-- ---- kinds
+-- the second and the third variant are not the first
+pub not-intra : (k : Kind) → OneOf (1 ∷ 2 ∷ []) (tagOf kind.the-type k) → isIntra k ≡ false
+not-intra Intra o = absurd (⊎-elim (λ z. omega (arith, z)) (λ z. omega (arith, z)) o)
+not-intra Inter o = refl
+not-intra Repeat o = refl
+
+-- ---- flags
+module _ (f : PixelFormat) (w h : ℕ) (k : Kind) (p : List ℕ) (i : ℕ) where
+  pub flags-intra : (out : List ℕ) (n : ℕ) → k ≡ Intra → out ≡ replicate n 1 → n ≡ blocksOf f w h → (done.At i ≡ asDone (flagsOf f w h k p i)) × Stored out (flagsOf f w h k p i)
+  unfolding flagsOf intraFlags
+  flags-intra out n e a b = rw e (refl, a ∙ ap (λ (m : ℕ). replicate m 1) b)
+
+  pub flags-inter : (out : List ℕ) {r : Done} → isIntra k ≡ false → r ≡ asDone (interFlags f w h p i) → Stored out (interFlags f w h p i)
+      → (r ≡ asDone (flagsOf f w h k p i)) × Stored out (flagsOf f w h k p i)
+  unfolding flagsOf
+  flags-inter out e a b = rw e (a, b)
+
+-- ---- a list with zeros behind it
+module _ {A : Type 0} (z : A) where
+  pub padded-by : (n k : ℕ) (l t : List A) → length l ≡ n → k ≤ n → take k l ≡ t → drop k l ≡ replicate (n - k) z → l ≡ padded z n t
+  padded-by n k l t e h a b =
+      let m : k ≡ length t = sym (length-take-le k l (omega arith)) ∙ ap length a in
+      sym (take-append-drop k l) ∙ (λ i. a i ++ b i) ∙ ap (λ (j : ℕ). t ++ replicate (n - j) z) m
+
+  -- all of a list, and the front of one behind which nothing else is
+  pub clear-whole : (l r : List A) → r ≡ cleared z (length l) l → r ≡ replicate (length l) z
+  clear-whole l r e = e ∙ cleared-all z l
+
+  pub clear-front : (n : ℕ) (l r : List A) → n ≤ length l → drop n l ≡ replicate (length l - n) z → r ≡ cleared z n l → r ≡ replicate (length l) z
+  clear-front n l r h b e = e ∙ cleared-front z n l h b
+
+-- ---- the coded blocks
+module _ (f : PixelFormat) (w h : ℕ) (o : Outcome (List ℕ)) where
+  pub on-no-flags : (flags records coded : List ℕ) {k e : ℕ} → o ≡ refused k e → (answer.Refused k e ≡ asCoded f w h o) × StoredCoded f w h flags records coded o
+  on-no-flags flags records coded g = rw g (refl, tt)
+
+  pub on-coded : (flags records coded coded₀ : List ℕ) {e : ℕ} (l : Listed) → o ≡ got flags e → l ≡ listedOf f w h flags → records ≡ map packed (codedRecords f w h flags)
+      → coded₀ ≡ replicate (blocksOf f w h) 0 → coded ≡ codedBlocks f w h flags ++ drop (length (codedBlocks f w h flags)) coded₀
+      → (answer.Listed (l .count) (l .luma) e ≡ asCoded f w h o) × StoredCoded f w h flags records coded o
+  on-coded flags records coded coded₀ {e} l g a b z c =
+      rw g (
+        ap (λ (x : Listed). answer.Listed (x .count) (x .luma) e) a,
+        (refl, b, c ∙ ap (λ (x : List ℕ). codedBlocks f w h flags ++ x) (ap (drop (length (codedBlocks f w h flags))) z ∙ drop-cleared 0 (length (codedBlocks f w h flags)) (blocksOf f w h))),
+      )
+
+-- ---- the tokens, where the slices are all zero
+module _ (n count : ℕ) (h : count ≤ n) (ps ls : List ℕ) (cs : List ℤ) (bs : List ℕ) (p : ps ≡ replicate n 0) (l : ls ≡ replicate n 0) (c : cs ≡ replicate (64 * n) (pos 0)) (b : bs ≡ replicate n 0) where
+  pub all-cleared : n ≤ 2 ^ 36 → tokens.Cleared count ps ls cs bs
+  all-cleared m = record {
+    few = omega arith;
+    positions = ap (take count) p ∙ take-cleared 0 count n h;
+    lasts = ap (take count) l ∙ take-cleared 0 count n h;
+    coefs = ap (take (64 * count)) c ∙ take-cleared (pos 0) (64 * count) (64 * n) (omega arith);
+    active = omega (arith, ap length b, length-replicate {A = ℕ} n 0);
+  }
+
+  pub tokens-stored : (o : Outcome Tokens) (ps′ ls′ : List ℕ) (cs′ : List ℤ) (bs′ : List ℕ) → length ls′ ≡ length ls → length cs′ ≡ length cs
+      → tokens.Stored count ls′ cs′ o → tokens.Untouched count ps ls cs bs ps′ ls′ cs′ bs′ → StoredTokens n count cs′ ls′ ps′ bs′ o
+  tokens-stored (got t e) ps′ ls′ cs′ bs′ el ec s u = (
+    padded-by (pos 0) (64 * n) (64 * count) cs′ (t .coefs) (ec ∙ ap length c ∙ length-replicate (64 * n) (pos 0)) (omega arith) (s .1) (u .coefs ∙ ap (drop (64 * count)) c ∙ drop-cleared (pos 0) (64 * count) (64 * n)),
+    padded-by 0 n count ls′ (t .lasts) (el ∙ ap length l ∙ length-replicate n 0) h (s .0) (u .lasts ∙ ap (drop count) l ∙ drop-cleared 0 count n),
+    u .positions ∙ ap (drop count) p ∙ drop-cleared 0 count n,
+    u .active ∙ ap (drop count) b ∙ drop-cleared 0 count n,
+  )
+  tokens-stored (refused k e) ps′ ls′ cs′ bs′ el ec s u = tt
