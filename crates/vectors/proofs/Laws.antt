@@ -3,10 +3,10 @@ use Prim.Native.Nat.{ℕ, zero, suc, _+_, _*_}
 use native.Mathlib.Omega.{arith}
 use native.Mathlib.Nat.{zero-mul, suc-mul}
 use mathlib.Core.Path.{_≡_, refl, _∙_, subst}
-use mathlib.Core.List.{List, [], _∷_}
+use mathlib.Core.List.{List}
 use mathlib.Core.Bool.{Bool, true, false}
 use lib.Dec.{eqb, ltb}
-use lib.ListN.{length, getD, set, length-set}
+use lib.ListN.{length, getD, length-set}
 use borrow.Author.Tests.{ltb-false}
 use Rattle.bitstream.specs.Reading.{got, bind, pure, choose, field}
 use Rattle.bitstream.proofs.Laws.{Lawful, pure-lawful, pick-lawful, bind-lawful, field-lawful, whole-lawful, bind-got}
@@ -19,13 +19,14 @@ use Rattle.block_record.specs.declared.Vector.{Vector}
 use Rattle.block_record.specs.declared.Prediction.{Prediction}
 use Rattle.block_record.specs.declared.BlockRecord.{BlockRecord}
 use Rattle.block_record.specs.Record.{VectorInRange, PredictionInRange, InRange, withPrediction, uncoded}
+use Rattle.block_record.proofs.MemoryLaws.{AllInRange, in-range-at, in-range-set}
 use Rattle.vectors.specs.declared.Motion.{Motion}
 use Rattle.vectors.specs.Component.{added, width, least, variable, byCode, component, vector}
 use Rattle.vectors.specs.Motion.{zeroVector, still, moving, movingGolden, ifCoded, row, movingFour, motion, predictionOf, MotionInRange}
 use Rattle.vectors.specs.Vectors.{numberIn, predictedAt, predictedFrom, State, macroBlock, macroBlocks, vectors}
 use Rattle.vectors.proofs.Components.{long-fits}
 use Rattle.vectors.proofs.Motions.{zero-small, prediction-small}
-use Rattle.vectors.proofs.Records.{AllInRange, macro-through, first}
+use Rattle.vectors.proofs.Records.{macro-through, first}
 
 -- ---- Local and Firm
 added-lawful : (n a : ℕ) → Lawful (added n a)
@@ -119,16 +120,6 @@ vectors-spends f w h modes rs =
     spends-more (omega arith) (bind-spends (field-spends 1) (λ code. bind-spends {b = 0} (each-spends f w h code modes (length modes) 0 _) (λ s. pure-spends _)))
 
 -- ---- records stay as many, and in their range
-range-at : (rs : List BlockRecord) (i : ℕ) → AllInRange rs → InRange (getD rs i uncoded)
-range-at [] i a = record { qi-index = omega arith; prediction = tt }
-range-at (r ∷ rs) zero a = a .0
-range-at (r ∷ rs) (suc i) a = range-at rs i (a .1)
-
-range-set : (rs : List BlockRecord) (i : ℕ) (r : BlockRecord) → AllInRange rs → InRange r → AllInRange (set rs i r)
-range-set [] i r a h = a
-range-set (s ∷ ss) zero r a h = (h, a .1)
-range-set (s ∷ ss) (suc i) r a h = (a .0, range-set ss i r (a .1) h)
-
 -- what the records keep: their number, and their range
 pub record Keeps (n : ℕ) (rs : List BlockRecord) : Type 0 where
   pub long : length rs ≡ n
@@ -138,11 +129,11 @@ predicted-keeps : (n i : ℕ) (p : Prediction) (rs : List BlockRecord) → Predi
 unfolding predictedAt
 predicted-keeps n i p rs h k = record {
   long = length-set rs i _ ∙ k .long;
-  in-range = range-set rs i _ (k .in-range) (go (getD rs i uncoded .coded));
+  in-range = in-range-set rs i _ (k .in-range) (go (getD rs i uncoded .coded));
 }
   where
     there : InRange (getD rs i uncoded)
-    there = range-at rs i (k .in-range)
+    there = in-range-at rs i (k .in-range)
 
     go : (t : Bool) → InRange (choose t (withPrediction p (getD rs i uncoded)) (getD rs i uncoded))
     go true = record { qi-index = there .qi-index; prediction = h }
