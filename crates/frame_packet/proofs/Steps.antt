@@ -10,14 +10,22 @@ use lib.ListN.{length, take, drop, replicate, length-replicate, take-append-drop
 use lib.Seq.{length-take-le}
 use denote.Enum.Declared.{tagOf}
 use types.Run.{OneOf}
-use Rattle.bitstream.specs.Reading.{Outcome, got, refused}
+use Rattle.bitstream.specs.Reading.{Outcome, got, refused, after, bind, pure}
+use Rattle.bitstream.proofs.Laws.{bind-step}
+use Rattle.huffman.specs.Tree.{Tree}
 use Rattle.buffer.proofs.Laws.{cleared, cleared-all, cleared-front, take-cleared, drop-cleared}
 use Rattle.geometry.specs.declared.PixelFormat.{PixelFormat}
-use Rattle.geometry.specs.Sizes.{blocksOf}
+use Rattle.geometry.specs.declared.PixelFormat.the-variants.{Chroma420, Chroma422, Chroma444}
+use Rattle.geometry.specs.Sizes.{blocksOf, macroBlocksOf, blocksEach}
+use Rattle.geometry.proofs.SizeLaws.{blocks-each}
 use Rattle.runs.specs.declared.Done.{Done}
 use Rattle.runs.specs.declared.Done.the-variants as done
-use Rattle.runs.specs.Runs.{asDone, Stored}
+use Rattle.runs.specs.Runs.{asDone, StoredAs, Stored}
+use Rattle.runs.specs.Lists.{AllBelow, Once}
+use Rattle.block_record.specs.declared.BlockRecord.{BlockRecord}
 use Rattle.block_record.specs.Packed.{packed}
+use Rattle.block_record.specs.Memory.{AllPacked, recordsOf}
+use Rattle.block_record.proofs.MemoryLaws.{AllInRange, all-packed, records-packed, records-in-range}
 use Rattle.frame_header.specs.declared.Kind.{Kind}
 use Rattle.frame_header.specs.declared.Kind.the-variants.{Intra, Inter, Repeat}
 use Rattle.frame_header.proofs.Kind as kind
@@ -25,11 +33,21 @@ use Rattle.coded_flags.specs.declared.Listed.{Listed}
 use Rattle.coded_flags.specs.Flags.{interFlags, intraFlags}
 use Rattle.coded_flags.specs.Coded.{codedBlocks, codedLuma, codedRecords}
 use Rattle.coded_flags.specs.Answer.{listedOf}
-use Rattle.tokens.specs.Tokens.{Tokens}
+use Rattle.coded_flags.proofs.CodedLaws.{coded-once, coded-below, coded-in-range}
+use Rattle.modes.specs.Modes.{macroModes}
+use Rattle.vectors.specs.Vectors.{vectors}
+use Rattle.block_qi.specs.BlockQi.{blockQi}
+use Rattle.tokens.specs.Tokens.{Tokens, readTokens}
+use Rattle.tokens.specs.declared.Counted.{Counted}
+use Rattle.tokens.specs.declared.Counted.the-variants as counted
 use Rattle.tokens.specs.Answer as tokens
+use Rattle.frame_packet.specs.declared.CodedRead.{CodedRead}
 use Rattle.frame_packet.specs.declared.CodedRead.the-variants as answer
-use Rattle.frame_packet.specs.Frame.{isIntra, flagsOf}
-use Rattle.frame_packet.specs.Work.{padded, asCoded, StoredCoded, StoredTokens}
+use Rattle.frame_packet.specs.declared.Read.{Read}
+use Rattle.frame_packet.specs.declared.Read.the-variants as read
+use Rattle.frame_packet.specs.Frame.{Body, isIntra, flagsOf, predictions, body}
+use Rattle.frame_packet.specs.Work.{Work, padded, LeftBy, Left, asCoded, StoredCoded, StoredTokens, asRead}
+use Rattle.frame_packet.proofs.Temp.{predictions-keep, luma-most}
 
 -- ---- kinds
 -- the second and the third variant are not the first
@@ -97,3 +115,39 @@ module _ (n count : ℕ) (h : count ≤ n) (ps ls : List ℕ) (cs : List ℤ) (b
     u .active ∙ ap (drop count) b ∙ drop-cleared 0 count n,
   )
   tokens-stored (refused k e) ps′ ls′ cs′ bs′ el ec s u = tt
+
+-- ---- the records: predictions, and then qi indices
+-- the same answer of an outcome that is the same
+pub same-stored : {A : Type 0} (form : A → List ℕ) (out : List ℕ) {r : Done} {o o′ : Outcome A} → o ≡ o′ → r ≡ asDone o′ → StoredAs form out o′ → (r ≡ asDone o) × StoredAs form out o
+same-stored form out e a b = rw e (a, b)
+
+-- four luma blocks to a macro block
+pub macro-blocks-fit : (f : PixelFormat) (w h : ℕ) → macroBlocksOf w h * 4 ≤ blocksOf f w h
+macro-blocks-fit Chroma420 w h = omega (arith, blocks-each Chroma420 w h)
+macro-blocks-fit Chroma422 w h = omega (arith, blocks-each Chroma422 w h)
+macro-blocks-fit Chroma444 w h = omega (arith, blocks-each Chroma444 w h)
+
+module _ (f : PixelFormat) (w h : ℕ) (k : Kind) (flags : List ℕ) (rs : List BlockRecord) (p : List ℕ) (i : ℕ) where
+  pub predictions-none : k ≡ Intra → predictions f w h k flags rs p i ≡ got rs i
+  unfolding predictions
+  predictions-none e = rw e refl
+
+  module _ (e : isIntra k ≡ false) where
+    pub predictions-modes : {n d : ℕ} → macroModes flags (macroBlocksOf w h) p i ≡ refused n d → predictions f w h k flags rs p i ≡ refused n d
+    unfolding predictions
+    predictions-modes g = rw (e, g)
+
+    pub predictions-vectors : {modes : List ℕ} {d : ℕ} → macroModes flags (macroBlocksOf w h) p i ≡ got modes d → predictions f w h k flags rs p i ≡ vectors f w h modes rs p d
+    unfolding predictions
+    predictions-vectors g = rw (e, g)
+
+  -- the predictions as the slice has them
+  module _ (l : List ℕ) (a : AllInRange rs) {ss : List BlockRecord} {e : ℕ} (g : predictions f w h k flags rs p i ≡ got ss e) (s : l ≡ map packed ss) where
+    in-range : AllInRange ss
+    in-range = predictions-keep f w h k flags rs p i a g .in-range
+
+    pub predicted-packed : AllPacked l
+    predicted-packed = subst AllPacked (sym s) (all-packed ss in-range)
+
+    pub predicted-then : (qis : ℕ) (coded : List ℕ) → bind (predictions f w h k flags rs) (blockQi qis coded) p i ≡ blockQi qis coded (recordsOf l) p e
+    predicted-then qis coded = bind-step (predictions f w h k flags rs) (blockQi qis coded) p i g ∙ ap (λ (x : List BlockRecord). blockQi qis coded x p e) (sym (ap recordsOf s ∙ records-packed ss in-range))

@@ -12,11 +12,10 @@ ghost use lib.ListN.{length, drop, replicate};
 ghost use Rattle.bitstream.specs.Reading.{bind, got, refused, choose};
 ghost use Rattle.geometry.specs.Sizes.{blocksOf, superBlocksOf, macroBlocksOf};
 ghost use Rattle.runs.specs.Lists.{AllBelow, Once};
-ghost use Rattle.runs.specs.Runs.{asDone, Stored};
+ghost use Rattle.runs.specs.Runs.{asDone, StoredAs, Stored};
 ghost use Rattle.block_record.specs.Packed.{packed};
 ghost use Rattle.block_record.specs.Memory.{AllPacked, recordsOf};
 ghost use Rattle.block_qi.specs.BlockQi.{blockQi};
-ghost use Rattle.block_qi.specs.Answer.{StoredRecords};
 ghost use Rattle.tokens.specs.Tokens.{readTokens};
 ghost use Rattle.tokens.specs.Answer.{Tables, treesOf, asCounted};
 ghost use Rattle.frame_packet.specs.Frame.{flagsOf, predictions, body, repeated, framePacket};
@@ -91,6 +90,61 @@ fn read_coded(
             let listed = coded_flags::list_coded(format, w, h, flags, records, coded);
             CodedRead::Listed(listed.count, listed.luma, place)
         }
+    }
+}
+
+// The predictions of a frame's coded blocks, into their records. `modes` is scratch.
+fn read_predictions(
+    packet: &[u8],
+    at: usize,
+    kind: Kind,
+    format: PixelFormat,
+    w: u64,
+    h: u64,
+    flags: &[u8],
+    modes: &mut [u8],
+    records: &mut [u32],
+) -> Done
+    requires { ⌜ (length (now packet) ≤ 2 ^ 58) × (w ≤ 65535) × (h ≤ 65535) × (length (now flags) ≡ blocksOf format w h) × (length (now modes) ≡ macroBlocksOf w h) × (length (now records) ≡ blocksOf format w h) × AllPacked (now records) ⌝ }
+    ensures { λ r. ⌜ r ≡ asDone (predictions format w h kind (now (flags .entry)) (recordsOf (now (records .entry))) (now (packet .entry)) at) ⌝ }
+    ensures { λ r. ⌜ StoredAs (map packed) (now (records .exit)) (predictions format w h kind (now (flags .entry)) (recordsOf (now (records .entry))) (now (packet .entry)) at) ⌝ }
+{
+    match kind {
+        Kind::Intra => Done::At(at),
+        _ => {
+            let read = modes::read_modes(packet, at, flags, modes);
+            match read {
+                Done::Refused(k, e) => Done::Refused(k, e),
+                Done::At(next) => vectors::read_vectors(packet, next, format, w, h, modes, records),
+            }
+        }
+    }
+}
+
+// The predictions, and then the qi indices, of the coded blocks. `bits` and `modes` are scratch.
+fn read_records(
+    packet: &[u8],
+    at: usize,
+    kind: Kind,
+    qis: u32,
+    format: PixelFormat,
+    w: u64,
+    h: u64,
+    flags: &[u8],
+    coded: &[u64],
+    bits: &mut [u8],
+    modes: &mut [u8],
+    records: &mut [u32],
+) -> Done
+    requires { ⌜ (length (now packet) ≤ 2 ^ 58) × (w ≤ 65535) × (h ≤ 65535) × (length (now flags) ≡ blocksOf format w h) × (length (now modes) ≡ macroBlocksOf w h) × (length (now records) ≡ blocksOf format w h) × AllPacked (now records) ⌝ }
+    requires { ⌜ (qis ≤ 3) × Once (now coded) × AllBelow (blocksOf format w h) (now coded) × (length (now coded) ≤ length (now bits)) ⌝ }
+    ensures { λ r. ⌜ r ≡ asDone (bind (predictions format w h kind (now (flags .entry)) (recordsOf (now (records .entry)))) (blockQi qis (now (coded .entry))) (now (packet .entry)) at) ⌝ }
+    ensures { λ r. ⌜ StoredAs (map packed) (now (records .exit)) (bind (predictions format w h kind (now (flags .entry)) (recordsOf (now (records .entry)))) (blockQi qis (now (coded .entry))) (now (packet .entry)) at) ⌝ }
+{
+    let done = read_predictions(packet, at, kind, format, w, h, flags, modes, records);
+    match done {
+        Done::Refused(k, e) => Done::Refused(k, e),
+        Done::At(next) => block_qi::read_block_qi(packet, next, qis, coded, bits, records),
     }
 }
 
