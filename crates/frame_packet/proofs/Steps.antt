@@ -6,8 +6,8 @@ use mathlib.Core.List.{List, [], _∷_, _++_, map}
 use mathlib.Core.Bool.{Bool, true, false}
 use mathlib.Core.Logic.{⊎-elim}
 use lib.IntN.{ℤ, pos}
-use lib.ListN.{length, take, drop, replicate, length-replicate, take-append-drop}
-use lib.Seq.{length-take-le}
+use lib.ListN.{length, take, drop, replicate, length-append, length-replicate, take-append-drop}
+use lib.Seq.{take-at, length-take-le}
 use denote.Enum.Declared.{tagOf}
 use types.Run.{OneOf}
 use Rattle.bitstream.specs.Reading.{Outcome, got, refused, after, bind, pure}
@@ -17,7 +17,7 @@ use Rattle.buffer.proofs.Laws.{cleared, cleared-all, cleared-front, take-cleare
 use Rattle.geometry.specs.declared.PixelFormat.{PixelFormat}
 use Rattle.geometry.specs.declared.PixelFormat.the-variants.{Chroma420, Chroma422, Chroma444}
 use Rattle.geometry.specs.Sizes.{blocksOf, macroBlocksOf, blocksEach}
-use Rattle.geometry.proofs.SizeLaws.{blocks-each}
+use Rattle.geometry.proofs.SizeLaws.{blocks-each, sizes-small}
 use Rattle.runs.specs.declared.Done.{Done}
 use Rattle.runs.specs.declared.Done.the-variants as done
 use Rattle.runs.specs.Runs.{asDone, StoredAs, Stored}
@@ -46,8 +46,8 @@ use Rattle.frame_packet.specs.declared.CodedRead.the-variants as answer
 use Rattle.frame_packet.specs.declared.Read.{Read}
 use Rattle.frame_packet.specs.declared.Read.the-variants as read
 use Rattle.frame_packet.specs.Frame.{Body, isIntra, flagsOf, predictions, body}
-use Rattle.frame_packet.specs.Work.{Work, padded, LeftBy, Left, asCoded, StoredCoded, StoredTokens, asRead}
-use Rattle.frame_packet.proofs.Temp.{predictions-keep, luma-most}
+use Rattle.frame_packet.specs.Work.{Work, work, padded, LeftBy, Left, asCoded, StoredCoded, StoredTokens, asRead}
+use Rattle.frame_packet.proofs.Temp.{made, predictions-keep, luma-most}
 
 -- ---- kinds
 -- the second and the third variant are not the first
@@ -151,3 +151,118 @@ module _ (f : PixelFormat) (w h : ℕ) (k : Kind) (flags : List ℕ) (rs : List 
 
     pub predicted-then : (qis : ℕ) (coded : List ℕ) → bind (predictions f w h k flags rs) (blockQi qis coded) p i ≡ blockQi qis coded (recordsOf l) p e
     predicted-then qis coded = bind-step (predictions f w h k flags rs) (blockQi qis coded) p i g ∙ ap (λ (x : List BlockRecord). blockQi qis coded x p e) (sym (ap recordsOf s ∙ records-packed ss in-range))
+
+-- ---- the body, part by part
+pub coded-refused : (f : PixelFormat) (w h : ℕ) (o : Outcome (List ℕ)) {r : CodedRead} {k e : ℕ} → r ≡ asCoded f w h o → r ≡ answer.Refused k e → o ≡ refused k e
+coded-refused f w h (got l d) s g = let z : _≡_ {A = ℕ} 0 1 = cc in absurd (omega arith)
+coded-refused f w h (refused j d) s g = cc
+
+-- what stands in the slices behind the flags
+pub record Listing (f : PixelFormat) (w h : ℕ) (o : Outcome (List ℕ)) (flags records coded : List ℕ) (count luma place : ℕ) : Type 0 where
+  pub there : o ≡ got flags place
+  pub counted : count ≡ length (codedBlocks f w h flags)
+  pub lumas : luma ≡ codedLuma f w h flags
+  pub recorded : records ≡ map packed (codedRecords f w h flags)
+  pub numbers : coded ≡ padded 0 (blocksOf f w h) (codedBlocks f w h flags)
+
+pub coded-listed : (f : PixelFormat) (w h : ℕ) (o : Outcome (List ℕ)) (flags records coded : List ℕ) {r : CodedRead} {count luma place : ℕ} → r ≡ asCoded f w h o → StoredCoded f w h flags records coded o
+    → r ≡ answer.Listed count luma place → Listing f w h o flags records coded count luma place
+coded-listed f w h (got l d) flags records coded {r} {count} {luma} {place} s t g =
+    let z : answer.Listed (length (codedBlocks f w h l)) (codedLuma f w h l) d ≡ answer.Listed count luma place = sym s ∙ g in
+    let y : flags ≡ l = t .0 in
+    record { there = cc; counted = cc; lumas = cc; recorded = t .1 ∙ ap (λ (x : List ℕ). map packed (codedRecords f w h x)) (sym y); numbers = t .2 ∙ ap (λ (x : List ℕ). padded 0 (blocksOf f w h) (codedBlocks f w h x)) (sym y) }
+coded-listed f w h (refused j d) flags records coded s t g = let z : _≡_ {A = ℕ} 0 1 = cc in absurd (omega arith)
+
+after-after : {A B C : Type 0} (o : Outcome A) (m : A → ℕ → Outcome B) (g : B → ℕ → Outcome C) → after o (λ a e. after (m a e) g) ≡ after (after o m) g
+after-after (got a e) m g = refl
+after-after (refused k e) m g = refl
+
+module _ (f : PixelFormat) (w h : ℕ) (trees : List Tree) (k : Kind) (qis : ℕ) (p : List ℕ) (i : ℕ) where
+  pub body-flags : {n e : ℕ} → flagsOf f w h k p i ≡ refused n e → body f w h trees k qis p i ≡ refused n e
+  unfolding body
+  body-flags g = rw g
+
+  module _ (flags records coded : List ℕ) (count luma place : ℕ) (x : Listing f w h (flagsOf f w h k p i) flags records coded count luma place) where
+    pub listed-fits : count ≤ length coded
+    listed-fits = omega (arith, x .counted, ap length (x .numbers), length-append (codedBlocks f w h flags) (replicate (blocksOf f w h - length (codedBlocks f w h flags)) 0))
+
+    -- there is room for the coded blocks where there is room for all
+    pub listed-room : (n : ℕ) → length coded ≡ blocksOf f w h → n ≡ blocksOf f w h → count ≤ n
+    listed-room n e b = omega (arith, listed-fits)
+
+    pub listed-part : (n : ℕ) → length coded ≡ blocksOf f w h → n ≡ blocksOf f w h → length (take count coded) ≤ n
+    listed-part n e b = omega (arith, length-take-le count coded listed-fits, listed-room n e b)
+
+    listed-taken : take count coded ≡ codedBlocks f w h flags
+    listed-taken = ap (take count) (x .numbers) ∙ take-at (codedBlocks f w h flags) _ count (sym (x .counted))
+
+    pub listed-once : Once (take count coded)
+    listed-once = subst Once (sym listed-taken) (coded-once f w h flags)
+
+    pub listed-below : AllBelow (blocksOf f w h) (take count coded)
+    listed-below = subst (AllBelow (blocksOf f w h)) (sym listed-taken) (coded-below f w h flags)
+
+    pub listed-packed : AllPacked records
+    listed-packed = subst AllPacked (sym (x .recorded)) (all-packed (codedRecords f w h flags) (coded-in-range f w h flags))
+
+    listed-records : recordsOf records ≡ codedRecords f w h flags
+    listed-records = ap recordsOf (x .recorded) ∙ records-packed (codedRecords f w h flags) (coded-in-range f w h flags)
+
+    pub listed-luma : length flags ≡ blocksOf f w h → luma ≤ count
+    listed-luma full = omega (arith, x .counted, x .lumas, luma-most f w h flags full)
+
+    abbrev pub indexed : Outcome (List BlockRecord)
+    indexed = bind (predictions f w h k flags (recordsOf records)) (blockQi qis (take count coded)) p place
+
+    abbrev behind : List BlockRecord → ℕ → Outcome Body
+    behind rs e = after (readTokens trees luma count p e) (λ t d. got (made f w h flags rs t) d)
+
+    body-after : body f w h trees k qis p i ≡ after indexed behind
+    unfolding body
+    body-after =
+        rw (x .there)
+        (after-after (predictions f w h k flags (codedRecords f w h flags) p place) (λ rs e. blockQi qis (codedBlocks f w h flags) rs p e) (λ rs e. after (readTokens trees (codedLuma f w h flags) (length (codedBlocks f w h flags)) p e) (λ t d. got (made f w h flags rs t) d))
+        ∙ (λ j. after (bind (predictions f w h k flags (sym listed-records j)) (blockQi qis (sym listed-taken j)) p place) (λ rs e. after (readTokens trees (sym (x .lumas) j) (sym (x .counted) j) p e) (λ t d. got (made f w h flags rs t) d))))
+
+    pub body-index : {n e : ℕ} → indexed ≡ refused n e → body f w h trees k qis p i ≡ refused n e
+    body-index g = body-after ∙ ap (λ (o : Outcome (List BlockRecord)). after o behind) g
+
+    module _ {rs : List BlockRecord} {e : ℕ} (g : indexed ≡ got rs e) where
+      pub body-tokens : {n d : ℕ} → readTokens trees luma count p e ≡ refused n d → body f w h trees k qis p i ≡ refused n d
+      body-tokens q = body-after ∙ ap (λ (o : Outcome (List BlockRecord)). after o behind) g ∙ ap (λ (o : Outcome Tokens). after o (λ t d. got (made f w h flags rs t) d)) q
+
+      pub body-whole : {t : Tokens} {d : ℕ} → readTokens trees luma count p e ≡ got t d → body f w h trees k qis p i ≡ got (made f w h flags rs t) d
+      body-whole q = body-after ∙ ap (λ (o : Outcome (List BlockRecord)). after o behind) g ∙ ap (λ (o : Outcome Tokens). after o (λ t d. got (made f w h flags rs t) d)) q
+
+    -- what stands in the slices then
+    pub left-by : (n : ℕ) (rs : List BlockRecord) (t : Tokens) (e : ℕ) (records′ : List ℕ) (cs : List ℤ) (ls flags′ bs supers modes active : List ℕ) → n ≡ blocksOf f w h → records′ ≡ map packed rs
+        → StoredTokens n count cs ls bs active (got t e) → LeftBy f w h (made f w h flags rs t) (work records′ coded cs ls flags′ bs supers modes active)
+    left-by n rs t e records′ cs ls flags′ bs supers modes active en r s = record {
+      records = r;
+      coded = x .numbers;
+      coefs = s .0 ∙ ap (λ (m : ℕ). padded (pos 0) (64 * m) (t .coefs)) en;
+      lasts = s .1 ∙ ap (λ (m : ℕ). padded 0 m (t .lasts)) en;
+      bits = subst (λ (c : ℕ). drop c bs ≡ replicate (blocksOf f w h - c) 0) (x .counted) (s .2 ∙ ap (λ (m : ℕ). replicate (m - count) 0) en);
+      active = subst (λ (c : ℕ). drop c active ≡ replicate (blocksOf f w h - c) 0) (x .counted) (s .3 ∙ ap (λ (m : ℕ). replicate (m - count) 0) en);
+    }
+
+pub blocks-few : (f : PixelFormat) (w h n : ℕ) → w ≤ 65535 → h ≤ 65535 → n ≡ blocksOf f w h → n ≤ 2 ^ 36
+blocks-few f w h n hw hh e = omega (arith, sizes-small f w h hw hh .blocks)
+
+-- ---- the answer of the tokens, by its arm
+pub counted-refused : (o : Outcome Tokens) {r : Counted} {k e : ℕ} → r ≡ tokens.asCounted o → r ≡ counted.Refused k e → o ≡ refused k e
+counted-refused (got l d) s g = let z : _≡_ {A = ℕ} 0 1 = cc in absurd (omega arith)
+counted-refused (refused j d) s g = cc
+
+pub counted-done : (o : Outcome Tokens) (n count : ℕ) (cs : List ℤ) (ls bs active : List ℕ) {r : Counted} {e number : ℕ} → r ≡ tokens.asCounted o → StoredTokens n count cs ls bs active o → r ≡ counted.Done e number
+    → (t : Tokens) × (o ≡ got t e) × (number ≡ t .tokens) × StoredTokens n count cs ls bs active (got t e)
+counted-done (got t d) n count cs ls bs active {r} {e} {number} s h g = let z : counted.Done d (t .tokens) ≡ counted.Done e number = sym s ∙ g in (t, cc, cc, h)
+counted-done (refused j d) n count cs ls bs active s h g = let z : _≡_ {A = ℕ} 0 1 = cc in absurd (omega arith)
+
+-- ---- what a return of the body has to show
+module _ (f : PixelFormat) (w h : ℕ) (m : Work) (o : Outcome Body) where
+  pub on-no-body : {k e : ℕ} → o ≡ refused k e → (read.Refused k e ≡ asRead o) × Left f w h m o
+  on-no-body g = rw g (refl, tt)
+
+  pub on-body : {b : Body} {e count number : ℕ} → o ≡ got b e → count ≡ length (b .coded) → number ≡ b .tokens .tokens → LeftBy f w h b m → (read.Whole count number e ≡ asRead o) × Left f w h m o
+  on-body {b} {e} g a n l = rw g ((λ i. read.Whole (a i) (n i) e), l)

@@ -20,7 +20,8 @@ use Rattle.coded_flags.proofs.CodedLaws.{coded-length}
 use Rattle.modes.specs.Modes.{macroModes}
 use Rattle.vectors.specs.Vectors.{vectors}
 use Rattle.vectors.proofs.Laws.{Keeps, vectors-keep}
-use Rattle.frame_packet.specs.Frame.{isIntra, predictions, frame, framePacket}
+use Rattle.tokens.specs.Tokens.{Tokens}
+use Rattle.frame_packet.specs.Frame.{Body, isIntra, predictions, frame, framePacket}
 
 ones-take : (n : ℕ) (l : List ℕ) → ones (take n l) ≤ ones l
 unfolding ones
@@ -29,6 +30,9 @@ ones-take (suc n) [] = omega arith
 ones-take (suc n) (b ∷ l) = omega (arith, ones-take n l)
 
 module _ (f : PixelFormat) (w h : ℕ) where
+  abbrev pub made : List ℕ → List BlockRecord → Tokens → Body
+  made flags records t = record { coded = codedBlocks f w h flags; records = records; tokens = t }
+
   pub luma-most : (flags : List ℕ) → length flags ≡ blocksOf f w h → codedLuma f w h flags ≤ length (codedBlocks f w h flags)
   unfolding codedLuma
   luma-most flags full = omega (arith, coded-length f w h flags full, ones-take (planeBlocks f w h 0) flags)

@@ -170,6 +170,85 @@ fn read_coefs(
     tokens::read_tokens(packet, at, nodes, luma, count, bits, lasts, coefs, active)
 }
 
+// What stands behind the header. After a refusal the slices may hold anything; else what was read, and the scratch may hold anything but for zeros
+// behind the elements of the coded blocks in `bits` and `active`.
+fn read_body(
+    packet: &[u8],
+    at: usize,
+    kind: Kind,
+    qis: u32,
+    nodes: &[u8],
+    format: PixelFormat,
+    w: u64,
+    h: u64,
+    records: &mut [u32],
+    coded: &mut [u64],
+    coefs: &mut [i16],
+    lasts: &mut [u8],
+    flags: &mut [u8],
+    bits: &mut [u8],
+    supers: &mut [u8],
+    modes: &mut [u8],
+    active: &mut [u64],
+) -> Read
+    requires { ⌜ (length (now packet) ≤ 2 ^ 58) × (w ≤ 65535) × (h ≤ 65535) × (qis ≤ 3) × Tables (now nodes) × (work (now records) (now coded) (now coefs) (now lasts) (now flags) (now bits) (now supers) (now modes) (now active) ≡ clear format w h) ⌝ }
+    ensures { λ r. ⌜ r ≡ asRead (body format w h (treesOf (now (nodes .entry))) kind qis (now (packet .entry)) at) ⌝ }
+    ensures { λ r. ⌜ Left format w h (work (now (records .exit)) (now (coded .exit)) (now (coefs .exit)) (now (lasts .exit)) (now (flags .exit)) (now (bits .exit)) (now (supers .exit)) (now (modes .exit)) (now (active .exit))) (body format w h (treesOf (now (nodes .entry))) kind qis (now (packet .entry)) at) ⌝ }
+{
+    let first = read_coded(
+        packet,
+        at,
+        kind,
+        format,
+        w,
+        h,
+        supers,
+        bits,
+        flags,
+        records,
+        coded,
+    );
+    match first {
+        CodedRead::Refused(k, e) => Read::Refused(k, e),
+        CodedRead::Listed(count, luma, place) => {
+            let done = read_records(
+                packet,
+                place,
+                kind,
+                qis,
+                format,
+                w,
+                h,
+                flags,
+                &coded[..count],
+                bits,
+                modes,
+                records,
+            );
+            match done {
+                Done::Refused(k, e) => Read::Refused(k, e),
+                Done::At(next) => {
+                    let given = read_coefs(
+                        packet,
+                        next,
+                        nodes,
+                        luma,
+                        count,
+                        coefs,
+                        lasts,
+                        bits,
+                        active,
+                    );
+                    match given {
+                        Counted::Refused(k, e) => Read::Refused(k, e),
+                        Counted::Done(end, number) => Read::Whole(count, number, end),
+                    }
+                }
+            }
+        }
+    }
+}
+
 // The slices that hold what was read.
 fn clear_read(records: &mut [u32], coded: &mut [u64], coefs: &mut [i16], lasts: &mut [u8])
     ensures { λ _. ⌜ (now (records .exit) ≡ replicate (length (now (records .entry))) 0) × (now (coded .exit) ≡ replicate (length (now (coded .entry))) 0) × (now (coefs .exit) ≡ replicate (length (now (coefs .entry))) (pos 0)) × (now (lasts .exit) ≡ replicate (length (now (lasts .entry))) 0) ⌝ }
