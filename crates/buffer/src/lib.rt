@@ -1,6 +1,9 @@
 // Whole buffers.
 ghost use mathlib.Core.Path.{_≡_};
-ghost use lib.ListN.{length};
+ghost use mathlib.Core.List.{_++_};
+ghost use Prim.Native.Nat.{_≤_};
+ghost use lib.IntN.{pos};
+ghost use lib.ListN.{length, drop, replicate};
 
 // Every byte of src, in its place.
 pub fn copy(dst: &mut [u8], src: &[u8])
@@ -10,6 +13,51 @@ pub fn copy(dst: &mut [u8], src: &[u8])
     let mut i: usize = 0;
     while i < src.len() {
         dst[i] = src[i];
+        i += 1;
+    }
+}
+
+// The first `count` become 0.
+pub fn clear_bytes(slice: &mut [u8], count: usize)
+    requires { ⌜ count ≤ length (now slice) ⌝ }
+    ensures { λ _. ⌜ now (slice .exit) ≡ replicate count 0 ++ drop count (now (slice .entry)) ⌝ }
+{
+    let mut i: usize = 0;
+    while i < count {
+        slice[i] = 0;
+        i += 1;
+    }
+}
+
+pub fn clear_words(slice: &mut [u32], count: usize)
+    requires { ⌜ count ≤ length (now slice) ⌝ }
+    ensures { λ _. ⌜ now (slice .exit) ≡ replicate count 0 ++ drop count (now (slice .entry)) ⌝ }
+{
+    let mut i: usize = 0;
+    while i < count {
+        slice[i] = 0;
+        i += 1;
+    }
+}
+
+pub fn clear_longs(slice: &mut [u64], count: usize)
+    requires { ⌜ count ≤ length (now slice) ⌝ }
+    ensures { λ _. ⌜ now (slice .exit) ≡ replicate count 0 ++ drop count (now (slice .entry)) ⌝ }
+{
+    let mut i: usize = 0;
+    while i < count {
+        slice[i] = 0;
+        i += 1;
+    }
+}
+
+pub fn clear_shorts(slice: &mut [i16], count: usize)
+    requires { ⌜ count ≤ length (now slice) ⌝ }
+    ensures { λ _. ⌜ now (slice .exit) ≡ replicate count (pos 0) ++ drop count (now (slice .entry)) ⌝ }
+{
+    let mut i: usize = 0;
+    while i < count {
+        slice[i] = 0;
         i += 1;
     }
 }
