@@ -5,6 +5,7 @@
 
 mod bit_writer;
 mod check;
+mod damage;
 mod decoded;
 mod fields;
 mod orders;
@@ -16,6 +17,7 @@ mod setup_header;
 mod setups;
 mod streams;
 mod tables;
+mod written;
 
 use check::Difference;
 use random::Random;

@@ -1,53 +1,11 @@
 //! Random setup headers over the whole range of what can be sent, and some
 //! that cannot.
 
-use crate::bit_writer::BitWriter;
 use crate::random::Random;
 use crate::reference::setup::Field;
-use std::collections::BTreeMap;
-
-/// Where a field lies in a written header.
-#[derive(Clone, Copy, Debug)]
-pub struct Place {
-    /// Its first bit.
-    pub first: u64,
-    /// How many bits it has.
-    pub width: u32,
-}
 
 /// A header's bits and where its fields lie.
-#[derive(Clone, Debug, Default)]
-pub struct Written {
-    bits: BitWriter,
-    places: BTreeMap<Field, Vec<Place>>,
-}
-
-impl Written {
-    /// The header's bytes, the last one filled up with zeros.
-    pub fn bytes(&self) -> &[u8] {
-        self.bits.bytes()
-    }
-
-    /// How many bits it has.
-    pub fn length(&self) -> u64 {
-        self.bits.length()
-    }
-
-    /// The place of some field: each kind of field is as likely as any other.
-    pub fn pick(&self, random: &mut Random) -> Place {
-        let kind = random.index(self.places.len());
-        let places = self.places.values().nth(kind);
-        random.pick(places.expect("there are so many kinds"))
-    }
-
-    /// Appends a field.
-    fn put(&mut self, field: Field, value: u64, width: u32) {
-        let first = self.bits.length();
-        let places = self.places.entry(field).or_default();
-        places.push(Place { first, width });
-        self.bits.put(value, width);
-    }
-}
+pub type Written = crate::written::Written<Field>;
 
 /// A tree, depth first: a token for a leaf, none for a branch.
 type Tree = Vec<Option<u64>>;
@@ -117,7 +75,7 @@ pub fn with_bad_tree(random: &mut Random) -> Written {
 
 /// Writes a header up to its sets of quant ranges.
 fn begin(random: &mut Random, small: bool, nbms: u64) -> Written {
-    let mut written = Written::default();
+    let mut written = Written::new();
     written.put(Field::TypeByte, 0x82, 8);
     for letter in *b"theora" {
         written.put(Field::Letter, u64::from(letter), 8);
