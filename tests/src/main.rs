@@ -8,6 +8,9 @@ mod check;
 mod damage;
 mod decoded;
 mod fields;
+mod frame_calls;
+mod frames;
+mod generate;
 mod orders;
 mod packets;
 mod random;
@@ -26,7 +29,7 @@ use std::time::Instant;
 
 const USAGE: &str = "\
 usage: compare [--packets N] [--sessions N] [--orders MAX] [--setups N]
-               [--tables N] [--matrices N] [--seed S]
+               [--tables N] [--matrices N] [--frames N] [--seed S]
                [--stream FILE.. | --decode FILE..]
 
   --packets N   identification headers: valid, faulty, damaged, cut, extended (1000000)
@@ -35,13 +38,15 @@ usage: compare [--packets N] [--sessions N] [--orders MAX] [--setups N]
   --setups N    setup headers: valid, damaged, cut, extended (20000)
   --tables N    table memories: genuine, changed, random (12000)
   --matrices N  table memories of which every limit and matrix is compared (10)
+  --frames N    frame packets of small frames, by the independent implementation
+                alone: valid, damaged, cut, extended (20000)
   --seed S      where the random numbers start (1)
   --stream FILE..
                 nothing but recordings: their headers, and what the texts beside
                 them (tests/streams/README.md) say; comes last
   --decode FILE..
                 nothing but recordings, decoded by the independent implementation
-                alone: every frame must be libtheora's; comes last
+                alone: every frame must be libtheora's; damaged packets; comes last
 ";
 
 /// With fewer packets it is no fault if some refusal was not met.
@@ -55,6 +60,7 @@ struct Options {
     setups: u64,
     tables: u64,
     matrices: u64,
+    frames: u64,
     seed: u64,
     /// Recordings, to be compared in place of all else.
     streams: Vec<String>,
@@ -71,6 +77,7 @@ impl Default for Options {
             setups: 20_000,
             tables: 12_000,
             matrices: 10,
+            frames: 20_000,
             seed: 1,
             streams: Vec::new(),
             decode: Vec::new(),
@@ -125,6 +132,7 @@ fn options(words: &[String]) -> Result<Options, String> {
             "--setups" => options.setups = value,
             "--tables" => options.tables = value,
             "--matrices" => options.matrices = value,
+            "--frames" => options.frames = value,
             "--seed" => options.seed = value,
             _ => return Err(format!("{name}: no such option")),
         }
@@ -144,7 +152,8 @@ fn compare(options: &Options) -> Result<(), String> {
     let mut random = Random::new(options.seed);
     compare_packets(&mut random, options)?;
     compare_sessions(&mut random, options)?;
-    compare_setups(&mut random, options)
+    compare_setups(&mut random, options)?;
+    compare_frames(&mut random, options)
 }
 
 /// Prints a heading with the time that was taken.
@@ -210,6 +219,15 @@ fn compare_setups(random: &mut Random, options: &Options) -> Result<(), String> 
     Ok(())
 }
 
+/// Frame packets.
+fn compare_frames(random: &mut Random, options: &Options) -> Result<(), String> {
+    let start = Instant::now();
+    let report = frames::compare(random, options.frames)?;
+    heading("frame packets", start);
+    println!("{report}");
+    all_tried(&report.missed(), options.frames)
+}
+
 #[cfg(test)]
 mod tests {
     use super::*;
@@ -246,6 +264,7 @@ mod tests {
             setups: 800,
             tables: 800,
             matrices: 1,
+            frames: 500,
             seed: 11,
             ..Options::default()
         };

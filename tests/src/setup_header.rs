@@ -35,8 +35,24 @@ enum Shape {
     Any,
 }
 
+/// Which trees a header has.
+#[derive(Clone, Copy, PartialEq, Eq)]
+pub enum Trees {
+    /// Any within the limits.
+    Any,
+    /// Of 32 leaves, one for each token.
+    Full,
+    /// Lone leaves.
+    Lone,
+}
+
 /// Writes a random header that is accepted. `small` ones have few bits.
 pub fn accepted(random: &mut Random, small: bool) -> Written {
+    accepted_with(random, small, Trees::Any)
+}
+
+/// The same with trees of one kind.
+pub fn accepted_with(random: &mut Random, small: bool, trees: Trees) -> Written {
     let nbms = if small {
         1 + random.below(3)
     } else {
@@ -47,7 +63,12 @@ pub fn accepted(random: &mut Random, small: bool) -> Written {
         put_set(&mut written, number, set, nbms);
     }
     for _ in 0..80 {
-        put_tree(&mut written, &good_tree(random, small));
+        let tree = match trees {
+            Trees::Any => good_tree(random, small),
+            Trees::Full => full_tree(random),
+            Trees::Lone => vec![Some(random.below(32))],
+        };
+        put_tree(&mut written, &tree);
     }
     written
 }
@@ -216,6 +237,11 @@ fn good_tree(random: &mut Random, small: bool) -> Tree {
     } else {
         leaves
     };
+    any_shape(random, leaves)
+}
+
+/// A tree of so many leaves.
+fn any_shape(random: &mut Random, leaves: u64) -> Tree {
     let shape = random.pick(&[
         Shape::Right,
         Shape::Left,
@@ -226,6 +252,16 @@ fn good_tree(random: &mut Random, small: bool) -> Tree {
     ]);
     let mut tree = Vec::new();
     grow(random, &mut tree, shape, leaves);
+    tree
+}
+
+/// A tree with every token once.
+fn full_tree(random: &mut Random) -> Tree {
+    let mut tokens: Vec<u64> = (0..32).collect();
+    let mut tree = any_shape(random, 32);
+    for token in tree.iter_mut().flatten() {
+        *token = tokens.swap_remove(random.index(tokens.len()));
+    }
     tree
 }
 
@@ -289,6 +325,21 @@ mod tests {
             let written = accepted(&mut random, number % 3 == 0);
             let read = setup(written.bytes()).unwrap();
             assert_eq!(read.bits, written.length());
+        }
+    }
+
+    #[test]
+    fn trees_of_one_kind() {
+        let mut random = Random::new(6);
+        for _ in 0..30 {
+            let full = accepted_with(&mut random, false, Trees::Full);
+            for mut codes in setup(full.bytes()).unwrap().codes {
+                codes.sort_by_key(|code| code.token);
+                assert!((0..32).eq(codes.iter().map(|code| code.token)));
+            }
+            let lone = accepted_with(&mut random, true, Trees::Lone);
+            let codes = setup(lone.bytes()).unwrap().codes;
+            assert!(codes.iter().all(|codes| codes.len() == 1));
         }
     }
 
