@@ -22,7 +22,7 @@ use std::ops::AddAssign;
 use std::path::Path;
 
 /// About how many blocks the damaged variants of a packet have together, at most.
-const BLOCKS_OF_VARIANTS: u64 = 5_000;
+const BLOCKS_OF_VARIANTS: u64 = 1_000;
 
 /// What was compared.
 #[derive(Clone, Copy, Default)]

@@ -9,6 +9,7 @@
 
 use crate::frame_calls::Caller;
 use crate::generate::cases::Case;
+use crate::generate::encoder::{Encoded, encoded};
 use crate::generate::frame_packets::{packet, variant};
 use crate::random::Random;
 use crate::reference::decode::Decoder;
@@ -58,9 +59,9 @@ pub fn compare(random: &mut Random, packets: u64) -> Result<Report, String> {
         report.of_case(random, &case, PACKETS_OF_A_CASE)?;
     }
     // More than 4129 super blocks; more than 4129 blocks.
-    for (fmbw, fmbh) in [(1, 4200), (28, 27)] {
+    for (fmbw, fmbh, kind) in [(1, 4200, Kind::Inter), (28, 27, Kind::Intra)] {
         let case = Case::of_size(random, fmbw, fmbh);
-        report.of_case(random, &case, 1 + packets / 100_000)?;
+        report.longest_runs(random, &case, kind)?;
     }
     Ok(report)
 }
@@ -88,6 +89,29 @@ impl Report {
             }
         }
         Ok(())
+    }
+
+    /// Tries packets until some of them had a run of 4129.
+    fn longest_runs(&mut self, random: &mut Random, case: &Case, kind: Kind) -> Result<(), String> {
+        let decoder = Decoder::new(&case.fields, &case.setup);
+        let frame = Frame {
+            decoder: &decoder,
+            references: true,
+            golden: &case.golden,
+            previous: &case.previous,
+        };
+        let mut tried = 0;
+        for _ in 0..100 {
+            let Encoded { written, sent } = encoded(random, &decoder, kind);
+            if sent.is_some_and(|sent| sent.longest_runs > 0) {
+                drop(self.of_packet(&frame, written.bytes())?);
+                tried += 1;
+            }
+            if tried == 3 {
+                return Ok(());
+            }
+        }
+        Err("no packets with a run of 4129".to_string())
     }
 
     /// Tries so many variants of a recording's packet.

@@ -20,6 +20,7 @@ mod setup_header;
 mod setups;
 mod streams;
 mod tables;
+mod wild;
 mod written;
 
 use check::Difference;
@@ -30,7 +31,7 @@ use std::time::Instant;
 const USAGE: &str = "\
 usage: compare [--packets N] [--sessions N] [--orders MAX] [--setups N]
                [--tables N] [--matrices N] [--frames N] [--seed S]
-               [--stream FILE.. | --decode FILE..]
+               [--stream FILE.. | --decode FILE.. | --wild FILE..]
 
   --packets N   identification headers: valid, faulty, damaged, cut, extended (1000000)
   --sessions N  sessions, sound and not, each with every call on a session (500000)
@@ -47,6 +48,8 @@ usage: compare [--packets N] [--sessions N] [--orders MAX] [--setups N]
   --decode FILE..
                 nothing but recordings, decoded by the independent implementation
                 alone: every frame must be libtheora's; damaged packets; comes last
+  --wild FILE.. compares nothing: writes packet files of random frames, for
+                libtheora to decode; comes last
 ";
 
 /// With fewer packets it is no fault if some refusal was not met.
@@ -62,10 +65,19 @@ struct Options {
     matrices: u64,
     frames: u64,
     seed: u64,
-    /// Recordings, to be compared in place of all else.
-    streams: Vec<String>,
-    /// Recordings, to be decoded in place of all else.
-    decode: Vec<String>,
+    /// What is done in place of all else.
+    instead: Option<Instead>,
+}
+
+/// What is done with recordings.
+#[derive(Debug, PartialEq, Eq)]
+enum Instead {
+    /// Their headers are compared.
+    Headers(Vec<String>),
+    /// They are decoded.
+    Decode(Vec<String>),
+    /// They are written.
+    Wild(Vec<String>),
 }
 
 impl Default for Options {
@@ -79,8 +91,7 @@ impl Default for Options {
             matrices: 10,
             frames: 20_000,
             seed: 1,
-            streams: Vec::new(),
-            decode: Vec::new(),
+            instead: None,
         }
     }
 }
@@ -111,15 +122,18 @@ fn options(words: &[String]) -> Result<Options, String> {
     let mut options = Options::default();
     let mut words = words.iter();
     while let Some(name) = words.next() {
-        if name == "--stream" || name == "--decode" {
+        let instead = match name.as_str() {
+            "--stream" => Some(Instead::Headers as fn(_) -> _),
+            "--decode" => Some(Instead::Decode as fn(_) -> _),
+            "--wild" => Some(Instead::Wild as fn(_) -> _),
+            _ => None,
+        };
+        if let Some(instead) = instead {
             let files: Vec<String> = words.cloned().collect();
             if files.is_empty() {
                 return Err(format!("{name}: recordings must follow"));
             }
-            match name.as_str() {
-                "--stream" => options.streams = files,
-                _ => options.decode = files,
-            }
+            options.instead = Some(instead(files));
             break;
         }
         let value = words.next().and_then(|word| word.parse().ok());
@@ -142,11 +156,11 @@ fn options(words: &[String]) -> Result<Options, String> {
 
 /// Compares all and prints what was compared.
 fn compare(options: &Options) -> Result<(), String> {
-    if !options.streams.is_empty() {
-        return streams::compare(&options.streams);
-    }
-    if !options.decode.is_empty() {
-        return decoded::compare(&options.decode);
+    match &options.instead {
+        Some(Instead::Headers(files)) => return streams::compare(files),
+        Some(Instead::Decode(files)) => return decoded::compare(files),
+        Some(Instead::Wild(files)) => return wild::write(files, options.seed),
+        None => {}
     }
     println!("seed {}", options.seed);
     let mut random = Random::new(options.seed);
@@ -249,10 +263,11 @@ mod tests {
         assert!(options(&words("--what 1")).is_err());
         assert!(options(&words("--stream")).is_err());
         assert!(options(&words("--decode")).is_err());
-        let read = options(&words("--seed 2 --stream a b")).ok();
-        assert_eq!(read.map(|o| o.streams), Some(words("a b")));
-        let read = options(&words("--decode a")).ok();
-        assert_eq!(read.map(|o| o.decode), Some(words("a")));
+        let instead = |text| options(&words(text)).ok().and_then(|o| o.instead);
+        let headers = Instead::Headers(words("a b"));
+        assert_eq!(instead("--seed 2 --stream a b"), Some(headers));
+        assert_eq!(instead("--decode a"), Some(Instead::Decode(words("a"))));
+        assert_eq!(instead("--wild a"), Some(Instead::Wild(words("a"))));
     }
 
     #[test]

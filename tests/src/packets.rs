@@ -67,6 +67,16 @@ impl Header {
     }
 }
 
+/// The header of these fields.
+pub fn header_of(fields: &Fields) -> Vec<u8> {
+    let header = Header {
+        common: *b"\x80theora\x03\x02",
+        fields: fields.clone(),
+        last_bits: 0,
+    };
+    header.bytes()
+}
+
 /// A number above a limit, within a width.
 fn above(random: &mut Random, limit: u64, width: u32) -> u64 {
     let last = (1 << width) - 1;

@@ -27,14 +27,16 @@ impl Case {
     /// A case of a small frame.
     pub fn small(random: &mut Random) -> Case {
         let (fmbw, fmbh) = small_size(random);
-        Case::of_size(random, fmbw, fmbh)
-    }
-
-    /// A case of a frame of so many macro blocks.
-    pub fn of_size(random: &mut Random, fmbw: u64, fmbh: u64) -> Case {
         let fields = fields::of_size(random, fmbw, fmbh);
         let header = setup_packet(random);
         Case::of(random, fields, header)
+    }
+
+    /// A case of a frame of so many macro blocks; its trees have all tokens.
+    pub fn of_size(random: &mut Random, fmbw: u64, fmbh: u64) -> Case {
+        let fields = fields::of_size(random, fmbw, fmbh);
+        let header = accepted_with(random, false, Trees::Full);
+        Case::of(random, fields, header.bytes().to_vec())
     }
 
     /// A case of these fields, which are sound, and this setup packet, which

@@ -27,6 +27,8 @@ pub struct Sent {
     pub modes: Vec<Mode>,
     /// How many tokens there are.
     pub tokens: u64,
+    /// How many runs of 4129 there are.
+    pub longest_runs: u64,
 }
 
 /// A packet.
@@ -91,6 +93,7 @@ pub fn encoded(random: &mut Random, decoder: &Decoder, kind: Kind) -> Encoded {
         decoder,
         style,
         written: Written::new(),
+        longest_runs: 0,
     };
     let sent = encoder.packet(kind).ok();
     Encoded {
@@ -104,6 +107,7 @@ struct Encoder<'a> {
     decoder: &'a Decoder<'a>,
     style: Style,
     written: Written<Field>,
+    longest_runs: u64,
 }
 
 impl Encoder<'_> {
@@ -137,6 +141,7 @@ impl Encoder<'_> {
             flags,
             modes,
             tokens,
+            longest_runs: self.longest_runs,
         })
     }
 
@@ -225,6 +230,7 @@ impl Encoder<'_> {
             self.put_run(which, codes, length);
             bits.resize(bits.len() + length, bit);
             explicit = length == LONGEST;
+            self.longest_runs += u64::from(explicit);
         }
         Ok(bits)
     }
