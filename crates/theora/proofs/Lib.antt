@@ -1,4 +1,1 @@
-pub mod FoundLaws
-pub mod OrderLaws
-pub mod SetupLaws
 pub mod Table

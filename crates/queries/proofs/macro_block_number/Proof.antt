@@ -3,10 +3,10 @@ use borrow.Author.Needs.{needs}
 use native.Mathlib.Nat.{not-le-of-lt}
 use mathlib.Core.Path.{sym, ap, _∙_}
 use Rattle.headers.proofs.Fitting.{fits-macro-blocks}
-use Rattle.theora.specs.Orders.{asNumber}
-use Rattle.theora.proofs.OrderLaws.{macro-block-number-is, macro-block-number-absent, macro-block-number-8}
-use Rattle.theora.proofs.macro_block_number.Statement.{statement}
-use Rattle.theora.proofs.macro_block_number.Tie as tie
+use Rattle.queries.specs.Orders.{asNumber}
+use Rattle.queries.proofs.OrderLaws.{macro-block-number-is, macro-block-number-absent, macro-block-number-8}
+use Rattle.queries.proofs.macro_block_number.Statement.{statement}
+use Rattle.queries.proofs.macro_block_number.Tie as tie
 
 session-fits-requires : tie.Need-session-fits-requires
 session-fits-requires c κs = search needs

@@ -12,10 +12,10 @@ use Rattle.geometry.specs.Macro.{macroOf}
 use Rattle.geometry.specs.Sample.{sampleAt}
 use Rattle.headers.specs.declared.Session.{Session}
 use Rattle.headers.specs.Sizes.{formatOf}
-use Rattle.theora.specs.declared.BlockAnswer.{BlockAnswer}
-use Rattle.theora.specs.declared.PlaceAnswer.{PlaceAnswer}
-use Rattle.theora.specs.declared.NumberAnswer.{NumberAnswer}
-use Rattle.theora.specs.Found.{Found, is, absent, refused, onSession, provided, element, position}
+use Rattle.queries.specs.declared.BlockAnswer.{BlockAnswer}
+use Rattle.queries.specs.declared.PlaceAnswer.{PlaceAnswer}
+use Rattle.queries.specs.declared.NumberAnswer.{NumberAnswer}
+use Rattle.queries.specs.Found.{Found, is, absent, refused, onSession, provided, element, position}
 
 -- a session's pixel format
 abbrev pub format : Session → PixelFormat

@@ -3,11 +3,11 @@ use borrow.Author.Needs.{needs}
 use mathlib.Core.Path.{sym, ap, _∙_}
 use Rattle.geometry.specs.Frame.{block}
 use Rattle.headers.proofs.Fitting.{fits-macro-blocks}
-use Rattle.theora.specs.declared.PlaceAnswer.{PlaceAnswer}
-use Rattle.theora.specs.Orders.{asPlace}
-use Rattle.theora.proofs.OrderLaws.{macro-block-of-is, macro-block-of-absent, macro-block-of-8}
-use Rattle.theora.proofs.macro_block_of.Statement.{statement}
-use Rattle.theora.proofs.macro_block_of.Tie as tie
+use Rattle.queries.specs.declared.PlaceAnswer.{PlaceAnswer}
+use Rattle.queries.specs.Orders.{asPlace}
+use Rattle.queries.proofs.OrderLaws.{macro-block-of-is, macro-block-of-absent, macro-block-of-8}
+use Rattle.queries.proofs.macro_block_of.Statement.{statement}
+use Rattle.queries.proofs.macro_block_of.Tie as tie
 
 session-fits-requires : tie.Need-session-fits-requires
 session-fits-requires c κs = search needs

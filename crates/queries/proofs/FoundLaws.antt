@@ -8,7 +8,7 @@ use mathlib.Core.Bool.{Bool, true, false}
 use lib.ListN.{length, getD}
 use Rattle.headers.specs.declared.Session.{Session}
 use Rattle.headers.specs.Fits.{sessionFits}
-use Rattle.theora.specs.Found.{Found, is, absent, refused, onSession, element, position, next}
+use Rattle.queries.specs.Found.{Found, is, absent, refused, onSession, element, position, next}
 
 module _ {A : Type 0} (s : Session) (x : Found A) where
   pub fits-on : sessionFits s ≡ true → onSession s x ≡ x

@@ -5,11 +5,11 @@ use mathlib.Core.Bool.{Bool, true, false, _&&_}
 use lib.Dec.{ltb}
 use Rattle.geometry.specs.Frame.{block}
 use Rattle.headers.proofs.Fitting.{fits-macro-blocks}
-use Rattle.theora.specs.declared.NumberAnswer.{NumberAnswer}
-use Rattle.theora.specs.Orders.{asNumber}
-use Rattle.theora.proofs.OrderLaws.{sample-inside, sample-offset-is, sample-offset-absent, sample-offset-8}
-use Rattle.theora.proofs.sample_offset.Statement.{statement}
-use Rattle.theora.proofs.sample_offset.Tie as tie
+use Rattle.queries.specs.declared.NumberAnswer.{NumberAnswer}
+use Rattle.queries.specs.Orders.{asNumber}
+use Rattle.queries.proofs.OrderLaws.{sample-inside, sample-offset-is, sample-offset-absent, sample-offset-8}
+use Rattle.queries.proofs.sample_offset.Statement.{statement}
+use Rattle.queries.proofs.sample_offset.Tie as tie
 
 session-fits-requires : tie.Need-session-fits-requires
 session-fits-requires c κs = search needs

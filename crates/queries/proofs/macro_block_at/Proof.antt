@@ -4,10 +4,10 @@ use Prim.Native.Nat.{_≤_, _<_}
 use mathlib.Core.Path.{sym, ap, subst, _∙_}
 use Rattle.geometry.specs.declared.FrameSizes.{FrameSizes}
 use Rattle.headers.proofs.Fitting.{fits-macro-blocks}
-use Rattle.theora.specs.Orders.{asPlace}
-use Rattle.theora.proofs.OrderLaws.{macro-block-at-is, macro-block-at-absent, macro-block-at-8}
-use Rattle.theora.proofs.macro_block_at.Statement.{statement}
-use Rattle.theora.proofs.macro_block_at.Tie as tie
+use Rattle.queries.specs.Orders.{asPlace}
+use Rattle.queries.proofs.OrderLaws.{macro-block-at-is, macro-block-at-absent, macro-block-at-8}
+use Rattle.queries.proofs.macro_block_at.Statement.{statement}
+use Rattle.queries.proofs.macro_block_at.Tie as tie
 
 session-fits-requires : tie.Need-session-fits-requires
 session-fits-requires c κs = search needs

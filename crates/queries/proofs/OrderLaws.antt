@@ -20,9 +20,9 @@ use Rattle.headers.proofs.Fitting.{and-both}
 use Rattle.headers.specs.declared.Session.{Session}
 use Rattle.headers.specs.Fits.{sessionFits}
 use Rattle.headers.specs.Sizes.{formatOf}
-use Rattle.theora.specs.Found.{is, absent, refused, onSession, element, position}
-use Rattle.theora.specs.Orders.{isBlock, isPlace, hasBlock, blockAt, blockNumber, macroBlockAt, macroBlockNumber, macroBlockOf, sampleOffset}
-use Rattle.theora.proofs.FoundLaws.{fits-on, unfit-on, element-is, element-absent, position-is, position-absent}
+use Rattle.queries.specs.Found.{is, absent, refused, onSession, element, position}
+use Rattle.queries.specs.Orders.{isBlock, isPlace, hasBlock, blockAt, blockNumber, macroBlockAt, macroBlockNumber, macroBlockOf, sampleOffset}
+use Rattle.queries.proofs.FoundLaws.{fits-on, unfit-on, element-is, element-absent, position-is, position-absent}
 
 -- ---- tests
 not-true : (b : Bool) → (b ≡ true → ⊥) → b ≡ false

@@ -20,9 +20,9 @@ use Rattle.table_memory.specs.Kept.{clearFrom}
 use Rattle.table_memory.specs.Genuine.{endsClear, genuine}
 use Rattle.tables.specs.Tables.{LimitIs}
 use Rattle.tables.proofs.Held.{holds-parameters, held-reads}
-use Rattle.theora.specs.Found as found
-use Rattle.theora.specs.Found.{Found, is, absent}
-use Rattle.theora.specs.Setup.{onTable, tableLimit, hasMatrix, tableMatrix, matrixInto, asMatrix, leaving}
+use Rattle.queries.specs.Found as found
+use Rattle.queries.specs.Found.{Found, is, absent}
+use Rattle.queries.specs.Setup.{onTable, tableLimit, hasMatrix, tableMatrix, matrixInto, asMatrix, leaving}
 
 -- ---- what the loader's answer says
 pub held-setup : (o : Outcome Setup) {r : TableAnswer} {m : ℕ} → r ≡ asTable o → r ≡ Genuine m → (s : Setup) × (e : ℕ) × (o ≡ got s e) × (s .parameters .matricesAt ≡ m)

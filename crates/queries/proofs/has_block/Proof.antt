@@ -2,9 +2,9 @@
 use borrow.Author.Needs.{needs}
 use borrow.Author.Tests.{lt-ltb, le-ltb}
 use mathlib.Core.Path.{sym}
-use Rattle.theora.specs.Orders.{hasBlock}
-use Rattle.theora.proofs.has_block.Statement.{statement}
-use Rattle.theora.proofs.has_block.Tie as tie
+use Rattle.queries.specs.Orders.{hasBlock}
+use Rattle.queries.proofs.has_block.Statement.{statement}
+use Rattle.queries.proofs.has_block.Tie as tie
 
 returns : tie.Need-returns
 unfolding hasBlock

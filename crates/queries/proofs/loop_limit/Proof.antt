@@ -1,10 +1,10 @@
 -- `theora::loop_limit` meets its contract. Assumes nothing.
 use borrow.Author.Needs.{needs}
 use mathlib.Core.Path.{sym, ap}
-use Rattle.theora.specs.Orders.{asNumber}
-use Rattle.theora.proofs.SetupLaws.{limit-1, limit-8, limit-is, limit-absent}
-use Rattle.theora.proofs.loop_limit.Statement.{statement}
-use Rattle.theora.proofs.loop_limit.Tie as tie
+use Rattle.queries.specs.Orders.{asNumber}
+use Rattle.queries.proofs.SetupLaws.{limit-1, limit-8, limit-is, limit-absent}
+use Rattle.queries.proofs.loop_limit.Statement.{statement}
+use Rattle.queries.proofs.loop_limit.Tie as tie
 
 returns : tie.Need-returns
 returns c = let a = c .before .before .args in sym (ap asNumber (limit-1 (a .table .now) (a .qi) (c .if1 .taken)))

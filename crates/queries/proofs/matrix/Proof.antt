@@ -1,9 +1,9 @@
 -- `theora::matrix` meets its contract. Assumes nothing.
 use borrow.Author.Needs.{needs}
 use native.Mathlib.Omega.{arith}
-use Rattle.theora.proofs.SetupLaws.{matrix-1, matrix-8, matrix-is, matrix-absent, holds, has-matrix, answered, answered-1}
-use Rattle.theora.proofs.matrix.Statement.{statement}
-use Rattle.theora.proofs.matrix.Tie as tie
+use Rattle.queries.proofs.SetupLaws.{matrix-1, matrix-8, matrix-is, matrix-absent, holds, has-matrix, answered, answered-1}
+use Rattle.queries.proofs.matrix.Statement.{statement}
+use Rattle.queries.proofs.matrix.Tie as tie
 
 returns : tie.Need-returns
 returns c = let a = c .before .before .before .args in answered-1 (a .out .now) (a .table .now) (a .kind) (a .plane) (a .qi) (c .if1 .taken)

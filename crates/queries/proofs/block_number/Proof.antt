@@ -3,10 +3,10 @@ use borrow.Author.Needs.{needs}
 use mathlib.Core.Path.{sym, ap, _∙_}
 use Rattle.geometry.specs.Frame.{block}
 use Rattle.headers.proofs.Fitting.{fits-macro-blocks}
-use Rattle.theora.specs.Orders.{asNumber}
-use Rattle.theora.proofs.OrderLaws.{has-in-frame, block-number-is, block-number-absent, block-number-8}
-use Rattle.theora.proofs.block_number.Statement.{statement}
-use Rattle.theora.proofs.block_number.Tie as tie
+use Rattle.queries.specs.Orders.{asNumber}
+use Rattle.queries.proofs.OrderLaws.{has-in-frame, block-number-is, block-number-absent, block-number-8}
+use Rattle.queries.proofs.block_number.Statement.{statement}
+use Rattle.queries.proofs.block_number.Tie as tie
 
 session-fits-requires : tie.Need-session-fits-requires
 session-fits-requires c κs = search needs

@@ -4,10 +4,10 @@ use Prim.Native.Nat.{_≤_, _<_}
 use mathlib.Core.Path.{sym, ap, subst, _∙_}
 use Rattle.geometry.specs.declared.FrameSizes.{FrameSizes}
 use Rattle.headers.proofs.Fitting.{fits-macro-blocks}
-use Rattle.theora.specs.Orders.{asBlock}
-use Rattle.theora.proofs.OrderLaws.{block-at-is, block-at-absent, block-at-8}
-use Rattle.theora.proofs.block_at.Statement.{statement}
-use Rattle.theora.proofs.block_at.Tie as tie
+use Rattle.queries.specs.Orders.{asBlock}
+use Rattle.queries.proofs.OrderLaws.{block-at-is, block-at-absent, block-at-8}
+use Rattle.queries.proofs.block_at.Statement.{statement}
+use Rattle.queries.proofs.block_at.Tie as tie
 
 session-fits-requires : tie.Need-session-fits-requires
 session-fits-requires c κs = search needs
