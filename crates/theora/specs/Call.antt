@@ -19,7 +19,7 @@ use Rattle.ways.specs.Ways.{Picture}
 use Rattle.reconstruct.specs.Picture.{Blocks, Matrices, pictureOf}
 use Rattle.theora.specs.declared.FrameAnswer.{FrameAnswer}
 use Rattle.theora.specs.declared.Verdict.the-variants.{Accepted, Refused}
-use Rattle.theora.specs.Memory.{Memory, format, cleared, lengthsFit}
+use Rattle.theora.specs.Memory.{Memory, format, lengthsOf, cleared, lengthsFit}
 
 -- what is kept from call to call
 pub record State : Type 0 where
@@ -48,7 +48,7 @@ pub record Asked : Type 0 where
 -- ---- when a call is refused
 -- every lent length is the published one
 abbrev pub lengthsHold : State → Call → Bool
-lengthsHold st c = lengthsFit (st .session) (st .golden) (st .previous) (c .new) (c .table) (c .memory)
+lengthsHold st c = lengthsFit (lengthsOf (st .session)) (st .golden) (st .previous) (c .new) (c .table) (c .memory)
 
 -- "the rest of 8, then the packet"
 unfoldable pub read : Session → (table packet : List ℕ) → Outcome Asked
@@ -83,9 +83,23 @@ picture s a = pictureOf (format s) (s .fmbw) (s .fmbh) (blocksAsked a) (matrices
 -- "Accepted inter and empty packets leave the session as it was; an intra one sets its reference flag"
 unfoldable pub sessionAfter : Kind → Session → Session
 sessionAfter Intra s = record {
-  vrev = s .vrev; fmbw = s .fmbw; fmbh = s .fmbh; picw = s .picw; pich = s .pich; picx = s .picx; picy = s .picy;
-  frn = s .frn; frd = s .frd; parn = s .parn; pard = s .pard; cs = s .cs; nombr = s .nombr; qual = s .qual;
-  kfgshift = s .kfgshift; pf = s .pf; references = true;
+  vrev = s .vrev;
+  fmbw = s .fmbw;
+  fmbh = s .fmbh;
+  picw = s .picw;
+  pich = s .pich;
+  picx = s .picx;
+  picy = s .picy;
+  frn = s .frn;
+  frd = s .frd;
+  parn = s .parn;
+  pard = s .pard;
+  cs = s .cs;
+  nombr = s .nombr;
+  qual = s .qual;
+  kfgshift = s .kfgshift;
+  pf = s .pf;
+  references = true;
 }
 sessionAfter Inter s = s
 sessionAfter Repeat s = s

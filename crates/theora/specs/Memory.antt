@@ -12,7 +12,7 @@ use Rattle.headers.specs.declared.Session.{Session}
 use Rattle.headers.specs.Fits.{all, sessionFits}
 use Rattle.headers.specs.Sizes.{formatOf}
 use Rattle.setup.specs.Table.{tableBytes}
-use Rattle.frame_packet.specs.Work.{Work, clear}
+use Rattle.frame_packet.specs.Work.{Work, work, clear}
 use Rattle.theora.specs.declared.WorkLengths.{WorkLengths}
 use Rattle.theora.specs.declared.WorkAnswer.{WorkAnswer}
 
@@ -20,6 +20,9 @@ use Rattle.theora.specs.declared.WorkAnswer.{WorkAnswer}
 pub record Memory : Type 0 where
   pub work : Work
   pub dc : List ℤ
+
+abbrev pub memory : (records coded : List ℕ) (coefs dc : List ℤ) (lasts flags bits supers modes active : List ℕ) → Memory
+memory records coded coefs dc lasts flags bits supers modes active = record { work = work records coded coefs lasts flags bits supers modes active; dc = dc }
 
 -- the sizes of a session's frames
 abbrev pub format : Session → PixelFormat
@@ -58,15 +61,11 @@ workLengths s = choose (sessionFits s) (WorkAnswer.Is (lengthsOf s)) (WorkAnswer
 abbrev pub cleared : Session → Memory
 cleared s = record { work = clear (format s) (s .fmbw) (s .fmbh); dc = replicate (blocks s) (pos 0) }
 
--- a buffer of three planes: "Its length is 64·NBS"
-abbrev pub buffer : Session → List ℕ → Bool
-buffer s l = eqb (length l) (64 * blocks s)
-
--- every lent length is the published one
-unfoldable pub lengthsFit : Session → (golden previous new table : List ℕ) → Memory → Bool
-lengthsFit s golden previous new table m =
-    all (buffer s golden ∷ buffer s previous ∷ buffer s new ∷ eqb (length table) tableBytes
-    ∷ eqb (length (m .work .records)) (blocks s) ∷ eqb (length (m .work .coded)) (blocks s) ∷ eqb (length (m .work .coefs)) (64 * blocks s)
-    ∷ eqb (length (m .dc)) (blocks s) ∷ eqb (length (m .work .lasts)) (blocks s) ∷ eqb (length (m .work .flags)) (blocks s)
-    ∷ eqb (length (m .work .bits)) (blocks s) ∷ eqb (length (m .work .supers)) (2 * superBlocks s) ∷ eqb (length (m .work .modes)) (macroBlocks s)
-    ∷ eqb (length (m .work .active)) (blocks s) ∷ [])
+-- every lent length is the published one. A buffer of three planes: "Its length is 64·NBS"
+unfoldable pub lengthsFit : WorkLengths → (golden previous new table : List ℕ) → Memory → Bool
+lengthsFit l golden previous new table m =
+    all (eqb (length golden) (64 * l .records) ∷ eqb (length previous) (64 * l .records) ∷ eqb (length new) (64 * l .records) ∷ eqb (length table) tableBytes
+    ∷ eqb (length (m .work .records)) (l .records) ∷ eqb (length (m .work .coded)) (l .coded) ∷ eqb (length (m .work .coefs)) (l .coefs)
+    ∷ eqb (length (m .dc)) (l .dc) ∷ eqb (length (m .work .lasts)) (l .lasts) ∷ eqb (length (m .work .flags)) (l .flags)
+    ∷ eqb (length (m .work .bits)) (l .bits) ∷ eqb (length (m .work .supers)) (l .supers) ∷ eqb (length (m .work .modes)) (l .modes)
+    ∷ eqb (length (m .work .active)) (l .active) ∷ [])

@@ -2,7 +2,9 @@
 use frame_header::Header;
 use headers::Session;
 ghost use mathlib.Core.Path.{_≡_};
-ghost use Rattle.theora.specs.Memory.{workLengths};
+ghost use mathlib.Core.Bool.{true};
+ghost use Rattle.headers.specs.Fits.{sessionFits};
+ghost use Rattle.theora.specs.Memory.{memory, lengthsOf, workLengths, lengthsFit};
 
 // The published lengths of work memory's slices, in elements, and the bytes of all of them together.
 pub struct WorkLengths {
@@ -38,34 +40,78 @@ pub struct FrameAnswer {
     pub session: Session,
 }
 
+// The published lengths for the frames of a session that fits.
+fn lengths_of(s: Session) -> WorkLengths
+    requires { ⌜ sessionFits s ≡ true ⌝ }
+    ensures { λ r. ⌜ r ≡ lengthsOf s ⌝ }
+{
+    let format = headers::pixel_format(s.pf);
+    let sizes = geometry::sizes(format, s.fmbw, s.fmbh);
+    let n = sizes.blocks;
+    let m = sizes.macro_blocks;
+    let k = 2 * sizes.super_blocks;
+    let coefs = 64 * n;
+    let bytes = 153 * n + k + m;
+    WorkLengths {
+        records: n,
+        coded: n,
+        coefs,
+        dc: n,
+        lasts: n,
+        flags: n,
+        bits: n,
+        supers: k,
+        modes: m,
+        active: n,
+        bytes,
+    }
+}
+
 // The lengths of work memory for a session's frames.
 pub fn work_lengths(s: Session) -> WorkAnswer
     ensures { λ r. ⌜ r ≡ workLengths s ⌝ }
 {
     if headers::session_fits(s) {
-        let format = headers::pixel_format(s.pf);
-        let sizes = geometry::sizes(format, s.fmbw, s.fmbh);
-        let n = sizes.blocks;
-        let m = sizes.macro_blocks;
-        let k = 2 * sizes.super_blocks;
-        return WorkAnswer::Is(WorkLengths {
-            records: n,
-            coded: n,
-            coefs: 64 * n,
-            dc: n,
-            lasts: n,
-            flags: n,
-            bits: n,
-            supers: k,
-            modes: m,
-            active: n,
-            bytes: 153 * n + k + m,
-        });
+        return WorkAnswer::Is(lengths_of(s));
     }
     WorkAnswer::Refused(8)
 }
 
-// ---- sketch of the frame call ----
-// const INTRA.. etc as needed
-// pub fn frame(s: Session, packet: &[u8], table: &[u8], records: &mut [u32], coded: &mut [u64], coefs: &mut [i16], dc: &mut [i16], lasts: &mut [u8],
-//     flags: &mut [u8], bits: &mut [u8], supers: &mut [u8], modes: &mut [u8], active: &mut [u64], golden: &[u8], previous: &[u8], new: &mut [u8]) -> FrameAnswer
+// Whether every lent length is the published one.
+fn lengths_fit(
+    s: Session,
+    golden: &[u8],
+    previous: &[u8],
+    new: &[u8],
+    table: &[u8],
+    records: &[u32],
+    coded: &[u64],
+    coefs: &[i16],
+    dc: &[i16],
+    lasts: &[u8],
+    flags: &[u8],
+    bits: &[u8],
+    supers: &[u8],
+    modes: &[u8],
+    active: &[u64],
+) -> bool
+    requires { ⌜ sessionFits s ≡ true ⌝ }
+    ensures { λ r. ⌜ r ≡ lengthsFit (lengthsOf s) (now (golden .entry)) (now (previous .entry)) (now (new .entry)) (now (table .entry)) (memory (now (records .entry)) (now (coded .entry)) (now (coefs .entry)) (now (dc .entry)) (now (lasts .entry)) (now (flags .entry)) (now (bits .entry)) (now (supers .entry)) (now (modes .entry)) (now (active .entry))) ⌝ }
+{
+    let l = lengths_of(s);
+    let buffer = 64 * l.records;
+    (golden.len() as u64 == buffer)
+        & (previous.len() as u64 == buffer)
+        & (new.len() as u64 == buffer)
+        & (table.len() == setup::TABLE_BYTES)
+        & (records.len() as u64 == l.records)
+        & (coded.len() as u64 == l.coded)
+        & (coefs.len() as u64 == l.coefs)
+        & (dc.len() as u64 == l.dc)
+        & (lasts.len() as u64 == l.lasts)
+        & (flags.len() as u64 == l.flags)
+        & (bits.len() as u64 == l.bits)
+        & (supers.len() as u64 == l.supers)
+        & (modes.len() as u64 == l.modes)
+        & (active.len() as u64 == l.active)
+}
