@@ -3,8 +3,12 @@ use frame_header::Header;
 use headers::Session;
 ghost use mathlib.Core.Path.{_≡_};
 ghost use mathlib.Core.Bool.{true};
+ghost use Prim.Native.Nat.{_≤_, _^_};
+ghost use lib.ListN.{length};
+ghost use Rattle.quantization.specs.Sound.{Held};
 ghost use Rattle.headers.specs.Fits.{sessionFits};
 ghost use Rattle.theora.specs.Memory.{memory, lengthsOf, workLengths, lengthsFit};
+ghost use Rattle.theora.specs.Made.{AllQi, MatricesAre};
 
 // The published lengths of work memory's slices, in elements, and the bytes of all of them together.
 pub struct WorkLengths {
@@ -114,4 +118,42 @@ fn lengths_fit(
         & (supers.len() as u64 == l.supers)
         & (modes.len() as u64 == l.modes)
         & (active.len() as u64 == l.active)
+}
+
+// The quantization matrices of a frame's qi, for each type, in it for each plane, in it for each qi.
+fn load_matrices(
+    table: &[u8],
+    place: usize,
+    ac_scale: &[u16],
+    dc_scale: &[u16],
+    sizes: &[u16],
+    indices: &[u16],
+    qis: [u8; 3],
+    count: usize,
+    matrices: &mut [u16],
+)
+    requires { ⌜ (length (now table) ≤ 2 ^ 58) × Held (now table) place (now «ac_scale») (now «dc_scale») (now sizes) (now indices) × AllQi qis count × (count ≤ 3) × (length (now matrices) ≡ 1152) ⌝ }
+    ensures { λ _. ⌜ MatricesAre (now (table .entry)) place (now («ac_scale» .entry)) (now («dc_scale» .entry)) (now (sizes .entry)) (now (indices .entry)) qis count (now (matrices .exit)) ⌝ }
+{
+    let mut j: usize = 0;
+    while j < 6 * count {
+        let index = j / 6;
+        let set = j % 6;
+        let qi = qis[index] as usize;
+        let at = (set * 3 + index) * 64;
+        let end = at + 64;
+        matrices::matrix(
+            table,
+            place,
+            ac_scale,
+            dc_scale,
+            sizes,
+            indices,
+            set / 3,
+            set % 3,
+            qi,
+            &mut matrices[at..end],
+        );
+        j += 1;
+    }
 }
