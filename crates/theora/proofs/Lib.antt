@@ -1,3 +1,4 @@
 pub mod Lengths
 pub mod Matrices
+pub mod Made
 pub mod Table

@@ -1,14 +1,18 @@
 // The public face of the decoder.
 use frame_header::Header;
+use geometry::PixelFormat;
 use headers::Session;
 ghost use mathlib.Core.Path.{_≡_};
 ghost use mathlib.Core.Bool.{true};
-ghost use Prim.Native.Nat.{_≤_, _^_};
-ghost use lib.ListN.{length};
+ghost use Prim.Native.Nat.{_*_, _≤_, _^_};
+ghost use lib.IntN.{pos};
+ghost use lib.ListN.{length, replicate};
+ghost use Rattle.geometry.specs.Sizes.{blocksOf};
 ghost use Rattle.quantization.specs.Sound.{Held};
+ghost use Rattle.reconstruct.specs.Lent.{blocksIn};
 ghost use Rattle.headers.specs.Fits.{sessionFits};
 ghost use Rattle.theora.specs.Memory.{memory, lengthsOf, workLengths, lengthsFit};
-ghost use Rattle.theora.specs.Made.{AllQi, MatricesAre};
+ghost use Rattle.theora.specs.Made.{AllQi, AllLimits, BlocksLent, MatricesAre, FrameIs};
 
 // The published lengths of work memory's slices, in elements, and the bytes of all of them together.
 pub struct WorkLengths {
@@ -156,4 +160,68 @@ fn load_matrices(
         );
         j += 1;
     }
+}
+
+// The frame of the blocks that were read. Their memory is 0 everywhere at last.
+fn make(
+    table: &[u8],
+    place: usize,
+    limits: &[u16],
+    ac_scale: &[u16],
+    dc_scale: &[u16],
+    sizes: &[u16],
+    indices: &[u16],
+    header: Header,
+    format: PixelFormat,
+    w: u64,
+    h: u64,
+    records: &mut [u32],
+    coded: &mut [u64],
+    count: usize,
+    coefs: &mut [i16],
+    dc: &mut [i16],
+    lasts: &mut [u8],
+    golden: &[u8],
+    previous: &[u8],
+    new: &mut [u8],
+)
+    requires { ⌜ (length (now table) ≤ 2 ^ 58) × Held (now table) place (now «ac_scale») (now «dc_scale») (now sizes) (now indices) × AllLimits (now limits) × AllQi (header .qis) 3 × (header .count ≤ 3) × (w ≤ 65535) × (h ≤ 65535) ⌝ }
+    requires { ⌜ BlocksLent format w h (now records) (now coded) count (now coefs) (now lasts) (header .count) × (now dc ≡ replicate (blocksOf format w h) (pos 0))
+        × (length (now new) ≡ 64 * blocksOf format w h) × (length (now golden) ≡ 64 * blocksOf format w h) × (length (now previous) ≡ 64 * blocksOf format w h) ⌝ }
+    ensures { λ _. ⌜ FrameIs (now (table .entry)) place (now («ac_scale» .entry)) (now («dc_scale» .entry)) (now (sizes .entry)) (now (indices .entry)) (header .qis) (now (limits .entry)) format w h (blocksIn (now (records .entry)) (now (coded .entry)) count (now (coefs .entry)) (now (lasts .entry))) (now (golden .entry)) (now (previous .entry)) (now (new .exit)) ⌝ }
+    ensures { λ _. ⌜ (now (records .exit) ≡ replicate (length (now (records .entry))) 0) × (now (coded .exit) ≡ replicate (length (now (coded .entry))) 0) × (now (coefs .exit) ≡ replicate (length (now (coefs .entry))) (pos 0))
+        × (now (dc .exit) ≡ replicate (length (now (dc .entry))) (pos 0)) × (now (lasts .exit) ≡ replicate (length (now (lasts .entry))) 0) ⌝ }
+{
+    let qis = header.qis;
+    let number = header.count as usize;
+    let mut matrices = [0u16; 1152];
+    load_matrices(
+        table,
+        place,
+        ac_scale,
+        dc_scale,
+        sizes,
+        indices,
+        qis,
+        number,
+        &mut matrices,
+    );
+    let first = qis[0] as usize;
+    let limit = tables::loop_limit(limits, first) as u32;
+    reconstruct::make_frame(
+        new,
+        golden,
+        previous,
+        records,
+        coded,
+        count,
+        coefs,
+        dc,
+        lasts,
+        &matrices,
+        limit,
+        format,
+        w,
+        h,
+    );
 }
