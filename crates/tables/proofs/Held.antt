@@ -1,12 +1,13 @@
 -- What a loaded setup holds. Assumes nothing.
-use Prim.Native.Nat.{ℕ, zero, suc, _-_, _*_, _<_}
+use Prim.Native.Nat.{ℕ, zero, suc, _-_, _*_, _^_, _≤_, _<_}
+use native.Mathlib.Nat.{pow-le-pow-right}
 use native.Mathlib.Omega.{arith}
 use mathlib.Core.Path.{_≡_, sym, ap, _∙_}
 use mathlib.Core.List.{List, [], _∷_, append-nil}
 use mathlib.Core.Bool.{Bool, true, false}
 use lib.ListN.{length, getD, take, drop}
-use Rattle.bitstream.specs.Reading.{got, refused, Parse, pure, bind, choose, many}
-use Rattle.bitstream.proofs.Fields.{no-mix}
+use Rattle.bitstream.specs.Reading.{got, refused, Parse, pure, bind, choose, field, many}
+use Rattle.bitstream.proofs.Fields.{no-mix, field-lt}
 use Rattle.bitstream.proofs.Laws.{bind-got}
 use Rattle.headers.specs.Judgement.{commonHeader}
 use Rattle.huffman.specs.Tree.{Tree, leaf, Proper, nodesOf, huffmanTree}
@@ -56,8 +57,10 @@ many-each P m f (suc n) p i {l} h k d r =
 
 -- ---- a setup that was read
 record Parts (p : List ℕ) (s : Setup) (e : ℕ) : Type 0 where
+  a : ℕ
   b : ℕ
   c : ℕ
+  limits-read : loopLimits p a ≡ got (s .limits) b
   parameters-read : quantization p b ≡ got (s .parameters) c
   trees-read : many 80 huffmanTree p c ≡ got (s .trees) e
 
@@ -68,14 +71,35 @@ parts p {s} {e} h =
     let v = bind-got loopLimits (λ l. bind quantization (λ q. bind (many 80 huffmanTree) (λ ts. pure (record { limits = l; parameters = q; trees = ts })))) p (u .1) (u .3) in
     let w = bind-got quantization (λ q. bind (many 80 huffmanTree) (λ ts. pure (record { limits = v .0; parameters = q; trees = ts }))) p (v .1) (v .3) in
     let x = bind-got (many 80 huffmanTree) (λ ts. pure (record { limits = v .0; parameters = w .0; trees = ts })) p (w .1) (w .3) in
-    finish (v .0) (w .0) (x .0) (v .1) (w .1) (x .1) (w .2) (x .2) (x .3)
+    finish (v .0) (w .0) (x .0) (u .1) (v .1) (w .1) (x .1) (v .2) (w .2) (x .2) (x .3)
   where
-    finish : (l : List ℕ) (q : Quantization) (ts : List Tree) (b c d : ℕ) → quantization p b ≡ got q c → many 80 huffmanTree p c ≡ got ts d → pure (record { limits = l; parameters = q; trees = ts }) p d ≡ got s e → Parts p s e
-    finish l q ts b c d f g r =
+    finish : (l : List ℕ) (q : Quantization) (ts : List Tree) (a b c d : ℕ) → loopLimits p a ≡ got l b → quantization p b ≡ got q c → many 80 huffmanTree p c ≡ got ts d
+        → pure (record { limits = l; parameters = q; trees = ts }) p d ≡ got s e → Parts p s e
+    finish l q ts a b c d k f g r =
         let y : Setup = record { limits = l; parameters = q; trees = ts } in
         let z : y ≡ s = cc in
         let t : d ≡ e = cc in
-        record { b = b; c = c; parameters-read = f ∙ ap (λ (x : Setup). got (x .parameters) c) z; trees-read = g ∙ rw t (ap (λ (x : Setup). got (x .trees) e) z) }
+        record {
+          a = a;
+          b = b;
+          c = c;
+          limits-read = k ∙ ap (λ (x : Setup). got (x .limits) b) z;
+          parameters-read = f ∙ ap (λ (x : Setup). got (x .parameters) c) z;
+          trees-read = g ∙ rw t (ap (λ (x : Setup). got (x .trees) e) z);
+        }
+
+-- "3-bit width, 64 loop limits of that width"
+limits-of : (p : List ℕ) (i : ℕ) {l : List ℕ} {e : ℕ} → loopLimits p i ≡ got l e → (length l ≡ 64) × ((qi : ℕ) → qi < 64 → getD l qi 0 ≤ 127)
+unfolding loopLimits
+limits-of p i h =
+    let u = bind-got (field 3) (λ w. many 64 (field w)) p i h in
+    let w = field-lt 3 p i (u .2) in
+    let n = many-long 64 (field (u .0)) p (u .1) (u .3) in
+    let few : 2 ^ u .0 ≤ 128 = pow-le-pow-right {n = 2} (omega arith) {j = 7} (omega arith) in
+    (n, λ qi l. many-each (λ v. v ≤ 127) (field (u .0)) (λ p i v e r. omega (arith, field-lt (u .0) p i r)) 64 p (u .1) (u .3) qi 0 (omega arith))
+
+pub limits-few : (p : List ℕ) {s : Setup} {e : ℕ} → setupHeader p 0 ≡ got s e → (length (s .limits) ≡ 64) × ((qi : ℕ) → qi < 64 → getD (s .limits) qi 0 ≤ 127)
+limits-few p h = let g = parts p h in limits-of p (g .a) (g .limits-read)
 
 module _ (p : List ℕ) {s : Setup} {e : ℕ} (h : setupHeader p 0 ≡ got s e) (limits ac dc sizes indices nodes : List ℕ) (stored : Stored s limits ac dc sizes indices nodes) where
   -- the slices hold its parameters, whose base matrices stand in the packet

@@ -21,7 +21,7 @@ AllQi qis count = (index : ℕ) → index < count → getD qis index 0 < 64
 
 -- "3-bit width, 64 loop limits of that width"
 abbrev pub AllLimits : List ℕ → Type 0
-AllLimits limits = (length limits ≡ 64) × ((qi : ℕ) → getD limits qi 0 ≤ 127)
+AllLimits limits = (length limits ≡ 64) × ((qi : ℕ) → qi < 64 → getD limits qi 0 ≤ 127)
 
 -- what was read of the blocks of a frame with so many qi lies in slices, zeros behind it
 pub record BlocksLent (f : PixelFormat) (w h : ℕ) (records coded : List ℕ) (count : ℕ) (coefs : List ℤ) (lasts : List ℕ) (qis : ℕ) : Type 0 where

@@ -37,7 +37,7 @@ make-frame-requires c κs =
     let m = z .pre .0 in
     let a = z .args in
     let e = limit-at (m .1 .0) (a .limits .now) (getD (a .header .qis) 0 0) (c .before .before .before .before .before .before .before .loop-limit .result) (c .before .before .before .before .before .before .before .loop-limit .ensures) in
-    (m .5, m .6, k .0 .lent (c .before .before .before .before .before .before .before .before .before .load-matrices .last .1 .1 .1 .1 .1 .1 .1 .1 .0) (c .before .before .before .before .before .before .before .before .matrices2 .given), k .0 .behind, k .1, omega (arith, e, m .2 .1 (getD (a .header .qis) 0 0)), k .2, k .3, k .4)
+    (m .5, m .6, k .0 .lent (c .before .before .before .before .before .before .before .before .before .load-matrices .last .1 .1 .1 .1 .1 .1 .1 .1 .0) (c .before .before .before .before .before .before .before .before .matrices2 .given), k .0 .behind, k .1, omega (arith, e, m .2 .1 (getD (a .header .qis) 0 0) (m .3 0 (omega arith))), k .2, k .3, k .4)
 
 same-length : tie.Need-same-length
 same-length c = search needs
