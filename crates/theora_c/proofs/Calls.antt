@@ -11,9 +11,9 @@ use Rattle.headers.proofs.Fitting.{and-both}
 use Rattle.headers.specs.declared.Session.{Session}
 use Rattle.setup.specs.declared.SetupAnswer.{SetupAnswer}
 use Rattle.setup.specs.Table.{tableBytes, setupOutcome, asSetupAnswer, tableAfter, isTable}
-use Rattle.theora.specs.declared.MatrixAnswer.{MatrixAnswer}
-use Rattle.theora.specs.Found.{Found, is, absent, refused}
-use Rattle.theora.specs.Setup.{tableMatrix, matrixInto, asMatrix, leaving}
+use Rattle.queries.specs.declared.MatrixAnswer.{MatrixAnswer}
+use Rattle.queries.specs.Found.{Found, is, absent, refused}
+use Rattle.queries.specs.Setup.{tableMatrix, matrixInto, asMatrix, leaving}
 use Rattle.theora_c.specs.Face.{Returned, gives, flag, numbersOf, sessionOf, onList, setupNumber, setupCall, tableCall, matrixReturned, matrixFound, matrixCall}
 
 -- the numbers of a session, with the last one found by `flag_number`

@@ -14,13 +14,13 @@ use Rattle.headers.specs.Identification.{identification, asIdentification}
 use Rattle.headers.specs.Sizes.{sessionSizes}
 use Rattle.setup.specs.declared.SetupAnswer.{SetupAnswer}
 use Rattle.setup.specs.Table.{tableBytes, setupOutcome, asSetupAnswer, tableAfter, isTable}
-use Rattle.theora.specs.declared.BlockAnswer.{BlockAnswer}
-use Rattle.theora.specs.declared.PlaceAnswer.{PlaceAnswer}
-use Rattle.theora.specs.declared.NumberAnswer.{NumberAnswer}
-use Rattle.theora.specs.declared.MatrixAnswer.{MatrixAnswer}
-use Rattle.theora.specs.Found.{Found, is, absent, refused}
-use Rattle.theora.specs.Setup.{tableLimit, tableMatrix}
-use Rattle.theora.specs.Orders.{blockAt, blockNumber, macroBlockAt, macroBlockNumber, macroBlockOf, sampleOffset, asBlock, asPlace, asNumber}
+use Rattle.queries.specs.declared.BlockAnswer.{BlockAnswer}
+use Rattle.queries.specs.declared.PlaceAnswer.{PlaceAnswer}
+use Rattle.queries.specs.declared.NumberAnswer.{NumberAnswer}
+use Rattle.queries.specs.declared.MatrixAnswer.{MatrixAnswer}
+use Rattle.queries.specs.Found.{Found, is, absent, refused}
+use Rattle.queries.specs.Setup.{tableLimit, tableMatrix}
+use Rattle.queries.specs.Orders.{blockAt, blockNumber, macroBlockAt, macroBlockNumber, macroBlockOf, sampleOffset, asBlock, asPlace, asNumber}
 
 -- what a call returns, and what the list lent for its answer holds afterwards
 pub record Returned : Type 0 where

@@ -3,10 +3,10 @@ use headers::IdentificationAnswer;
 use headers::Session;
 use headers::SizesAnswer;
 use setup::SetupAnswer;
-use theora::BlockAnswer;
-use theora::MatrixAnswer;
-use theora::NumberAnswer;
-use theora::PlaceAnswer;
+use queries::BlockAnswer;
+use queries::MatrixAnswer;
+use queries::NumberAnswer;
+use queries::PlaceAnswer;
 ghost use mathlib.Core.Path.{_≡_};
 ghost use Prim.Native.Nat.{ℕ};
 ghost use lib.ListN.{length};
@@ -219,7 +219,7 @@ pub extern "C" fn wedgepetal_block_at(session: &[u64], number: u64, block: &mut 
     ensures { λ r. ⌜ gives r (now (block .exit)) ≡ blockAtCall (now (session .entry)) number (now (block .entry)) ⌝ }
 {
     if (session.len() == 17) & (block.len() == 3) {
-        return return_block(theora::block_at(session_of(session), number), block);
+        return return_block(queries::block_at(session_of(session), number), block);
     }
     1
 }
@@ -236,7 +236,7 @@ pub extern "C" fn wedgepetal_block_number(
 {
     if (session.len() == 17) & (number.len() == 1) {
         return return_number(
-            theora::block_number(session_of(session), plane, x, y),
+            queries::block_number(session_of(session), plane, x, y),
             number,
         );
     }
@@ -248,7 +248,7 @@ pub extern "C" fn wedgepetal_macro_block_at(session: &[u64], number: u64, place:
     ensures { λ r. ⌜ gives r (now (place .exit)) ≡ macroBlockAtCall (now (session .entry)) number (now (place .entry)) ⌝ }
 {
     if (session.len() == 17) & (place.len() == 2) {
-        return return_place(theora::macro_block_at(session_of(session), number), place);
+        return return_place(queries::macro_block_at(session_of(session), number), place);
     }
     1
 }
@@ -264,7 +264,7 @@ pub extern "C" fn wedgepetal_macro_block_number(
 {
     if (session.len() == 17) & (number.len() == 1) {
         return return_number(
-            theora::macro_block_number(session_of(session), x, y),
+            queries::macro_block_number(session_of(session), x, y),
             number,
         );
     }
@@ -283,7 +283,7 @@ pub extern "C" fn wedgepetal_macro_block_of(
 {
     if (session.len() == 17) & (place.len() == 2) {
         return return_place(
-            theora::macro_block_of(session_of(session), plane, x, y),
+            queries::macro_block_of(session_of(session), plane, x, y),
             place,
         );
     }
@@ -304,7 +304,7 @@ pub extern "C" fn wedgepetal_sample_offset(
 {
     if (session.len() == 17) & (offset.len() == 1) {
         return return_number(
-            theora::sample_offset(session_of(session), plane, x, y, column, row),
+            queries::sample_offset(session_of(session), plane, x, y, column, row),
             offset,
         );
     }
@@ -339,7 +339,7 @@ pub extern "C" fn wedgepetal_loop_limit(table: &[u8], qi: u64, limit: &mut [u64]
     ensures { λ r. ⌜ gives r (now (limit .exit)) ≡ limitCall (now (table .entry)) qi (now (limit .entry)) ⌝ }
 {
     if limit.len() == 1 {
-        return return_number(theora::loop_limit(table, qi), limit);
+        return return_number(queries::loop_limit(table, qi), limit);
     }
     1
 }
@@ -356,7 +356,7 @@ pub extern "C" fn wedgepetal_matrix(
 {
     if matrix.len() == 64 {
         let mut numbers = [0u16; 64];
-        let answer = theora::matrix(table, kind, plane, qi, &mut numbers);
+        let answer = queries::matrix(table, kind, plane, qi, &mut numbers);
         return return_matrix(answer, &numbers, matrix);
     }
     1
