@@ -29,7 +29,8 @@ pub fn session(fmbw: u64, fmbh: u64, pf: u64) -> Session {
 pub fn packet(bits: &str) -> Vec<u8> {
     let bits: Vec<u8> = bits
         .bytes()
-        .filter_map(|c| matches!(c, b'0' | b'1').then(|| c - b'0'))
+        .filter(|c| matches!(c, b'0' | b'1'))
+        .map(|c| c - b'0')
         .collect();
     bits.chunks(8)
         .map(|byte| (0..8).fold(0, |sum, i| sum << 1 | byte.get(i).unwrap_or(&0)))
