@@ -105,9 +105,14 @@ impl<'a> Frame<'a> {
     }
 
     /// The planes Y', Cb, Cr.
+    ///
+    /// # Panics
+    ///
+    /// If the planes of the sizes do not lie in their buffer. Those that a
+    /// session gives do.
     pub fn planes(&self) -> [Samples<'a>; 3] {
         self.sizes.planes.each_ref().map(|plane| {
-            // The buffer has the length of the sizes, so that all of this fits.
+            // They lie in memory, so that these numbers fit.
             let (offset, length) = (plane.offset as usize, plane.length as usize);
             Samples {
                 width: 8 * plane.blocks_across as usize,

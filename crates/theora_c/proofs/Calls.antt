@@ -21,8 +21,8 @@ use Rattle.frame_header.specs.declared.Kind.{Kind}
 use Rattle.frame_header.specs.declared.Kind.the-variants.{Intra, Inter, Repeat}
 use Rattle.ways.specs.Ways.{firstWay}
 use Rattle.theora.specs.declared.Verdict.{Verdict}
-use Rattle.theora.specs.Call.{Call, Done, Asked, said, sessionAfter, answerFor, byRules}
-use Rattle.theora_c.specs.Face.{Returned, gives, flag, numbersOf, sessionOf, onList, setupNumber, setupCall, tableCall, matrixReturned, matrixFound, matrixCall, headerNumbers, referenceNumber, sessionNumbers, Answered, answers, verdictReturned, FrameReturned, stateOf, frameCall}
+use Rattle.theora.specs.Call.{Call, Done, Asked, state, said, sessionAfter, answerFor, byRules}
+use Rattle.theora_c.specs.Face.{Returned, gives, flag, numbersOf, sessionOf, onList, setupNumber, setupCall, tableCall, matrixReturned, matrixFound, matrixCall, headerNumbers, referenceNumber, sessionNumbers, Answered, answers, verdictReturned, frameGives, stateOf, frameCall}
 
 -- the numbers of a session, with the last one found by `flag_number`
 pub with-flag : (s : Session) (n : ℕ) → n ≡ flag (s .references)
@@ -87,13 +87,13 @@ module _ (session old : List ℕ) (h : Header) {v : Verdict} where
 -- a frame call that is made on the session s of the list, and one whose lists have other lengths
 module _ (session old golden previous : List ℕ) (c : Call) where
   pub frame-made : (eqb (length session) 17 && eqb (length old) 5) ≡ true → {s : Session} {d : Done} {a : Answered} → s ≡ sessionOf session
-      → d ≡ byRules firstWay (record { session = s; golden = golden; previous = previous }) c → a ≡ verdictReturned session old (d .answer .header) (d .answer .verdict)
-      → _≡_ {A = FrameReturned} (record { answered = a; new = d .new; memory = d .memory }) (frameCall session old golden previous c)
+      → d ≡ byRules firstWay (state s golden previous) c → a ≡ verdictReturned session old (d .answer .header) (d .answer .verdict)
+      → frameGives a (d .new) (d .memory) ≡ frameCall session old golden previous c
   unfolding frameCall
   frame-made t e h k = rw (t, k, h, e)
 
   pub frame-unmade : (eqb (length session) 17 && eqb (length old) 5) ≡ false
-      → _≡_ {A = FrameReturned} (record { answered = answers 1 session old; new = c .new; memory = c .memory }) (frameCall session old golden previous c)
+      → frameGives (answers 1 session old) (c .new) (c .memory) ≡ frameCall session old golden previous c
   unfolding frameCall
   frame-unmade t = rw t
 

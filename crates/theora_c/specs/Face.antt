@@ -30,7 +30,7 @@ use Rattle.theora.specs.declared.Verdict.{Verdict}
 use Rattle.theora.specs.declared.WorkAnswer.{WorkAnswer}
 use Rattle.theora.specs.declared.WorkLengths.{WorkLengths}
 use Rattle.theora.specs.Memory.{Memory, workLengths}
-use Rattle.theora.specs.Call.{State, Call, Done, byRules}
+use Rattle.theora.specs.Call.{State, Call, Done, state, byRules}
 
 -- what a call returns, and what the list lent for its answer holds afterwards
 pub record Returned : Type 0 where
@@ -219,15 +219,18 @@ pub record FrameReturned : Type 0 where
   pub new : List ℕ
   pub memory : Memory
 
+abbrev pub frameGives : Answered → (new : List ℕ) → Memory → FrameReturned
+frameGives a new memory = record { answered = a; new = new; memory = memory }
+
 abbrev pub stateOf : (session golden previous : List ℕ) → State
-stateOf session golden previous = record { session = sessionOf session; golden = golden; previous = previous }
+stateOf session golden previous = state (sessionOf session) golden previous
 
 abbrev pub doneReturned : (session old : List ℕ) → Done → FrameReturned
-doneReturned session old d = record { answered = verdictReturned session old (d .answer .header) (d .answer .verdict); new = d .new; memory = d .memory }
+doneReturned session old d = frameGives (verdictReturned session old (d .answer .header) (d .answer .verdict)) (d .new) (d .memory)
 
 -- a frame call: 1 for a session or an answer of another length, before all else; then the rules
 unfoldable pub frameCall : (session old golden previous : List ℕ) → Call → FrameReturned
 frameCall session old golden previous c =
     choose (eqb (length session) 17 && eqb (length old) 5)
     (doneReturned session old (byRules firstWay (stateOf session golden previous) c))
-    (record { answered = answers 1 session old; new = c .new; memory = c .memory })
+    (frameGives (answers 1 session old) (c .new) (c .memory))

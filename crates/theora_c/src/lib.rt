@@ -15,8 +15,9 @@ use theora::WorkAnswer;
 ghost use mathlib.Core.Path.{_≡_};
 ghost use Prim.Native.Nat.{ℕ};
 ghost use lib.ListN.{length};
-ghost use Rattle.theora_c.specs.Face.{gives, flag, numbersOf, sessionOf, sessionReturned, sizesReturned, blockReturned, placeReturned, numberReturned, identificationCall, sizesCall, blockAtCall, blockNumberCall, macroBlockAtCall, macroBlockNumberCall, macroBlockOfCall, sampleOffsetCall, setupCall, tableCall, limitCall, matrixReturned, matrixCall, lengthsReturned, workLengthsCall, kindNumber, headerNumbers, referenceNumber, answers, verdictReturned, frameCall};
+ghost use Rattle.theora_c.specs.Face.{gives, flag, numbersOf, sessionOf, sessionReturned, sizesReturned, blockReturned, placeReturned, numberReturned, identificationCall, sizesCall, blockAtCall, blockNumberCall, macroBlockAtCall, macroBlockNumberCall, macroBlockOfCall, sampleOffsetCall, setupCall, tableCall, limitCall, matrixReturned, matrixCall, lengthsReturned, workLengthsCall, kindNumber, headerNumbers, referenceNumber, answers, verdictReturned, frameGives, frameCall};
 ghost use Rattle.theora.specs.Memory.{memory};
+ghost use Rattle.theora.specs.Call.{call};
 
 // ---- lists of numbers
 
@@ -478,7 +479,9 @@ pub extern "C" fn wedgepetal_frame(
     new: &mut [u8],
     answer: &mut [u64],
 ) -> u32
-    ensures { λ r. ⌜ record { answered = answers r (now (session .exit)) (now (answer .exit)); new = now (new .exit); memory = memory (now (records .exit)) (now (coded .exit)) (now (coefs .exit)) (now (dc .exit)) (now (lasts .exit)) (now (flags .exit)) (now (bits .exit)) (now (supers .exit)) (now (modes .exit)) (now (active .exit)) } ≡ frameCall (now (session .entry)) (now (answer .entry)) (now (golden .entry)) (now (previous .entry)) (record { packet = now (packet .entry); table = now (table .entry); memory = memory (now (records .entry)) (now (coded .entry)) (now (coefs .entry)) (now (dc .entry)) (now (lasts .entry)) (now (flags .entry)) (now (bits .entry)) (now (supers .entry)) (now (modes .entry)) (now (active .entry)); new = now (new .entry) }) ⌝ }
+    ensures { λ r. ⌜ frameGives (answers r (now (session .exit)) (now (answer .exit))) (now (new .exit)) (memory (now (records .exit)) (now (coded .exit)) (now (coefs .exit)) (now (dc .exit)) (now (lasts .exit)) (now (flags .exit)) (now (bits .exit)) (now (supers .exit)) (now (modes .exit)) (now (active .exit)))
+        ≡ frameCall (now (session .entry)) (now (answer .entry)) (now (golden .entry)) (now (previous .entry))
+        (call (now (packet .entry)) (now (table .entry)) (memory (now (records .entry)) (now (coded .entry)) (now (coefs .entry)) (now (dc .entry)) (now (lasts .entry)) (now (flags .entry)) (now (bits .entry)) (now (supers .entry)) (now (modes .entry)) (now (active .entry))) (now (new .entry))) ⌝ }
 {
     if (session.len() == 17) & (answer.len() == 5) {
         let s = session_of(session);
