@@ -5,3 +5,5 @@ pub mod Held
 pub mod Decoded
 pub mod Calls
 pub mod Table
+pub mod Demand
+pub mod Examples
