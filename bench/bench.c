@@ -107,90 +107,45 @@ static struct recording read_recording(const char *path)
 
 /* ---- this decoder */
 
-struct ours {
-    uint64_t session[WEDGEPETAL_SESSION_NUMBERS], sizes[WEDGEPETAL_SIZE_NUMBERS], lengths[WEDGEPETAL_WORK_NUMBERS];
-    uint8_t *table;
-    uint32_t *records;
-    uint64_t *coded, *active;
-    int16_t *coefs, *dc;
-    uint8_t *lasts, *flags, *bits, *supers, *modes;
-    uint8_t *planes[3];
-};
-
-static struct ours our_start(const struct recording *r)
-{
-    struct ours o = {0};
-    const uint64_t *n = o.lengths;
-    int p;
-    o.table = memory(WEDGEPETAL_TABLE_BYTES);
-    if (wedgepetal_identification(r->packets[0], r->lengths[0], o.session, WEDGEPETAL_SESSION_NUMBERS) != 0 ||
-        wedgepetal_setup(r->packets[2], r->lengths[2], o.table, WEDGEPETAL_TABLE_BYTES) != 0 ||
-        wedgepetal_sizes(o.session, WEDGEPETAL_SESSION_NUMBERS, o.sizes, WEDGEPETAL_SIZE_NUMBERS) != 0 ||
-        wedgepetal_work_lengths(o.session, WEDGEPETAL_SESSION_NUMBERS, o.lengths, WEDGEPETAL_WORK_NUMBERS) != 0) {
-        fail("a header is refused");
-    }
-    o.records = memory(n[WEDGEPETAL_RECORDS] * sizeof *o.records);
-    o.coded = memory(n[WEDGEPETAL_CODED] * sizeof *o.coded);
-    o.coefs = memory(n[WEDGEPETAL_COEFS] * sizeof *o.coefs);
-    o.dc = memory(n[WEDGEPETAL_DC] * sizeof *o.dc);
-    o.lasts = memory(n[WEDGEPETAL_LASTS]);
-    o.flags = memory(n[WEDGEPETAL_FLAGS]);
-    o.bits = memory(n[WEDGEPETAL_BITS]);
-    o.supers = memory(n[WEDGEPETAL_SUPERS]);
-    o.modes = memory(n[WEDGEPETAL_MODES]);
-    o.active = memory(n[WEDGEPETAL_ACTIVE] * sizeof *o.active);
-    for (p = 0; p < 3; p++) {
-        o.planes[p] = memory(o.sizes[WEDGEPETAL_BUFFER]);
-    }
-    return o;
-}
-
-static void our_end(struct ours *o)
-{
-    int p;
-    free(o->table);
-    free(o->records);
-    free(o->coded);
-    free(o->coefs);
-    free(o->dc);
-    free(o->lasts);
-    free(o->flags);
-    free(o->bits);
-    free(o->supers);
-    free(o->modes);
-    free(o->active);
-    for (p = 0; p < 3; p++) {
-        free(o->planes[p]);
-    }
-}
-
 /* Decodes the whole recording. golden, previous and new are three buffers; an accepted frame's buffer is handed on by number. */
 static double our_round(const struct recording *r)
 {
-    struct ours o = our_start(r);
-    const uint64_t *n = o.lengths;
-    const size_t size = o.sizes[WEDGEPETAL_BUFFER];
+    uint64_t session[WEDGEPETAL_SESSION_NUMBERS], sizes[WEDGEPETAL_SIZE_NUMBERS], lengths[WEDGEPETAL_LENGTH_NUMBERS];
     uint64_t answer[WEDGEPETAL_ANSWER_NUMBERS];
+    uint8_t *table = memory(WEDGEPETAL_TABLE_BYTES), *planes[3];
+    void *lent;
+    struct wedgepetal_work work;
     int golden = 0, previous = 1;
-    double start = now();
+    double start;
+    if (wedgepetal_identification(r->packets[0], r->lengths[0], session, WEDGEPETAL_SESSION_NUMBERS) != 0 ||
+        wedgepetal_setup(r->packets[2], r->lengths[2], table, WEDGEPETAL_TABLE_BYTES) != 0 ||
+        wedgepetal_sizes(session, WEDGEPETAL_SESSION_NUMBERS, sizes, WEDGEPETAL_SIZE_NUMBERS) != 0 ||
+        wedgepetal_work_lengths(session, WEDGEPETAL_SESSION_NUMBERS, lengths, WEDGEPETAL_LENGTH_NUMBERS) != 0) {
+        fail("a header is refused");
+    }
+    lent = memory(lengths[WEDGEPETAL_WORK_BYTES]);
+    work = wedgepetal_work_in(lent, lengths);
+    for (int p = 0; p < 3; p++) {
+        planes[p] = memory(sizes[WEDGEPETAL_BUFFER]);
+    }
+    start = now();
     for (size_t i = HEADERS; i < r->count; i++) {
         int new = 0;
         while (new == golden || new == previous) {
             new++;
         }
-        uint32_t number = wedgepetal_frame(
-            o.session, WEDGEPETAL_SESSION_NUMBERS, r->packets[i], r->lengths[i], o.table, WEDGEPETAL_TABLE_BYTES,
-            o.records, n[WEDGEPETAL_RECORDS], o.coded, n[WEDGEPETAL_CODED], o.coefs, n[WEDGEPETAL_COEFS], o.dc,
-            n[WEDGEPETAL_DC], o.lasts, n[WEDGEPETAL_LASTS], o.flags, n[WEDGEPETAL_FLAGS], o.bits, n[WEDGEPETAL_BITS],
-            o.supers, n[WEDGEPETAL_SUPERS], o.modes, n[WEDGEPETAL_MODES], o.active, n[WEDGEPETAL_ACTIVE],
-            o.planes[golden], size, o.planes[previous], size, o.planes[new], size, answer, WEDGEPETAL_ANSWER_NUMBERS);
-        if (number == 0) {
+        if (wedgepetal_frame_in(&work, session, r->packets[i], r->lengths[i], table, planes[golden], planes[previous],
+                                planes[new], sizes[WEDGEPETAL_BUFFER], answer) == 0) {
             previous = new;
-            golden = answer[0] == 0 ? new : golden;
+            golden = answer[WEDGEPETAL_KIND] == WEDGEPETAL_INTRA ? new : golden;
         }
     }
     start = now() - start;
-    our_end(&o);
+    free(table);
+    free(lent);
+    for (int p = 0; p < 3; p++) {
+        free(planes[p]);
+    }
     return start;
 }
 
