@@ -7,6 +7,7 @@
  * several rounds, and its fastest round counts. One line of a table for each recording: the frame's size in macro blocks,
  * the number of frames, microseconds per frame of each decoder, and the ratios.
  */
+#define _POSIX_C_SOURCE 199309L
 #include "wedgepetal.h"
 
 #include <libavcodec/avcodec.h>

@@ -8,6 +8,7 @@
  * same bits. The second packet is an inter frame that codes no block: it must give the first frame again.
  * Memory: two plane buffers and work memory, together about 281 bytes for each block (14.2 GB for 2897 by 2897).
  */
+#define _POSIX_C_SOURCE 199309L
 #include "wedgepetal.h"
 
 #include <stdio.h>
