@@ -5,7 +5,12 @@
 
 mod bit_writer;
 mod check;
+mod damage;
+mod decoded;
 mod fields;
+mod frame_calls;
+mod frames;
+mod generate;
 mod orders;
 mod packets;
 mod random;
@@ -15,6 +20,8 @@ mod setup_header;
 mod setups;
 mod streams;
 mod tables;
+mod wild;
+mod written;
 
 use check::Difference;
 use random::Random;
@@ -23,7 +30,8 @@ use std::time::Instant;
 
 const USAGE: &str = "\
 usage: compare [--packets N] [--sessions N] [--orders MAX] [--setups N]
-               [--tables N] [--matrices N] [--seed S] [--stream FILE..]
+               [--tables N] [--matrices N] [--frames N] [--seed S]
+               [--stream FILE.. | --decode FILE.. | --wild FILE..]
 
   --packets N   identification headers: valid, faulty, damaged, cut, extended (1000000)
   --sessions N  sessions, sound and not, each with every call on a session (500000)
@@ -31,10 +39,17 @@ usage: compare [--packets N] [--sessions N] [--orders MAX] [--setups N]
   --setups N    setup headers: valid, damaged, cut, extended (20000)
   --tables N    table memories: genuine, changed, random (12000)
   --matrices N  table memories of which every limit and matrix is compared (10)
+  --frames N    frame packets of small frames, by the independent implementation
+                alone: valid, damaged, cut, extended (20000)
   --seed S      where the random numbers start (1)
   --stream FILE..
                 nothing but recordings: their headers, and what the texts beside
                 them (tests/streams/README.md) say; comes last
+  --decode FILE..
+                nothing but recordings, decoded by the independent implementation
+                alone: every frame must be libtheora's; damaged packets; comes last
+  --wild FILE.. compares nothing: writes packet files of random frames, for
+                libtheora to decode; comes last
 ";
 
 /// With fewer packets it is no fault if some refusal was not met.
@@ -48,9 +63,21 @@ struct Options {
     setups: u64,
     tables: u64,
     matrices: u64,
+    frames: u64,
     seed: u64,
-    /// Recordings, to be compared in place of all else.
-    streams: Vec<String>,
+    /// What is done in place of all else.
+    instead: Option<Instead>,
+}
+
+/// What is done with recordings.
+#[derive(Debug, PartialEq, Eq)]
+enum Instead {
+    /// Their headers are compared.
+    Headers(Vec<String>),
+    /// They are decoded.
+    Decode(Vec<String>),
+    /// They are written.
+    Wild(Vec<String>),
 }
 
 impl Default for Options {
@@ -62,8 +89,9 @@ impl Default for Options {
             setups: 20_000,
             tables: 12_000,
             matrices: 10,
+            frames: 20_000,
             seed: 1,
-            streams: Vec::new(),
+            instead: None,
         }
     }
 }
@@ -94,11 +122,18 @@ fn options(words: &[String]) -> Result<Options, String> {
     let mut options = Options::default();
     let mut words = words.iter();
     while let Some(name) = words.next() {
-        if name == "--stream" {
-            options.streams = words.cloned().collect();
-            if options.streams.is_empty() {
-                return Err("--stream: recordings must follow".to_string());
+        let instead = match name.as_str() {
+            "--stream" => Some(Instead::Headers as fn(_) -> _),
+            "--decode" => Some(Instead::Decode as fn(_) -> _),
+            "--wild" => Some(Instead::Wild as fn(_) -> _),
+            _ => None,
+        };
+        if let Some(instead) = instead {
+            let files: Vec<String> = words.cloned().collect();
+            if files.is_empty() {
+                return Err(format!("{name}: recordings must follow"));
             }
+            options.instead = Some(instead(files));
             break;
         }
         let value = words.next().and_then(|word| word.parse().ok());
@@ -111,6 +146,7 @@ fn options(words: &[String]) -> Result<Options, String> {
             "--setups" => options.setups = value,
             "--tables" => options.tables = value,
             "--matrices" => options.matrices = value,
+            "--frames" => options.frames = value,
             "--seed" => options.seed = value,
             _ => return Err(format!("{name}: no such option")),
         }
@@ -120,14 +156,18 @@ fn options(words: &[String]) -> Result<Options, String> {
 
 /// Compares all and prints what was compared.
 fn compare(options: &Options) -> Result<(), String> {
-    if !options.streams.is_empty() {
-        return streams::compare(&options.streams);
+    match &options.instead {
+        Some(Instead::Headers(files)) => return streams::compare(files),
+        Some(Instead::Decode(files)) => return decoded::compare(files),
+        Some(Instead::Wild(files)) => return wild::write(files, options.seed),
+        None => {}
     }
     println!("seed {}", options.seed);
     let mut random = Random::new(options.seed);
     compare_packets(&mut random, options)?;
     compare_sessions(&mut random, options)?;
-    compare_setups(&mut random, options)
+    compare_setups(&mut random, options)?;
+    compare_frames(&mut random, options)
 }
 
 /// Prints a heading with the time that was taken.
@@ -193,6 +233,15 @@ fn compare_setups(random: &mut Random, options: &Options) -> Result<(), String> 
     Ok(())
 }
 
+/// Frame packets.
+fn compare_frames(random: &mut Random, options: &Options) -> Result<(), String> {
+    let start = Instant::now();
+    let report = frames::compare(random, options.frames)?;
+    heading("frame packets", start);
+    println!("{report}");
+    all_tried(&report.missed(), options.frames)
+}
+
 #[cfg(test)]
 mod tests {
     use super::*;
@@ -213,8 +262,12 @@ mod tests {
         assert!(options(&words("--orders 65536")).is_err());
         assert!(options(&words("--what 1")).is_err());
         assert!(options(&words("--stream")).is_err());
-        let read = options(&words("--seed 2 --stream a b")).ok();
-        assert_eq!(read.map(|o| o.streams), Some(words("a b")));
+        assert!(options(&words("--decode")).is_err());
+        let instead = |text| options(&words(text)).ok().and_then(|o| o.instead);
+        let headers = Instead::Headers(words("a b"));
+        assert_eq!(instead("--seed 2 --stream a b"), Some(headers));
+        assert_eq!(instead("--decode a"), Some(Instead::Decode(words("a"))));
+        assert_eq!(instead("--wild a"), Some(Instead::Wild(words("a"))));
     }
 
     #[test]
@@ -226,8 +279,9 @@ mod tests {
             setups: 800,
             tables: 800,
             matrices: 1,
+            frames: 500,
             seed: 11,
-            streams: Vec::new(),
+            ..Options::default()
         };
         assert_eq!(compare(&options), Ok(()));
     }

@@ -2,6 +2,7 @@
 //! implementation, and what libtheora says of them in the text beside each.
 
 use crate::check::{Difference, Tally};
+use crate::damage::damage_bit;
 use crate::packets;
 use crate::random::Random;
 use crate::reference::identification::identification;
@@ -96,7 +97,7 @@ impl Run {
         setups::every_cut(&mut self.setups, packet)?;
         for _ in 0..DAMAGES {
             let mut damaged = packet.to_vec();
-            setups::damage_bit(&mut self.random, &mut damaged);
+            damage_bit(&mut self.random, &mut damaged);
             self.setups.compare(&damaged)?;
         }
         Ok(())
@@ -145,7 +146,7 @@ fn compare_text(said: &str, fields: &Fields, packets: &[Vec<u8>]) -> Result<(), 
 }
 
 /// FNV-1a with 64 bits.
-fn hash(bytes: &[u8]) -> u64 {
+pub fn hash(bytes: &[u8]) -> u64 {
     bytes.iter().fold(0xCBF2_9CE4_8422_2325, |hash, byte| {
         (hash ^ u64::from(*byte)).wrapping_mul(0x100_0000_01B3)
     })

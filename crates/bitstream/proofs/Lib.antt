@@ -1,4 +1,5 @@
 pub mod Numbers
+pub mod Bytes
 pub mod Fields
 pub mod Laws
 pub mod Spends

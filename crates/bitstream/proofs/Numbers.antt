@@ -1,11 +1,11 @@
 -- The number that a field's bits are. Assumes nothing.
-use Prim.Native.Nat.{ℕ, zero, suc, _+_, _*_, _^_, _≤_, _<_}
+use Prim.Native.Nat.{ℕ, zero, suc, _+_, _*_, _/_, _%_, _^_, _<_}
 use native.Mathlib.Omega.{arith}
 use native.Mathlib.Nat.{pow-suc, add-zero, add-suc, add-assoc, mul-assoc}
 use native.Mathlib.Numerals.{add-one}
 use mathlib.Core.Path.{_≡_, refl, sym, ap, ap₂, _∙_}
 use mathlib.Core.List.{List}
-use lib.Pow.{pow-mono}
+use lib.Pow.{high, low}
 use Rattle.bitstream.specs.Bits.{bitAt, number}
 
 pub bit-lt : (p : List ℕ) (i : ℕ) → bitAt p i < 2
@@ -23,13 +23,6 @@ pub number-more : (p : List ℕ) (i n : ℕ) → number p i (n + 1) ≡ number p
 unfolding number
 number-more p i n = rw add-one
 
--- at most 32 bits fit a u32, and so does what a turn of the bit loop computes
-pub number-fits : (p : List ℕ) (i n : ℕ) → n ≤ 32 → number p i n < 2 ^ 32
-number-fits p i n h = omega (arith, number-lt p i n, pow-mono h)
-
-pub turn-fits : (p : List ℕ) (i k : ℕ) → k < 32 → number p i k * 2 + bitAt p (i + k) < 2 ^ 32
-turn-fits p i k h = rw (number-more p i k) at (number-fits p i (k + 1) (omega arith))
-
 -- packets that agree up to the field's end have the same number there
 pub number-same : (p q : List ℕ) (i n : ℕ) → ((k : ℕ) → k < i + n → bitAt p k ≡ bitAt q k) → number p i n ≡ number q i n
 unfolding number
@@ -46,3 +39,7 @@ number-add p i n (suc m) =
   where
     regroup : (a b x y : ℕ) → (a * b + x) * 2 + y ≡ a * (b * 2) + (x * 2 + y)
     regroup a b x y = rw (← mul-assoc a b 2) (omega arith)
+
+-- the part of w bits that has a bits before it and b behind it
+pub number-part : (p : List ℕ) (i a w b : ℕ) → number p i (a + w + b) / 2 ^ b % 2 ^ w ≡ number p (i + a) w
+number-part p i a w b = rw (number-add p i (a + w) b, high (number p i (a + w)) b (number-lt p (i + (a + w)) b), number-add p i a w) (low (number p i a) w (number-lt p (i + a) w))

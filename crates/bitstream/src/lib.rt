@@ -1,14 +1,21 @@
 // The bits of a packet, read as fields of up to 32 bits.
 ghost use mathlib.Core.Path.{_≡_};
-ghost use Prim.Native.Nat.{ℕ, _≤_, _^_};
+ghost use Prim.Native.Nat.{ℕ, _+_, _*_, _≤_, _^_};
 ghost use lib.ListN.{length};
 ghost use Rattle.bitstream.specs.Reading.{field};
+ghost use Rattle.bitstream.specs.Bits.{number};
 ghost use Rattle.bitstream.specs.Answer.{asField, readable};
 
 // A field's value and the bit place behind it, or the number of the refusal and the place of the field at fault.
 pub enum Field {
     Got(u32, usize),
     Refused(u32, usize),
+}
+
+// The reader of bits holds the lent packet and its bit place.
+pub struct BitReader<'a> {
+    pub packet: &'a [u8],
+    pub place: usize,
 }
 
 // The longest part of a packet that is looked at, in bytes: every bit place in it fits 64 bits, and no reader gets so far.
@@ -25,8 +32,23 @@ pub fn readable(packet: &[u8]) -> &[u8]
     }
 }
 
-// The field of `width` bits at the bit place `at`, a bit at a time.
-pub fn read(packet: &[u8], at: usize, width: usize) -> Field
+// The number of the `count` bytes from the byte `first` on, the first the most significant.
+fn bytes_from(packet: &[u8], first: usize, count: usize) -> u64
+    requires { ⌜ (first + count ≤ length (now packet)) × (count ≤ 8) ⌝ }
+    ensures { λ r. ⌜ r ≡ number (now (packet .entry)) (first * 8) (count * 8) ⌝ }
+{
+    let mut value: u64 = 0;
+    let mut k = 0;
+    while k < count {
+        let byte = packet[first + k] as u64;
+        value = value * 256 + byte;
+        k += 1;
+    }
+    value
+}
+
+// The field of `width` bits at the bit place `at`: out of eight bytes at once, near the end of the packet out of its own.
+fn field_at(packet: &[u8], at: usize, width: usize) -> Field
     requires { ⌜ (length (now packet) ≤ 2 ^ 58) × (width ≤ 32) ⌝ }
     ensures { λ r. ⌜ r ≡ asField (field width (now (packet .entry)) at) ⌝ }
 {
@@ -34,16 +56,41 @@ pub fn read(packet: &[u8], at: usize, width: usize) -> Field
     if total < at {
         return Field::Refused(4, at);
     }
-    if total - at < width {
+    let end = at + width;
+    let first = at / 8;
+    if at + 64 <= total {
+        // halved first, so that the shift is below 64 even where the field has no bits
+        let halved = bytes_from(packet, first, 8) / 2;
+        let value = ((halved >> (63 - at % 8 - width)) % (1 << width)) as u32;
+        return Field::Got(value, end);
+    }
+    if total < end {
         return Field::Refused(4, at);
     }
-    let mut value: u32 = 0;
-    let mut k = 0;
-    while k < width {
-        let place = at + k;
-        let byte = packet[place / 8] as u32;
-        value = value * 2 + (byte >> (7 - place % 8)) % 2;
-        k += 1;
-    }
-    Field::Got(value, at + width)
+    let last = (end + 7) / 8;
+    let own = bytes_from(packet, first, last - first);
+    let value = ((own >> (last * 8 - end)) % (1 << width)) as u32;
+    Field::Got(value, end)
+}
+
+pub fn reader_at<'a>(packet: &'a [u8], place: usize) -> BitReader<'a>
+    ensures { λ r. ⌜ (r .packet ≡ packet .entry) × (r .place ≡ place) ⌝ }
+{
+    BitReader { packet, place }
+}
+
+// The field of `width` bits at the reader's place.
+pub fn next_field<'a>(reader: BitReader<'a>, width: usize) -> Field
+    requires { ⌜ (length (now (reader .packet)) ≤ 2 ^ 58) × (width ≤ 32) ⌝ }
+    ensures { λ r. ⌜ r ≡ asField (field width (now (reader .entry .packet)) (reader .entry .place)) ⌝ }
+{
+    field_at(reader.packet, reader.place, width)
+}
+
+// The field of `width` bits at the bit place `at`, by a reader that stands there.
+pub fn read(packet: &[u8], at: usize, width: usize) -> Field
+    requires { ⌜ (length (now packet) ≤ 2 ^ 58) × (width ≤ 32) ⌝ }
+    ensures { λ r. ⌜ r ≡ asField (field width (now (packet .entry)) at) ⌝ }
+{
+    next_field(reader_at(packet, at), width)
 }

@@ -17,7 +17,8 @@ use Rattle.bitstream.proofs.Laws.{Agree}
 use Rattle.bitstream.proofs.Lists.{tabulated-length, tabulated-at}
 use Rattle.table_memory.specs.Kept.{keptByte, kept, clearFrom}
 use Rattle.table_memory.specs.Genuine.{Bytes}
-use Rattle.table_memory.proofs.Bytes.{bit-of-number, zero-number, number-zero, byte-number}
+use Rattle.bitstream.proofs.Bytes.{byte-number}
+use Rattle.table_memory.proofs.Bits.{bit-of-number, zero-number, number-zero}
 
 bit-is : (t : List ℕ) (i : ℕ) → bitAt t i ≡ getD t (i / 8) 0 / 2 ^ (7 - i % 8) % 2
 unfolding bitAt

@@ -1,4 +1,4 @@
-pub mod Bytes
+pub mod Bits
 pub mod KeptLaws
 pub mod GenuineLaws
 pub mod Steps

@@ -15,7 +15,8 @@ use borrow.Author.Tests.{eq-eqb, ne-eqb}
 use Rattle.bitstream.specs.Bits.{bits, number}
 use Rattle.table_memory.specs.Kept.{keptByte, clearFrom}
 use Rattle.bitstream.proofs.Numbers.{number-add}
-use Rattle.table_memory.proofs.Bytes.{number-byte, byte-number, number-zero, zero-number}
+use Rattle.bitstream.proofs.Bytes.{number-byte, byte-number}
+use Rattle.table_memory.proofs.Bits.{number-zero, zero-number}
 
 -- ---- one byte of what is kept
 one-low : (s : ℕ) → s < 8 → (1 * 2 ^ s) % 2 ^ 8 ≡ 2 ^ s

@@ -33,6 +33,17 @@ impl<'a> BitReader<'a> {
         Some(u64::from(byte >> (7 - place % 8) & 1))
     }
 
+    /// The next 32 bits without reading them; behind the end there are zeros.
+    pub fn next_32(&self) -> u32 {
+        let byte = |i: u64| {
+            let index = usize::try_from(self.place / 8 + i).ok();
+            let byte = index.and_then(|index| self.packet.get(index));
+            u64::from(byte.copied().unwrap_or(0))
+        };
+        let five = (0..5).fold(0, |bytes, i| bytes << 8 | byte(i));
+        (five >> (8 - self.place % 8)) as u32
+    }
+
     /// A field of this width. A read that passes the end is number 4.
     pub fn read(&mut self, width: u32) -> Result<u64, Fault> {
         let first = self.place;
@@ -94,6 +105,16 @@ mod tests {
         };
         assert_eq!(reader.read(12), Err(fault));
         assert_eq!(reader.read_judged(12, 5, |_| false), Err(fault));
+    }
+
+    #[test]
+    fn looking_ahead_reads_nothing() {
+        let mut reader = BitReader::new(&[0x12, 0x34, 0x56, 0x78, 0x9A]);
+        assert_eq!(reader.next_32(), 0x1234_5678);
+        reader.read(4).unwrap();
+        assert_eq!((reader.next_32(), reader.place()), (0x2345_6789, 4));
+        reader.read(21).unwrap();
+        assert_eq!(reader.next_32(), 0xF134_0000);
     }
 
     #[test]

@@ -76,19 +76,24 @@ impl Grid {
             .filter(|place| self.has(*place))
     }
 
-    /// All places in coded order: the walk that the rules describe.
-    pub fn walk(&self) -> Vec<Place> {
-        let mut places = Vec::new();
+    /// The places of each super block in coded order: the walk that the rules describe.
+    pub fn walk_super_blocks(&self) -> Vec<Vec<Place>> {
+        let mut super_blocks = Vec::new();
         let mut bottom = 0;
         while bottom < self.up {
             let mut left = 0;
             while left < self.across {
-                places.extend(self.super_block((left, bottom)));
+                super_blocks.push(self.super_block((left, bottom)).collect());
                 left += self.side;
             }
             bottom += self.side;
         }
-        places
+        super_blocks
+    }
+
+    /// All places in coded order.
+    pub fn walk(&self) -> Vec<Place> {
+        self.walk_super_blocks().concat()
     }
 }
 

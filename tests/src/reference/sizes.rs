@@ -15,6 +15,13 @@ pub struct Plane {
     pub length: u64,
 }
 
+impl Plane {
+    /// How many blocks it has.
+    pub fn blocks(&self) -> u64 {
+        self.across * self.up
+    }
+}
+
 /// A frame.
 #[derive(Clone, Debug, PartialEq, Eq)]
 pub struct Sizes {

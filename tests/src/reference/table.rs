@@ -1,8 +1,11 @@
-//! The values that the rules' table fixes for these parts.
+//! The values that the rules' table fixes.
 
 use super::bits::BitReader;
 use super::matrices::value;
+use super::numeric::{cut, round_mean};
 use super::order::Grid;
+use super::samples::loop_filter::response;
+use super::samples::residual::dc_only;
 use super::session::Fields;
 use super::setup::setup;
 use super::setup::tests::{begin, put_copies, put_lone_leaves};
@@ -58,6 +61,26 @@ fn intra_dc_of_scale_10_and_base_16() {
 fn ac_of_scale_65535_and_base_255() {
     assert_eq!(value(65535, 255, 8), 4096);
     assert_eq!(value(65535, 255, 16), 4096);
+}
+
+#[test]
+fn round_of_minus_2_quarters() {
+    assert_eq!(round_mean(-2, 4), -1);
+}
+
+#[test]
+fn loop_filter_with_limit_10() {
+    assert_eq!([15, -15, 20].map(|r| response(r, 10)), [5, -5, 0]);
+}
+
+#[test]
+fn dc_32767_and_1_cut() {
+    assert_eq!(cut(32767 + 1), -32768);
+}
+
+#[test]
+fn dc_only_with_quantizer_16() {
+    assert_eq!([-1, 1].map(|dc| dc_only(dc, 16)), [-1, 0]);
 }
 
 #[test]

@@ -1,7 +1,7 @@
 //! Where samples lie in a plane buffer: plane 0 first, rows bottom first.
 
-use super::members::Block;
-use super::sizes::Sizes;
+use super::super::members::Block;
+use super::super::sizes::Sizes;
 
 /// The offset of sample (column, row) of a block that the frame has.
 pub fn sample_offset(sizes: &Sizes, (plane, (x, y)): Block, column: u64, row: u64) -> u64 {
@@ -28,8 +28,8 @@ pub fn walk(sizes: &Sizes) -> Vec<(Block, u64, u64)> {
 
 #[cfg(test)]
 mod tests {
-    use super::super::session::Fields;
-    use super::super::sizes::sizes;
+    use super::super::super::session::Fields;
+    use super::super::super::sizes::sizes;
     use super::*;
 
     #[test]
