@@ -17,8 +17,8 @@ use Rattle.ways.specs.Loops.{_∈_}
 use Rattle.ways.specs.Ways.{firstWay, secondWay}
 use Rattle.ways.proofs.Agree.{ways-agree}
 use Rattle.ways.proofs.Kept.{differs-along}
-use Rattle.theora.specs.Memory.{format, blocks, buffer, lengthsFit}
-use Rattle.theora.specs.Call.{State, Call, Done, Asked, Way, lengthsHold, read, said, picture, answerFor, newBy, memoryAfter, byRules}
+use Rattle.theora.specs.Memory.{format, blocks, lengthsOf, lengthsFit}
+use Rattle.theora.specs.Call.{State, Call, Done, Asked, done, lengthsHold, read, said, picture, answerFor, newBy, memoryAfter, byRules}
 use Rattle.theora.specs.Demand.{Turn, turn, turns, Ran, FramePromise, UncodedKept, fresh, Demand3, Demand3Holds}
 
 -- an accepted call passed both tests
@@ -36,11 +36,11 @@ second false b rest h = let z : false ≡ true = h in let y : _≡_ {A = ℕ} 0 
 
 -- previous has the length of a frame where a call is accepted
 said-sized : (st : State) (c : Call) {a : Asked} {e : ℕ} → said st c ≡ got a e → length (st .previous) ≡ 64 * blocks (st .session)
-unfolding said lengthsFit
+unfolding said lengthsFit lengthsOf
 said-sized st c h =
     let s = st .session in
     eqb-true (length (st .previous)) (64 * blocks s)
-    (second (buffer s (st .golden)) (buffer s (st .previous)) _ (passed (sessionFits s) (lengthsHold st c) (read s (c .table) (c .packet)) h))
+    (second (eqb (length (st .golden)) (64 * blocks s)) (eqb (length (st .previous)) (64 * blocks s)) _ (passed (sessionFits s) (lengthsHold st c) (read s (c .table) (c .packet)) h))
 
 -- one call: the two ways leave the same
 new-agrees : (st : State) (c : Call) (o : Outcome Asked) → said st c ≡ o → newBy firstWay st (c .new) o ≡ newBy secondWay st (c .new) o
@@ -53,7 +53,7 @@ pub call-agrees : (st : State) (c : Call) → byRules firstWay st c ≡ byRules 
 unfolding byRules
 call-agrees st c =
     let same = new-agrees st c (said st c) refl in
-    λ i. record { answer = answerFor (st .session) (said st c); new = same i; memory = memoryAfter st c }
+    λ i. done (answerFor (st .session) (said st c)) (same i) (memoryAfter st c)
 
 -- all calls
 all-agree : byRules firstWay ≡ byRules secondWay
