@@ -1,8 +1,10 @@
 //! Wedgepetal, a proved Theora decoder: the safe face for Rust.
 //!
-//! So far it reads the identification header of a recording and answers the
-//! sizes and block orders of its frames, and it reads the setup header and
-//! answers loop limits and quantization matrices.
+//! A recording's first packet is its identification header ([`identification`]
+//! gives the [`Session`]), the third its setup header ([`setup`] gives the
+//! [`Table`]). A [`Player`] of both decodes the packets that follow, one by one,
+//! into planes. Whatever a packet holds, each call ends with an answer, and a
+//! refusal ([`Refusal`]) changes nothing.
 //!
 //! ```
 //! use wedgepetal::{Refusal, identification};
@@ -12,15 +14,41 @@
 //! // A comment header is another header.
 //! assert_eq!(identification(b"\x81theora"), Err(Refusal::NOT_THIS_HEADER));
 //! ```
+//!
+//! ```no_run
+//! use wedgepetal::{Player, identification, setup};
+//!
+//! fn brightness(packets: &[Vec<u8>]) -> Result<(), Box<dyn std::error::Error>> {
+//!     let mut player = Player::new(identification(&packets[0])?, setup(&packets[2])?)?;
+//!     for (number, packet) in packets.iter().enumerate().skip(3) {
+//!         match player.decode(packet) {
+//!             Ok(answer) => {
+//!                 let [luma, _, _] = player.frame().expect("a packet was accepted").planes();
+//!                 let sum: u64 = luma.bytes.iter().map(|sample| u64::from(*sample)).sum();
+//!                 println!("{number}: {:?}, {}", answer.kind, sum / luma.bytes.len() as u64);
+//!             }
+//!             Err(refusal) => println!("{number}: {refusal}"),
+//!         }
+//!     }
+//!     Ok(())
+//! }
+//! ```
 
+mod frame;
 pub mod lists;
+mod player;
 mod refusal;
 mod session;
 mod table;
+mod work;
 
+pub use frame::{Frame, FrameAnswer, Kind, Samples};
+pub use lists::Buffers;
+pub use player::{Player, Unplayable};
 pub use refusal::Refusal;
 pub use session::{Session, identification};
 pub use table::{MatrixType, Table, setup};
+pub use work::{Work, WorkLengths};
 
 /// The sizes of a session's frames.
 #[derive(Clone, Debug, PartialEq, Eq)]

@@ -3,9 +3,10 @@
 //! Each function is the call of the same name in `include/wedgepetal.h`, with
 //! a slice for each pointer and length. It answers 0 if the call is accepted,
 //! else the number of its refusal, and a refused call writes nothing (but
-//! `setup`, which then clears table memory of the right length). Every list
-//! may have any length and any contents. The functions of the crate's
-//! root are easier to use; these are here for those who hold lists already.
+//! `setup`, which then clears table memory of the right length, and `frame`,
+//! which clears work memory once all lengths are right). Every list may have
+//! any length and any contents. The functions of the crate's root are easier
+//! to use; these are here for those who hold lists already.
 #![allow(unsafe_code)]
 
 /// How many numbers a session has.
@@ -19,6 +20,13 @@ pub const BLOCK_NUMBERS: usize = 3;
 
 /// How many numbers the place of a macro block has: x, y.
 pub const PLACE_NUMBERS: usize = 2;
+
+/// How many numbers the lengths of work memory have: the ten slices in the
+/// order of [`WorkSlices`], then the bytes of all of them together.
+pub const LENGTH_NUMBERS: usize = 11;
+
+/// How many numbers the answer of a frame has: kind, how many qi, three qi.
+pub const ANSWER_NUMBERS: usize = 5;
 
 /// How many bytes table memory has.
 pub const TABLE_BYTES: usize = 28_184;
@@ -113,6 +121,48 @@ mod face {
             qi: u64,
             matrix: *mut u64,
             matrix_length: usize,
+        ) -> u32;
+        pub fn wedgepetal_work_lengths(
+            session: *const u64,
+            session_length: usize,
+            lengths: *mut u64,
+            lengths_length: usize,
+        ) -> u32;
+        pub fn wedgepetal_frame(
+            session: *mut u64,
+            session_length: usize,
+            packet: *const u8,
+            packet_length: usize,
+            table: *const u8,
+            table_length: usize,
+            records: *mut u32,
+            records_length: usize,
+            coded: *mut u64,
+            coded_length: usize,
+            coefs: *mut i16,
+            coefs_length: usize,
+            dc: *mut i16,
+            dc_length: usize,
+            lasts: *mut u8,
+            lasts_length: usize,
+            flags: *mut u8,
+            flags_length: usize,
+            bits: *mut u8,
+            bits_length: usize,
+            supers: *mut u8,
+            supers_length: usize,
+            modes: *mut u8,
+            modes_length: usize,
+            active: *mut u64,
+            active_length: usize,
+            golden: *const u8,
+            golden_length: usize,
+            previous: *const u8,
+            previous_length: usize,
+            new: *mut u8,
+            new_length: usize,
+            answer: *mut u64,
+            answer_length: usize,
         ) -> u32;
     }
 }
@@ -294,6 +344,108 @@ pub fn matrix(table: &[u8], kind: u64, plane: u64, qi: u64, matrix: &mut [u64]) 
             qi,
             matrix.as_mut_ptr(),
             matrix.len(),
+        )
+    }
+}
+
+/// The ten slices of work memory. They may hold anything before a frame call;
+/// past its length check they are all zero after it.
+#[derive(Debug)]
+pub struct WorkSlices<'a> {
+    /// One record for each block.
+    pub records: &'a mut [u32],
+    /// The coded blocks.
+    pub coded: &'a mut [u64],
+    /// 64 coefficients for each block.
+    pub coefs: &'a mut [i16],
+    /// The DC of each block after prediction.
+    pub dc: &'a mut [i16],
+    /// The position of the last visit of each block.
+    pub lasts: &'a mut [u8],
+    /// The coded flag of each block.
+    pub flags: &'a mut [u8],
+    /// The bits of a run string.
+    pub bits: &'a mut [u8],
+    /// Two bytes for each super block.
+    pub supers: &'a mut [u8],
+    /// The mode of each macro block.
+    pub modes: &'a mut [u8],
+    /// The blocks that are not yet at their end.
+    pub active: &'a mut [u64],
+}
+
+/// The three plane buffers of a frame call, each of 64·NBS bytes.
+#[derive(Debug)]
+pub struct Buffers<'a> {
+    /// The golden frame.
+    pub golden: &'a [u8],
+    /// The previous frame.
+    pub previous: &'a [u8],
+    /// Receives the new frame, if the packet is accepted.
+    pub new: &'a mut [u8],
+}
+
+/// The lengths of work memory for a session's frames (11 numbers).
+pub fn work_lengths(session: &[u64], lengths: &mut [u64]) -> u32 {
+    // SAFETY: as in `identification`.
+    unsafe {
+        face::wedgepetal_work_lengths(
+            session.as_ptr(),
+            session.len(),
+            lengths.as_mut_ptr(),
+            lengths.len(),
+        )
+    }
+}
+
+/// Decodes a frame packet: `answer` (5 numbers) receives its kind (0 intra, 1
+/// inter, 2 repeat), how many qi it has and three qi, of which the others are
+/// 0. An accepted intra frame sets the reference number of `session` to 1.
+pub fn frame(
+    session: &mut [u64],
+    packet: &[u8],
+    table: &[u8],
+    work: WorkSlices<'_>,
+    buffers: Buffers<'_>,
+    answer: &mut [u64],
+) -> u32 {
+    // SAFETY: as in `identification`.
+    unsafe {
+        face::wedgepetal_frame(
+            session.as_mut_ptr(),
+            session.len(),
+            packet.as_ptr(),
+            packet.len(),
+            table.as_ptr(),
+            table.len(),
+            work.records.as_mut_ptr(),
+            work.records.len(),
+            work.coded.as_mut_ptr(),
+            work.coded.len(),
+            work.coefs.as_mut_ptr(),
+            work.coefs.len(),
+            work.dc.as_mut_ptr(),
+            work.dc.len(),
+            work.lasts.as_mut_ptr(),
+            work.lasts.len(),
+            work.flags.as_mut_ptr(),
+            work.flags.len(),
+            work.bits.as_mut_ptr(),
+            work.bits.len(),
+            work.supers.as_mut_ptr(),
+            work.supers.len(),
+            work.modes.as_mut_ptr(),
+            work.modes.len(),
+            work.active.as_mut_ptr(),
+            work.active.len(),
+            buffers.golden.as_ptr(),
+            buffers.golden.len(),
+            buffers.previous.as_ptr(),
+            buffers.previous.len(),
+            buffers.new.as_mut_ptr(),
+            buffers.new.len(),
+            answer.as_mut_ptr(),
+            answer.len(),
         )
     }
 }

@@ -27,6 +27,16 @@ impl Refusal {
     pub const SESSION: Refusal = Refusal(8);
     /// No accepted setup packet leaves this table memory.
     pub const TABLE: Refusal = Refusal(8);
+    /// An inter or empty packet, and no references.
+    pub const NO_REFERENCES: Refusal = Refusal(9);
+    /// The first bit of a frame packet is 1: it is a header.
+    pub const NOT_A_FRAME: Refusal = Refusal(10);
+    /// An intra frame's 3 reserved bits are not 0.
+    pub const FRAME_RESERVED: Refusal = Refusal(11);
+    /// A run exceeds the bits still wanted.
+    pub const RUN: Refusal = Refusal(12);
+    /// A token moves its block past position 64.
+    pub const TOKEN: Refusal = Refusal(13);
     /// The frame has no such block, macro block or sample, or there is no such
     /// type, plane or qi.
     pub const ABSENT: Refusal = Refusal(255);

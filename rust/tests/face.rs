@@ -1,32 +1,12 @@
 //! The wrapper over the static library: values that the rules fix.
 #![allow(missing_docs)]
 
+mod common;
+
+use common::{session, setup_packet};
 use wedgepetal::{
     Block, MacroBlock, MatrixType, Refusal, Session, Table, identification, lists, setup,
 };
-
-/// A session of so many macro blocks.
-fn session(fmbw: u64, fmbh: u64, pf: u64) -> Session {
-    Session {
-        vrev: 1,
-        fmbw,
-        fmbh,
-        picw: 16 * fmbw,
-        pich: 16 * fmbh,
-        picx: 0,
-        picy: 0,
-        frn: 25,
-        frd: 1,
-        parn: 0,
-        pard: 0,
-        cs: 0,
-        nombr: 0,
-        qual: 0,
-        kfgshift: 6,
-        pf,
-        references: false,
-    }
-}
 
 fn luma(x: u64, y: u64) -> Block {
     Block { plane: 0, x, y }
@@ -75,36 +55,9 @@ fn macro_blocks_and_samples() {
     );
 }
 
-/// A setup header: limits 1, scales 1, one matrix of the value 0, one range,
-/// lone leaves.
-fn setup_packet() -> Vec<u8> {
-    let common: String = b"\x82theora".map(|byte| format!("{byte:08b}")).concat();
-    let ones = "1".repeat(64);
-    let parts = [
-        &common,
-        "001",
-        &ones,
-        "0000",
-        &ones,
-        "0000",
-        &ones,
-        "000000000",
-        &"0".repeat(512),
-        "111110",
-        "00000000",
-        &"100111".repeat(80),
-    ];
-    let mut bits = parts.concat();
-    bits.push_str(&"0".repeat(bits.len().next_multiple_of(8) - bits.len()));
-    (0..bits.len())
-        .step_by(8)
-        .map(|i| u8::from_str_radix(&bits[i..i + 8], 2).unwrap())
-        .collect()
-}
-
 #[test]
 fn tables() {
-    let packet = setup_packet();
+    let packet = setup_packet(|_| 7);
     let table = setup(&packet).unwrap();
     assert_eq!(table.bytes().len(), lists::TABLE_BYTES);
     assert_eq!(Table::from_bytes(table.bytes()), Ok(table.clone()));
@@ -121,7 +74,7 @@ fn tables() {
 
 #[test]
 fn what_is_no_setup_header_or_table() {
-    let packet = setup_packet();
+    let packet = setup_packet(|_| 7);
     let cut = setup(&packet[..packet.len() - 1]);
     assert_eq!(cut, Err(Refusal::PACKET_END));
     assert_eq!(setup(b"\x80theora"), Err(Refusal::NOT_THIS_HEADER));

@@ -1,8 +1,10 @@
 /* The C header and the static library together: reads headers, asks for sizes,
- * limits and matrices. */
+ * limits and matrices, decodes frames. */
 #include "wedgepetal.h"
 
 #include <stdio.h>
+#include <stdlib.h>
+#include <string.h>
 
 /* 320 by 240 samples in 4:2:0. */
 static const uint8_t packet[42] = {
@@ -14,9 +16,15 @@ static const uint8_t packet[42] = {
     0xC0, 0xC0                                   /* quality 48, shift 6, format 0 */
 };
 
-/* A setup header: 152 bytes, the last of them with 6 bits to spare. */
-static uint8_t setup[152];
-static size_t setup_bits = 0;
+/* Bits that are written one after the other. The setup header has 152 bytes,
+ * the last of them with 6 bits to spare. */
+struct bits {
+    uint8_t bytes[152];
+    size_t count;
+};
+
+static struct bits setup;
+static uint8_t table[WEDGEPETAL_TABLE_BYTES];
 
 static int failures = 0;
 
@@ -29,51 +37,52 @@ static void expect(const char *what, uint64_t got, uint64_t wanted)
     }
 }
 
-static void put(unsigned value, int width)
+static void put(struct bits *to, unsigned value, int width)
 {
     while (width-- > 0) {
         if (value >> width & 1) {
-            setup[setup_bits / 8] |= (uint8_t)(0x80 >> setup_bits % 8);
+            to->bytes[to->count / 8] |= (uint8_t)(0x80 >> to->count % 8);
         }
-        setup_bits++;
+        to->count++;
     }
 }
 
-/* All limits 0, all scales 1, one matrix of the value 255, one range, lone leaves. */
+/* All limits 0, all scales 1, one matrix of the value 255, one range. Every
+ * tree is a lone leaf: at position 0 the token of the choice's number, later
+ * token 0, which ends a block. */
 static void make_setup(void)
 {
     const char *common = "\x82theora";
     int i;
     for (i = 0; i < 7; i++) {
-        put((unsigned char)common[i], 8);
+        put(&setup, (unsigned char)common[i], 8);
     }
-    put(0, 3);
+    put(&setup, 0, 3);
     for (i = 0; i < 2; i++) {
-        put(0, 4);
-        put(0xFFFFFFFFu, 32);
-        put(0xFFFFFFFFu, 32);
+        put(&setup, 0, 4);
+        put(&setup, 0xFFFFFFFFu, 32);
+        put(&setup, 0xFFFFFFFFu, 32);
     }
-    put(0, 9);
+    put(&setup, 0, 9);
     for (i = 0; i < 64; i++) {
-        put(255, 8);
+        put(&setup, 255, 8);
     }
-    put(62, 6);
-    put(0, 8);
+    put(&setup, 62, 6);
+    put(&setup, 0, 8);
     for (i = 0; i < 80; i++) {
-        put(32 + i % 32, 6);
+        put(&setup, 32 + (i < 16 ? (unsigned)i : 0), 6);
     }
 }
 
 static void try_table(void)
 {
-    static uint8_t table[WEDGEPETAL_TABLE_BYTES];
     uint64_t limit[1] = {9}, matrix[WEDGEPETAL_MATRIX_NUMBERS] = {0};
     const size_t t = WEDGEPETAL_TABLE_BYTES, m = WEDGEPETAL_MATRIX_NUMBERS;
 
     make_setup();
-    expect("setup bits", setup_bits, 1210);
+    expect("setup bits", setup.count, 1210);
     expect("no table yet", wedgepetal_table(table, t), WEDGEPETAL_TABLE);
-    expect("setup", wedgepetal_setup(setup, sizeof setup, table, t), 0);
+    expect("setup", wedgepetal_setup(setup.bytes, sizeof setup.bytes, table, t), 0);
     expect("type byte", table[0], 0x82);
     expect("table", wedgepetal_table(table, t), 0);
     expect("short table", wedgepetal_table(table, t - 1), WEDGEPETAL_LENGTH);
@@ -86,8 +95,184 @@ static void try_table(void)
     expect("type 2", wedgepetal_matrix(table, t, 2, 0, 0, matrix, m), WEDGEPETAL_ABSENT);
     table[t - 1] = 1;
     expect("a bit behind", wedgepetal_table(table, t), WEDGEPETAL_TABLE);
-    expect("cut", wedgepetal_setup(setup, 151, table, t), WEDGEPETAL_PACKET_END);
+    expect("cut", wedgepetal_setup(setup.bytes, 151, table, t), WEDGEPETAL_PACKET_END);
     expect("cleared", table[0] + table[t - 1], 0);
+}
+
+/* Frames of one macro block in 4:2:0: 6 blocks, 3 super blocks. */
+enum { BUFFER = 384, WORK = 153 * 6 + 2 * 3 + 1, EDGE = 64, PATTERN = 0xA5 };
+
+/* Work memory and buffers, with a pattern around each. */
+struct lent {
+    uint8_t *work, *golden, *previous, *new_frame;
+};
+
+static uint8_t *lend(size_t length)
+{
+    uint8_t *bytes = malloc(length + 2 * EDGE);
+    if (bytes == NULL) {
+        abort();
+    }
+    memset(bytes, PATTERN, length + 2 * EDGE);
+    return bytes + EDGE;
+}
+
+static void take_back(const char *what, uint8_t *bytes, size_t length)
+{
+    size_t i, changed = 0;
+    for (i = 0; i < EDGE; i++) {
+        changed += bytes[-1 - (long)i] != PATTERN;
+        changed += bytes[length + i] != PATTERN;
+    }
+    expect(what, changed, 0);
+    free(bytes - EDGE);
+}
+
+/* How many bytes are this one. */
+static size_t count(const uint8_t *bytes, size_t length, uint8_t byte)
+{
+    size_t i, found = 0;
+    for (i = 0; i < length; i++) {
+        found += bytes[i] == byte;
+    }
+    return found;
+}
+
+/* An intra frame of qi 3: DC 1 in each luma block, -1 in each of chroma, before
+ * prediction. */
+static struct bits intra_frame(void)
+{
+    struct bits b = {{0}, 0};
+    put(&b, 0, 2);
+    put(&b, 3, 6);
+    put(&b, 0, 4);
+    put(&b, 0x9A00, 16);
+    return b;
+}
+
+/* An inter frame of qi 3 without a coded block: two run strings of three
+ * zeros, modes as they are, vectors of five bits, four table choices. */
+static struct bits inter_frame(void)
+{
+    struct bits b = {{0}, 0};
+    put(&b, 1, 2);
+    put(&b, 3, 6);
+    put(&b, 0, 1);
+    put(&b, 5, 4);
+    put(&b, 5, 4);
+    put(&b, 15, 4);
+    put(&b, 0, 16);
+    return b;
+}
+
+static uint32_t call(struct lent *m, const uint64_t *lengths, uint64_t *session,
+                     const struct bits *packet, size_t packet_length, uint64_t *answer)
+{
+    struct wedgepetal_work work = wedgepetal_work_in(m->work, lengths);
+    memset(m->work, PATTERN, WORK);
+    memset(m->new_frame, PATTERN, BUFFER);
+    return wedgepetal_frame_in(&work, session, packet->bytes, packet_length, table, m->golden,
+                               m->previous, m->new_frame, BUFFER, answer);
+}
+
+/* Refusals leave session, answer and the new frame as they were; work memory
+ * is zero once its lengths are right. */
+static void try_refusals(struct lent *m, const uint64_t *lengths, uint64_t *session)
+{
+    struct bits intra = intra_frame(), inter = inter_frame(), other = {{0x80}, 8};
+    uint64_t answer[5] = {7, 7, 7, 7, 7}, seven[5] = {7, 7, 7, 7, 7}, before[17], wrong[11];
+    struct wedgepetal_work work = wedgepetal_work_in(m->work, lengths);
+    int i;
+
+    memcpy(before, session, sizeof before);
+    expect("no references", call(m, lengths, session, &inter, 5, answer), WEDGEPETAL_NO_REFERENCES);
+    expect("empty", call(m, lengths, session, &inter, 0, answer), WEDGEPETAL_NO_REFERENCES);
+    expect("a header", call(m, lengths, session, &other, 1, answer), WEDGEPETAL_NOT_A_FRAME);
+    expect("cut", call(m, lengths, session, &intra, 3, answer), WEDGEPETAL_PACKET_END);
+    expect("work is clear", count(m->work, WORK, 0), WORK);
+    expect("new is kept", count(m->new_frame, BUFFER, PATTERN), BUFFER);
+    intra.bytes[1] |= 0x10;
+    expect("reserved", call(m, lengths, session, &intra, 4, answer), WEDGEPETAL_FRAME_RESERVED);
+    table[0] ^= 1;
+    expect("table", call(m, lengths, session, &intra, 4, answer), WEDGEPETAL_TABLE);
+    expect("work is clear", count(m->work, WORK, 0), WORK);
+    table[0] ^= 1;
+    for (i = 0; i < WEDGEPETAL_WORK_BYTES; i++) {
+        memcpy(wrong, lengths, sizeof wrong);
+        wrong[i]--;
+        expect("length", call(m, wrong, session, &intra, 4, answer), WEDGEPETAL_LENGTH);
+    }
+    expect("work is kept", count(m->work, WORK, PATTERN), WORK);
+    expect("buffer",
+           wedgepetal_frame_in(&work, session, intra.bytes, 4, table, m->golden, m->previous,
+                               m->new_frame, BUFFER - 1, answer),
+           WEDGEPETAL_LENGTH);
+    session[WEDGEPETAL_PF] = 1;
+    expect("session", call(m, lengths, session, &intra, 4, answer), WEDGEPETAL_SESSION);
+    expect("work is kept", count(m->work, WORK, PATTERN), WORK);
+    session[WEDGEPETAL_PF] = 0;
+    expect("session is kept", (uint64_t)memcmp(session, before, sizeof before), 0);
+    expect("answer is kept", (uint64_t)memcmp(answer, seven, sizeof seven), 0);
+    expect("new is kept", count(m->new_frame, BUFFER, PATTERN), BUFFER);
+}
+
+/* An intra frame; then it is golden and previous of an inter frame and a repeat. */
+static void try_accepted(struct lent *m, const uint64_t *lengths, uint64_t *session)
+{
+    struct bits intra = intra_frame(), inter = inter_frame();
+    uint64_t answer[5] = {7, 7, 7, 7, 7};
+    uint8_t *luma = m->new_frame;
+
+    expect("intra", call(m, lengths, session, &intra, 4, answer), 0);
+    expect("kind", answer[WEDGEPETAL_KIND], WEDGEPETAL_INTRA);
+    expect("how many qi", answer[WEDGEPETAL_QI_COUNT], 1);
+    expect("qi", answer[WEDGEPETAL_QIS], 3);
+    expect("no qi", answer[WEDGEPETAL_QIS + 1] + answer[WEDGEPETAL_QIS + 2], 0);
+    expect("references", session[WEDGEPETAL_REFERENCES], 1);
+    expect("work is clear", count(m->work, WORK, 0), WORK);
+    /* DC 1, 2, 2, 3 and -1, times 16: residuals 0, 1, 1, 1 and -1. */
+    expect("lower left", luma[0] + luma[7] + luma[7 * 16 + 7], 3 * 128);
+    expect("others", count(luma, 256, 129), 192);
+    expect("chroma", count(luma + 256, 128, 127), 128);
+
+    memcpy(m->previous, m->new_frame, BUFFER);
+    session[WEDGEPETAL_REFERENCES] = 9;
+    expect("inter", call(m, lengths, session, &inter, 5, answer), 0);
+    expect("kind", answer[WEDGEPETAL_KIND], WEDGEPETAL_INTER);
+    expect("previous", (uint64_t)memcmp(m->previous, m->new_frame, BUFFER), 0);
+    expect("repeat", call(m, lengths, session, &inter, 0, answer), 0);
+    expect("kind", answer[WEDGEPETAL_KIND], WEDGEPETAL_REPEAT);
+    expect("no qi", answer[WEDGEPETAL_QI_COUNT] + answer[WEDGEPETAL_QIS], 0);
+    expect("previous", (uint64_t)memcmp(m->previous, m->new_frame, BUFFER), 0);
+    expect("references as they were", session[WEDGEPETAL_REFERENCES], 9);
+    expect("golden is only read", count(m->golden, BUFFER, PATTERN), BUFFER);
+}
+
+static void try_frames(uint64_t *session)
+{
+    uint64_t lengths[WEDGEPETAL_LENGTH_NUMBERS] = {0};
+    const size_t s = WEDGEPETAL_SESSION_NUMBERS;
+    struct lent m;
+
+    session[WEDGEPETAL_FMBW] = session[WEDGEPETAL_FMBH] = 1;
+    session[WEDGEPETAL_PICW] = session[WEDGEPETAL_PICH] = 16;
+    expect("short", wedgepetal_work_lengths(session, s, lengths, 10), WEDGEPETAL_LENGTH);
+    expect("work_lengths", wedgepetal_work_lengths(session, s, lengths, 11), 0);
+    expect("coefs", lengths[WEDGEPETAL_COEFS], 384);
+    expect("supers", lengths[WEDGEPETAL_SUPERS], 6);
+    expect("modes", lengths[WEDGEPETAL_MODES], 1);
+    expect("bytes", lengths[WEDGEPETAL_WORK_BYTES], WORK);
+    expect("setup", wedgepetal_setup(setup.bytes, sizeof setup.bytes, table, sizeof table), 0);
+    m.work = lend(WORK);
+    m.golden = lend(BUFFER);
+    m.previous = lend(BUFFER);
+    m.new_frame = lend(BUFFER);
+    try_refusals(&m, lengths, session);
+    try_accepted(&m, lengths, session);
+    take_back("around work", m.work, WORK);
+    take_back("around golden", m.golden, BUFFER);
+    take_back("around previous", m.previous, BUFFER);
+    take_back("around new", m.new_frame, BUFFER);
 }
 
 int main(void)
@@ -128,7 +313,9 @@ int main(void)
     session[WEDGEPETAL_PF] = 1;
     expect("bad session", wedgepetal_sizes(session, s, sizes, WEDGEPETAL_SIZE_NUMBERS),
            WEDGEPETAL_SESSION);
+    session[WEDGEPETAL_PF] = 0;
     try_table();
+    try_frames(session);
     if (failures == 0) {
         puts("the C face answers as it should");
     }

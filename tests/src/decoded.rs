@@ -5,6 +5,8 @@
 //! four, the rules of the base take D's. With libtheora's rule every frame must
 //! be libtheora's; with the base's only those that no other vector has reached.
 
+use crate::frames::{self, Frame};
+use crate::random::Random;
 use crate::reference::decode::Decoder;
 use crate::reference::frame::vectors::FourRule;
 use crate::reference::frame::{FramePacket, Kind};
@@ -18,6 +20,9 @@ use std::fs::{self, File};
 use std::io::BufReader;
 use std::ops::AddAssign;
 use std::path::Path;
+
+/// About how many blocks the damaged variants of a packet have together, at most.
+const BLOCKS_OF_VARIANTS: u64 = 1_000;
 
 /// What was compared.
 #[derive(Clone, Copy, Default)]
@@ -65,17 +70,45 @@ impl fmt::Display for Counts {
 /// Compares recordings and prints what was compared.
 pub fn compare(files: &[String]) -> Result<(), String> {
     let mut total = Counts::default();
+    let mut damage = Damage {
+        random: Random::new(1),
+        report: frames::Report::default(),
+    };
     for file in files {
-        let counts = recording(Path::new(file)).map_err(|text| format!("{file}\n{text}"))?;
+        let counts = recording(&mut damage, Path::new(file));
+        let counts = counts.map_err(|text| format!("{file}\n{text}"))?;
         println!("{file}: {counts}");
         total += counts;
     }
     println!("recordings: {}: {total}", files.len());
+    println!("damaged packets:\n{}", damage.report);
     Ok(())
 }
 
+/// Damaged packets of the recordings.
+struct Damage {
+    random: Random,
+    report: frames::Report,
+}
+
+impl Damage {
+    /// Tries variants of a packet: the fewer the larger the frame.
+    fn packet(&mut self, player: &Player, packet: &[u8]) -> Result<(), String> {
+        let blocks = player.decoder.layout.sizes.nbs;
+        let variants = self.random.below(2 + BLOCKS_OF_VARIANTS / blocks);
+        let frame = Frame {
+            decoder: player.decoder,
+            references: player.references,
+            golden: &player.golden,
+            previous: &player.previous,
+        };
+        let report = &mut self.report;
+        report.of_recording(&mut self.random, &frame, packet, variants)
+    }
+}
+
 /// Decodes a recording.
-fn recording(path: &Path) -> Result<Counts, String> {
+fn recording(damage: &mut Damage, path: &Path) -> Result<Counts, String> {
     let file = File::open(path).map_err(|error| error.to_string())?;
     let packets = recording::packets(BufReader::new(file)).map_err(|fault| fault.to_string())?;
     let said = fs::read_to_string(path.with_extension("txt")).map_err(|error| error.to_string())?;
@@ -97,6 +130,7 @@ fn recording(path: &Path) -> Result<Counts, String> {
             continue;
         }
         let fault = |text: String| format!("frame {number}: {text}");
+        damage.packet(&base, packet).map_err(fault)?;
         let ours = libtheora.feed(packet).map_err(fault)?;
         let bases = base.feed(packet).map_err(fault)?;
         may_drift = bases.kind != Kind::Intra && (may_drift || ours.records != bases.records);

@@ -12,6 +12,11 @@ const EDGES: [u64; 16] = [
 pub fn sound(random: &mut Random) -> Fields {
     let fmbw = frame_side(random);
     let fmbh = frame_side(random);
+    of_size(random, fmbw, fmbh)
+}
+
+/// Sound fields of a frame of so many macro blocks.
+pub fn of_size(random: &mut Random, fmbw: u64, fmbh: u64) -> Fields {
     let (picw, picx) = picture_side(random, 16 * fmbw);
     let (pich, picy) = picture_side(random, 16 * fmbh);
     Fields {

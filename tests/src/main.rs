@@ -5,11 +5,14 @@
 
 mod bit_writer;
 mod check;
+mod damage;
 mod decoded;
 mod fields;
+mod frame_calls;
+mod frames;
+mod generate;
 mod orders;
 mod packets;
-mod parts;
 mod random;
 mod reference;
 mod sessions;
@@ -17,6 +20,8 @@ mod setup_header;
 mod setups;
 mod streams;
 mod tables;
+mod wild;
+mod written;
 
 use check::Difference;
 use random::Random;
@@ -25,8 +30,8 @@ use std::time::Instant;
 
 const USAGE: &str = "\
 usage: compare [--packets N] [--sessions N] [--orders MAX] [--setups N]
-               [--tables N] [--matrices N] [--parts N] [--seed S]
-               [--stream FILE.. | --decode FILE.. | --time]
+               [--tables N] [--matrices N] [--frames N] [--seed S]
+               [--stream FILE.. | --decode FILE.. | --wild FILE..]
 
   --packets N   identification headers: valid, faulty, damaged, cut, extended (1000000)
   --sessions N  sessions, sound and not, each with every call on a session (500000)
@@ -34,16 +39,17 @@ usage: compare [--packets N] [--sessions N] [--orders MAX] [--setups N]
   --setups N    setup headers: valid, damaged, cut, extended (20000)
   --tables N    table memories: genuine, changed, random (12000)
   --matrices N  table memories of which every limit and matrix is compared (10)
-  --parts N     frames made of random block data, and the parts of making one
-                on their extremes and on random values (2000)
+  --frames N    frame packets of small frames, by the independent implementation
+                alone: valid, damaged, cut, extended (20000)
   --seed S      where the random numbers start (1)
   --stream FILE..
                 nothing but recordings: their headers, and what the texts beside
                 them (tests/streams/README.md) say; comes last
   --decode FILE..
                 nothing but recordings, decoded by the independent implementation
-                alone: every frame must be libtheora's; comes last
-  --time        nothing but how long each part of making a frame takes
+                alone: every frame must be libtheora's; damaged packets; comes last
+  --wild FILE.. compares nothing: writes packet files of random frames, for
+                libtheora to decode; comes last
 ";
 
 /// With fewer packets it is no fault if some refusal was not met.
@@ -57,14 +63,21 @@ struct Options {
     setups: u64,
     tables: u64,
     matrices: u64,
-    parts: u64,
+    frames: u64,
     seed: u64,
-    /// The parts are timed in place of all else.
-    time: bool,
-    /// Recordings, to be compared in place of all else.
-    streams: Vec<String>,
-    /// Recordings, to be decoded in place of all else.
-    decode: Vec<String>,
+    /// What is done in place of all else.
+    instead: Option<Instead>,
+}
+
+/// What is done with recordings.
+#[derive(Debug, PartialEq, Eq)]
+enum Instead {
+    /// Their headers are compared.
+    Headers(Vec<String>),
+    /// They are decoded.
+    Decode(Vec<String>),
+    /// They are written.
+    Wild(Vec<String>),
 }
 
 impl Default for Options {
@@ -76,11 +89,9 @@ impl Default for Options {
             setups: 20_000,
             tables: 12_000,
             matrices: 10,
-            parts: 2_000,
+            frames: 20_000,
             seed: 1,
-            time: false,
-            streams: Vec::new(),
-            decode: Vec::new(),
+            instead: None,
         }
     }
 }
@@ -94,10 +105,6 @@ fn main() -> ExitCode {
             return ExitCode::from(2);
         }
     };
-    if options.time {
-        parts::time::time(&mut Random::new(options.seed));
-        return ExitCode::SUCCESS;
-    }
     match compare(&options) {
         Ok(()) => {
             println!("no difference");
@@ -115,20 +122,19 @@ fn options(words: &[String]) -> Result<Options, String> {
     let mut options = Options::default();
     let mut words = words.iter();
     while let Some(name) = words.next() {
-        if name == "--stream" || name == "--decode" {
+        let instead = match name.as_str() {
+            "--stream" => Some(Instead::Headers as fn(_) -> _),
+            "--decode" => Some(Instead::Decode as fn(_) -> _),
+            "--wild" => Some(Instead::Wild as fn(_) -> _),
+            _ => None,
+        };
+        if let Some(instead) = instead {
             let files: Vec<String> = words.cloned().collect();
             if files.is_empty() {
                 return Err(format!("{name}: recordings must follow"));
             }
-            match name.as_str() {
-                "--stream" => options.streams = files,
-                _ => options.decode = files,
-            }
+            options.instead = Some(instead(files));
             break;
-        }
-        if name == "--time" {
-            options.time = true;
-            continue;
         }
         let value = words.next().and_then(|word| word.parse().ok());
         let value = value.ok_or_else(|| format!("{name}: a number must follow"))?;
@@ -140,7 +146,7 @@ fn options(words: &[String]) -> Result<Options, String> {
             "--setups" => options.setups = value,
             "--tables" => options.tables = value,
             "--matrices" => options.matrices = value,
-            "--parts" => options.parts = value,
+            "--frames" => options.frames = value,
             "--seed" => options.seed = value,
             _ => return Err(format!("{name}: no such option")),
         }
@@ -150,18 +156,18 @@ fn options(words: &[String]) -> Result<Options, String> {
 
 /// Compares all and prints what was compared.
 fn compare(options: &Options) -> Result<(), String> {
-    if !options.streams.is_empty() {
-        return streams::compare(&options.streams);
-    }
-    if !options.decode.is_empty() {
-        return decoded::compare(&options.decode);
+    match &options.instead {
+        Some(Instead::Headers(files)) => return streams::compare(files),
+        Some(Instead::Decode(files)) => return decoded::compare(files),
+        Some(Instead::Wild(files)) => return wild::write(files, options.seed),
+        None => {}
     }
     println!("seed {}", options.seed);
     let mut random = Random::new(options.seed);
     compare_packets(&mut random, options)?;
     compare_sessions(&mut random, options)?;
     compare_setups(&mut random, options)?;
-    compare_parts(&mut random, options)
+    compare_frames(&mut random, options)
 }
 
 /// Prints a heading with the time that was taken.
@@ -227,13 +233,13 @@ fn compare_setups(random: &mut Random, options: &Options) -> Result<(), String> 
     Ok(())
 }
 
-/// The parts of making a frame.
-fn compare_parts(random: &mut Random, options: &Options) -> Result<(), String> {
+/// Frame packets.
+fn compare_frames(random: &mut Random, options: &Options) -> Result<(), String> {
     let start = Instant::now();
-    let report = parts::compare(random, options.parts).map_err(text)?;
-    heading("parts of making a frame", start);
+    let report = frames::compare(random, options.frames)?;
+    heading("frame packets", start);
     println!("{report}");
-    all_tried(&report.missed(), 50 * options.parts)
+    all_tried(&report.missed(), options.frames)
 }
 
 #[cfg(test)]
@@ -257,12 +263,11 @@ mod tests {
         assert!(options(&words("--what 1")).is_err());
         assert!(options(&words("--stream")).is_err());
         assert!(options(&words("--decode")).is_err());
-        let read = options(&words("--seed 2 --stream a b")).ok();
-        assert_eq!(read.map(|o| o.streams), Some(words("a b")));
-        let read = options(&words("--time --seed 3")).ok();
-        assert_eq!(read.map(|o| (o.time, o.seed)), Some((true, 3)));
-        let read = options(&words("--decode a")).ok();
-        assert_eq!(read.map(|o| o.decode), Some(words("a")));
+        let instead = |text| options(&words(text)).ok().and_then(|o| o.instead);
+        let headers = Instead::Headers(words("a b"));
+        assert_eq!(instead("--seed 2 --stream a b"), Some(headers));
+        assert_eq!(instead("--decode a"), Some(Instead::Decode(words("a"))));
+        assert_eq!(instead("--wild a"), Some(Instead::Wild(words("a"))));
     }
 
     #[test]
@@ -274,7 +279,7 @@ mod tests {
             setups: 800,
             tables: 800,
             matrices: 1,
-            parts: 20,
+            frames: 500,
             seed: 11,
             ..Options::default()
         };

@@ -2,6 +2,7 @@
 
 use crate::bit_writer::BitWriter;
 use crate::check::{Difference, Tally};
+use crate::damage::{Packet, cut_anywhere, damage_bit, damage_byte, extend, random_tail};
 use crate::fields;
 use crate::random::Random;
 use crate::reference::bits::Fault;
@@ -12,19 +13,6 @@ use std::fmt;
 
 /// How many bytes a header has.
 const HEADER_BYTES: usize = 42;
-
-/// A packet at the start of a longer buffer. What follows a cut packet is its
-/// rest, so that a reader that looks past the end is found out.
-struct Packet {
-    buffer: Vec<u8>,
-    length: usize,
-}
-
-impl Packet {
-    fn bytes(&self) -> &[u8] {
-        &self.buffer[..self.length]
-    }
-}
 
 /// A header before it is written as bits.
 struct Header {
@@ -79,6 +67,16 @@ impl Header {
     }
 }
 
+/// The header of these fields.
+pub fn header_of(fields: &Fields) -> Vec<u8> {
+    let header = Header {
+        common: *b"\x80theora\x03\x02",
+        fields: fields.clone(),
+        last_bits: 0,
+    };
+    header.bytes()
+}
+
 /// A number above a limit, within a width.
 fn above(random: &mut Random, limit: u64, width: u32) -> u64 {
     let last = (1 << width) - 1;
@@ -110,63 +108,27 @@ fn packet(random: &mut Random) -> Packet {
         0..4 => {}
         4 => damage_bit(random, &mut buffer),
         5 => damage_byte(random, &mut buffer),
-        6..9 => extend(random, &mut buffer),
-        9..12 => return cut(random, buffer),
+        6..9 => extend(random, &mut buffer, 40),
+        9..12 => return cut_anywhere(random, buffer),
         12 => {
             damage_bit(random, &mut buffer);
-            return cut(random, buffer);
+            return cut_anywhere(random, buffer);
         }
-        13 => return random_tail(random, buffer),
+        13 => random_tail(random, &mut buffer),
         14 => return random_packet(random),
         _ => {
             buffer = b"\x81theora".to_vec();
-            extend(random, &mut buffer);
+            extend(random, &mut buffer, 40);
         }
     }
-    let length = buffer.len();
-    Packet { buffer, length }
-}
-
-/// Flips one bit.
-fn damage_bit(random: &mut Random, bytes: &mut [u8]) {
-    let index = random.index(bytes.len());
-    bytes[index] ^= 1 << random.below(8);
-}
-
-/// Changes one byte.
-fn damage_byte(random: &mut Random, bytes: &mut [u8]) {
-    let index = random.index(bytes.len());
-    bytes[index] = random.byte();
-}
-
-/// Appends random bytes.
-fn extend(random: &mut Random, bytes: &mut Vec<u8>) {
-    for _ in 0..1 + random.below(40) {
-        bytes.push(random.byte());
-    }
-}
-
-/// Cuts a header at any length from 0 to 42 bytes.
-fn cut(random: &mut Random, buffer: Vec<u8>) -> Packet {
-    let length = random.index(HEADER_BYTES + 1);
-    Packet { buffer, length }
-}
-
-/// Keeps the beginning of a header and makes the rest random.
-fn random_tail(random: &mut Random, mut buffer: Vec<u8>) -> Packet {
-    let kept = random.index(HEADER_BYTES);
-    for byte in &mut buffer[kept..] {
-        *byte = random.byte();
-    }
-    let length = HEADER_BYTES;
-    Packet { buffer, length }
+    Packet::whole(buffer)
 }
 
 /// Random bytes, sometimes none.
 fn random_packet(random: &mut Random) -> Packet {
     let buffer: Vec<u8> = (0..128).map(|_| random.byte()).collect();
     let length = random.index(101);
-    Packet { buffer, length }
+    Packet::cut(buffer, length)
 }
 
 /// What was compared.

@@ -1,53 +1,11 @@
 //! Random setup headers over the whole range of what can be sent, and some
 //! that cannot.
 
-use crate::bit_writer::BitWriter;
 use crate::random::Random;
 use crate::reference::setup::Field;
-use std::collections::BTreeMap;
-
-/// Where a field lies in a written header.
-#[derive(Clone, Copy, Debug)]
-pub struct Place {
-    /// Its first bit.
-    pub first: u64,
-    /// How many bits it has.
-    pub width: u32,
-}
 
 /// A header's bits and where its fields lie.
-#[derive(Clone, Debug, Default)]
-pub struct Written {
-    bits: BitWriter,
-    places: BTreeMap<Field, Vec<Place>>,
-}
-
-impl Written {
-    /// The header's bytes, the last one filled up with zeros.
-    pub fn bytes(&self) -> &[u8] {
-        self.bits.bytes()
-    }
-
-    /// How many bits it has.
-    pub fn length(&self) -> u64 {
-        self.bits.length()
-    }
-
-    /// The place of some field: each kind of field is as likely as any other.
-    pub fn pick(&self, random: &mut Random) -> Place {
-        let kind = random.index(self.places.len());
-        let places = self.places.values().nth(kind);
-        random.pick(places.expect("there are so many kinds"))
-    }
-
-    /// Appends a field.
-    fn put(&mut self, field: Field, value: u64, width: u32) {
-        let first = self.bits.length();
-        let places = self.places.entry(field).or_default();
-        places.push(Place { first, width });
-        self.bits.put(value, width);
-    }
-}
+pub type Written = crate::written::Written<Field>;
 
 /// A tree, depth first: a token for a leaf, none for a branch.
 type Tree = Vec<Option<u64>>;
@@ -77,8 +35,24 @@ enum Shape {
     Any,
 }
 
+/// Which trees a header has.
+#[derive(Clone, Copy, PartialEq, Eq)]
+pub enum Trees {
+    /// Any within the limits.
+    Any,
+    /// Of 32 leaves, one for each token.
+    Full,
+    /// Lone leaves.
+    Lone,
+}
+
 /// Writes a random header that is accepted. `small` ones have few bits.
 pub fn accepted(random: &mut Random, small: bool) -> Written {
+    accepted_with(random, small, Trees::Any)
+}
+
+/// The same with trees of one kind.
+pub fn accepted_with(random: &mut Random, small: bool, trees: Trees) -> Written {
     let nbms = if small {
         1 + random.below(3)
     } else {
@@ -89,7 +63,12 @@ pub fn accepted(random: &mut Random, small: bool) -> Written {
         put_set(&mut written, number, set, nbms);
     }
     for _ in 0..80 {
-        put_tree(&mut written, &good_tree(random, small));
+        let tree = match trees {
+            Trees::Any => good_tree(random, small),
+            Trees::Full => full_tree(random),
+            Trees::Lone => vec![Some(random.below(32))],
+        };
+        put_tree(&mut written, &tree);
     }
     written
 }
@@ -117,7 +96,7 @@ pub fn with_bad_tree(random: &mut Random) -> Written {
 
 /// Writes a header up to its sets of quant ranges.
 fn begin(random: &mut Random, small: bool, nbms: u64) -> Written {
-    let mut written = Written::default();
+    let mut written = Written::new();
     written.put(Field::TypeByte, 0x82, 8);
     for letter in *b"theora" {
         written.put(Field::Letter, u64::from(letter), 8);
@@ -258,6 +237,11 @@ fn good_tree(random: &mut Random, small: bool) -> Tree {
     } else {
         leaves
     };
+    any_shape(random, leaves)
+}
+
+/// A tree of so many leaves.
+fn any_shape(random: &mut Random, leaves: u64) -> Tree {
     let shape = random.pick(&[
         Shape::Right,
         Shape::Left,
@@ -268,6 +252,16 @@ fn good_tree(random: &mut Random, small: bool) -> Tree {
     ]);
     let mut tree = Vec::new();
     grow(random, &mut tree, shape, leaves);
+    tree
+}
+
+/// A tree with every token once.
+fn full_tree(random: &mut Random) -> Tree {
+    let mut tokens: Vec<u64> = (0..32).collect();
+    let mut tree = any_shape(random, 32);
+    for token in tree.iter_mut().flatten() {
+        *token = tokens.swap_remove(random.index(tokens.len()));
+    }
     tree
 }
 
@@ -331,6 +325,21 @@ mod tests {
             let written = accepted(&mut random, number % 3 == 0);
             let read = setup(written.bytes()).unwrap();
             assert_eq!(read.bits, written.length());
+        }
+    }
+
+    #[test]
+    fn trees_of_one_kind() {
+        let mut random = Random::new(6);
+        for _ in 0..30 {
+            let full = accepted_with(&mut random, false, Trees::Full);
+            for mut codes in setup(full.bytes()).unwrap().codes {
+                codes.sort_by_key(|code| code.token);
+                assert!((0..32).eq(codes.iter().map(|code| code.token)));
+            }
+            let lone = accepted_with(&mut random, true, Trees::Lone);
+            let codes = setup(lone.bytes()).unwrap().codes;
+            assert!(codes.iter().all(|codes| codes.len() == 1));
         }
     }
 

@@ -3,6 +3,9 @@
 
 use crate::bit_writer::overwrite;
 use crate::check::{Difference, SETUP, Tally, long_hex};
+use crate::damage::{
+    Packet, cut_anywhere, cut_in_field, damage_bit, damage_byte, extend, random_tail,
+};
 use crate::random::Random;
 use crate::reference::setup::{Field, Setup, SetupFault, setup};
 use crate::reference::table_memory::{TABLE_BYTES, left_by};
@@ -19,25 +22,6 @@ const LONGEST: usize = 2 * TABLE_BYTES;
 
 /// How many packets are made of one header.
 const PACKETS_OF_A_HEADER: u64 = 16;
-
-/// A packet at the start of a longer buffer: what follows a cut packet is its
-/// rest.
-struct Packet {
-    buffer: Vec<u8>,
-    length: usize,
-}
-
-impl Packet {
-    /// A whole buffer.
-    fn whole(buffer: Vec<u8>) -> Packet {
-        let length = buffer.len();
-        Packet { buffer, length }
-    }
-
-    fn bytes(&self) -> &[u8] {
-        &self.buffer[..self.length]
-    }
-}
 
 /// What was compared.
 pub struct Report {
@@ -314,7 +298,11 @@ fn packet(random: &mut Random, written: &Written) -> Packet {
             return cut_in_field(random, written, buffer);
         }
         12 => return cut_anywhere(random, buffer),
-        13 => extend(random, &mut buffer),
+        13 => {
+            // Sometimes past the length of table memory.
+            let most = if random.once_in(16) { 30_000 } else { 40 };
+            extend(random, &mut buffer, most);
+        }
         14 => random_tail(random, &mut buffer),
         _ if random.once_in(4) => buffer = random_packet(random),
         _ => {
@@ -323,18 +311,6 @@ fn packet(random: &mut Random, written: &Written) -> Packet {
         }
     }
     Packet::whole(buffer)
-}
-
-/// Flips one bit.
-pub fn damage_bit(random: &mut Random, bytes: &mut [u8]) {
-    let index = random.index(bytes.len());
-    bytes[index] ^= 1 << random.below(8);
-}
-
-/// Changes one byte.
-fn damage_byte(random: &mut Random, bytes: &mut [u8]) {
-    let index = random.index(bytes.len());
-    bytes[index] = random.byte();
 }
 
 /// Gives one field another value: the greatest, the least, or any.
@@ -347,32 +323,6 @@ fn damage_field(random: &mut Random, written: &Written, bytes: &mut [u8]) {
         _ => random.up_to(last),
     };
     overwrite(bytes, place.first, place.width, value);
-}
-
-/// Cuts so that a field passes the end, if one of its bits begins a byte.
-fn cut_in_field(random: &mut Random, written: &Written, buffer: Vec<u8>) -> Packet {
-    let length = written.pick(random).first.div_ceil(8) as usize;
-    Packet { buffer, length }
-}
-
-/// Cuts at any length.
-fn cut_anywhere(random: &mut Random, buffer: Vec<u8>) -> Packet {
-    let length = random.index(buffer.len() + 1);
-    Packet { buffer, length }
-}
-
-/// Appends random bytes, sometimes past the length of table memory.
-fn extend(random: &mut Random, bytes: &mut Vec<u8>) {
-    let more = if random.once_in(16) { 30_000 } else { 40 };
-    for _ in 0..1 + random.below(more) {
-        bytes.push(random.byte());
-    }
-}
-
-/// Makes all random from some place on.
-fn random_tail(random: &mut Random, bytes: &mut [u8]) {
-    let kept = random.index(bytes.len());
-    bytes[kept..].fill_with(|| random.byte());
 }
 
 /// Random bytes, sometimes behind a good beginning.

@@ -2,6 +2,7 @@
 //! implementation, and what libtheora says of them in the text beside each.
 
 use crate::check::{Difference, Tally};
+use crate::damage::damage_bit;
 use crate::packets;
 use crate::random::Random;
 use crate::reference::identification::identification;
@@ -96,7 +97,7 @@ impl Run {
         setups::every_cut(&mut self.setups, packet)?;
         for _ in 0..DAMAGES {
             let mut damaged = packet.to_vec();
-            setups::damage_bit(&mut self.random, &mut damaged);
+            damage_bit(&mut self.random, &mut damaged);
             self.setups.compare(&damaged)?;
         }
         Ok(())

@@ -2,6 +2,7 @@
  * What libtheora makes of a recording, as text (see README.md):
  *
  *   decode RECORDING.ogv
+ *   decode FILE.packets
  */
 #include "hash.h"
 
@@ -9,6 +10,7 @@
 #include <ogg/ogg.h>
 #include <stdio.h>
 #include <stdlib.h>
+#include <string.h>
 #include <theora/theoradec.h>
 
 static ogg_sync_state sync_state;
@@ -128,21 +130,31 @@ static void take_page(ogg_page *page)
     }
 }
 
-int main(int count, char **words)
+/* A packet file: each packet as its length (4 bytes, the least significant first) and its bytes. */
+static void take_packet_file(FILE *in)
 {
-    FILE *in;
+    unsigned char length[4];
+    while (fread(length, 1, 4, in) == 4) {
+        ogg_packet packet = {0};
+        packet.bytes = (long)length[0] | (long)length[1] << 8 | (long)length[2] << 16 | (long)length[3] << 24;
+        packet.packet = malloc((size_t)packet.bytes + 1);
+        packet.b_o_s = packets == 0;
+        packet.granulepos = -1;
+        packet.packetno = packets;
+        if (packet.packet == NULL ||
+            fread(packet.packet, 1, (size_t)packet.bytes, in) != (size_t)packet.bytes) {
+            fail("a packet is cut");
+        }
+        take_packet(&packet);
+        free(packet.packet);
+    }
+}
+
+static void take_recording(FILE *in)
+{
     ogg_page page;
     size_t got;
-    if (count != 2) {
-        fail("usage: decode RECORDING.ogv");
-    }
-    in = fopen(words[1], "rb");
-    if (in == NULL) {
-        fail(words[1]);
-    }
     ogg_sync_init(&sync_state);
-    th_info_init(&info);
-    th_comment_init(&comment);
     do {
         char *buffer = ogg_sync_buffer(&sync_state, 65536);
         got = fread(buffer, 1, 65536, in);
@@ -151,15 +163,36 @@ int main(int count, char **words)
             take_page(&page);
         }
     } while (got > 0);
+    if (have_stream) {
+        ogg_stream_clear(&stream);
+    }
+    ogg_sync_clear(&sync_state);
+}
+
+int main(int count, char **words)
+{
+    FILE *in;
+    const char *ending;
+    if (count != 2) {
+        fail("usage: decode RECORDING.ogv | FILE.packets");
+    }
+    in = fopen(words[1], "rb");
+    if (in == NULL) {
+        fail(words[1]);
+    }
+    th_info_init(&info);
+    th_comment_init(&comment);
+    ending = strrchr(words[1], '.');
+    if (ending != NULL && strcmp(ending, ".packets") == 0) {
+        take_packet_file(in);
+    } else {
+        take_recording(in);
+    }
     fclose(in);
     th_decode_free(decoder);
     th_setup_free(setup);
     th_comment_clear(&comment);
     th_info_clear(&info);
-    if (have_stream) {
-        ogg_stream_clear(&stream);
-    }
-    ogg_sync_clear(&sync_state);
     if (packets < 3) {
         fail("no Theora stream");
     }

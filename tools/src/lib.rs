@@ -1,11 +1,12 @@
 //! Recordings as sequences of packets: Ogg files and plain packet files.
 
+pub mod hash;
 pub mod ogg;
 pub mod packet_file;
 
 use ogg::TheoraPackets;
 use std::fmt;
-use std::io::Read;
+use std::io::{Chain, Cursor, Read};
 
 /// Why a recording gives no packets.
 #[derive(Debug)]
@@ -25,24 +26,69 @@ impl fmt::Display for Fault {
     }
 }
 
-/// All packets of a recording's Theora stream. A recording that begins with
-/// "OggS" is an Ogg file, any other a packet file.
+impl Fault {
+    /// Whether the recording could not be read, rather than being damaged.
+    pub fn is_read_error(&self) -> bool {
+        matches!(
+            self,
+            Fault::Ogg(ogg::Fault::Read(_)) | Fault::PacketFile(packet_file::Fault::Read(_))
+        )
+    }
+}
+
+/// A recording whose first bytes were looked at.
+type Begun<R> = Chain<Cursor<Vec<u8>>, R>;
+
+/// Gives the packets of a recording's Theora stream, one by one. After a fault
+/// there are no more.
+pub enum Packets<R> {
+    /// Those of an Ogg file.
+    Ogg(TheoraPackets<Begun<R>>),
+    /// Those of a packet file.
+    PacketFile(packet_file::Packets<Begun<R>>),
+}
+
+impl<R: Read> Packets<R> {
+    /// Reads a recording from its beginning. One that begins with "OggS" is an
+    /// Ogg file, any other a packet file.
+    ///
+    /// # Errors
+    ///
+    /// The recording cannot be read.
+    pub fn new(mut recording: R) -> Result<Packets<R>, Fault> {
+        let mut first = Vec::new();
+        recording
+            .by_ref()
+            .take(4)
+            .read_to_end(&mut first)
+            .map_err(|error| Fault::Ogg(ogg::Fault::Read(error)))?;
+        let is_ogg = first == b"OggS";
+        let begun = Cursor::new(first).chain(recording);
+        Ok(match is_ogg {
+            true => Packets::Ogg(TheoraPackets::new(begun)),
+            false => Packets::PacketFile(packet_file::Packets::new(begun)),
+        })
+    }
+}
+
+impl<R: Read> Iterator for Packets<R> {
+    type Item = Result<Vec<u8>, Fault>;
+
+    fn next(&mut self) -> Option<Self::Item> {
+        match self {
+            Packets::Ogg(packets) => Some(packets.next()?.map_err(Fault::Ogg)),
+            Packets::PacketFile(packets) => Some(packets.next()?.map_err(Fault::PacketFile)),
+        }
+    }
+}
+
+/// All packets of a recording's Theora stream.
 ///
 /// # Errors
 ///
 /// The first fault of the recording.
-pub fn packets(mut recording: impl Read) -> Result<Vec<Vec<u8>>, Fault> {
-    let mut bytes = Vec::new();
-    recording
-        .read_to_end(&mut bytes)
-        .map_err(|error| Fault::Ogg(ogg::Fault::Read(error)))?;
-    if bytes.starts_with(b"OggS") {
-        TheoraPackets::new(&bytes[..])
-            .collect::<Result<_, _>>()
-            .map_err(Fault::Ogg)
-    } else {
-        packet_file::read(&bytes).map_err(Fault::PacketFile)
-    }
+pub fn packets(recording: impl Read) -> Result<Vec<Vec<u8>>, Fault> {
+    Packets::new(recording)?.collect()
 }
 
 #[cfg(test)]
@@ -52,10 +98,12 @@ mod tests {
     #[test]
     fn both_kinds_are_read() {
         let wanted = [b"\x80theora".to_vec()];
-        let ogg = ogg::recording(1, &wanted[0]);
+        let ogg = ogg::write(1, &[(wanted[0].clone(), 0)]);
         assert_eq!(packets(&ogg[..]).unwrap(), wanted);
         let file = packet_file::write(&wanted);
         assert_eq!(packets(&file[..]).unwrap(), wanted);
         assert!(packets(&b"RIFF"[..]).is_err());
+        assert!(packets(&b""[..]).unwrap().is_empty());
+        assert!(!packets(&b"Og"[..]).unwrap_err().is_read_error());
     }
 }

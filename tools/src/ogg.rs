@@ -276,7 +276,7 @@ impl<R: Read> Pages<R> {
             return Err(Fault::Version(self.place));
         }
         let lacing = self.bytes(usize::from(header[26]))?;
-        let body = self.bytes(lacing.iter().map(|value| usize::from(*value)).sum())?;
+        let body = self.bytes(body_length(&lacing))?;
         if number(&header[22..26]) != page_checksum(&header, &lacing, &body) {
             return Err(Fault::Checksum(self.place));
         }
@@ -342,17 +342,80 @@ fn checksum(sum: u32, bytes: &[u8]) -> u32 {
     })
 }
 
-/// A recording of one logical stream with one short packet, below 255 bytes.
-pub fn recording(serial: u32, packet: &[u8]) -> Vec<u8> {
+/// A recording of one logical stream: its packets, each with the granule
+/// position of the page that it ends on. Every packet begins a page.
+pub fn write(serial: u32, packets: &[(Vec<u8>, u64)]) -> Vec<u8> {
+    let mut writer = PageWriter {
+        serial,
+        number: 0,
+        recording: Vec::new(),
+    };
+    for (i, (packet, granule)) in packets.iter().enumerate() {
+        let first = if i == 0 { FIRST } else { 0 };
+        let last = if i + 1 == packets.len() { LAST } else { 0 };
+        writer.packet(packet, *granule, first, last);
+    }
+    writer.recording
+}
+
+/// Writes the pages of one logical stream.
+struct PageWriter {
+    serial: u32,
+    /// The number of the next page.
+    number: u32,
+    recording: Vec<u8>,
+}
+
+impl PageWriter {
+    /// Writes a packet; the flags are for the first and for the last of its pages.
+    fn packet(&mut self, packet: &[u8], granule: u64, first: u8, last: u8) {
+        let lacing = lacing_values(packet.len());
+        let pages = lacing.chunks(PAGE_VALUES).count();
+        let mut rest = packet;
+        for (i, part) in lacing.chunks(PAGE_VALUES).enumerate() {
+            let (body, after) = rest.split_at(body_length(part));
+            rest = after;
+            let begins = if i == 0 { first } else { CONTINUED };
+            // A page on which no packet ends has the position −1.
+            let (ends, granule) = if i + 1 == pages {
+                (last, granule)
+            } else {
+                (0, u64::MAX)
+            };
+            let page = page(begins | ends, granule, self.serial, self.number, part, body);
+            self.recording.extend(page);
+            self.number += 1;
+        }
+    }
+}
+
+/// How many lacing values a page has at most.
+const PAGE_VALUES: usize = 255;
+
+/// The lacing values of a packet: the last is below 255.
+fn lacing_values(length: usize) -> Vec<u8> {
+    let mut values = vec![255; length / 255];
+    values.push((length % 255) as u8);
+    values
+}
+
+/// How many bytes stand behind these lacing values.
+fn body_length(lacing: &[u8]) -> usize {
+    lacing.iter().map(|value| usize::from(*value)).sum()
+}
+
+/// A page.
+fn page(flags: u8, granule: u64, serial: u32, number: u32, lacing: &[u8], body: &[u8]) -> Vec<u8> {
     let mut header = [0; PAGE_HEADER];
     header[..4].copy_from_slice(b"OggS");
-    header[5] = FIRST | LAST;
+    header[5] = flags;
+    header[6..14].copy_from_slice(&granule.to_le_bytes());
     header[14..18].copy_from_slice(&serial.to_le_bytes());
-    header[26] = 1;
-    let lacing = [packet.len() as u8];
-    let sum = page_checksum(&header, &lacing, packet);
+    header[18..22].copy_from_slice(&number.to_le_bytes());
+    header[26] = lacing.len() as u8;
+    let sum = page_checksum(&header, lacing, body);
     header[22..26].copy_from_slice(&sum.to_le_bytes());
-    [&header[..], &lacing, packet].concat()
+    [&header[..], lacing, body].concat()
 }
 
 #[cfg(test)]
@@ -361,14 +424,12 @@ mod tests {
 
     /// A page with any flags, lacing values and body.
     fn page(flags: u8, serial: u32, lacing: &[u8], body: &[u8]) -> Vec<u8> {
-        let mut header = [0; PAGE_HEADER];
-        header[..4].copy_from_slice(b"OggS");
-        header[5] = flags;
-        header[14..18].copy_from_slice(&serial.to_le_bytes());
-        header[26] = lacing.len() as u8;
-        let sum = page_checksum(&header, lacing, body);
-        header[22..26].copy_from_slice(&sum.to_le_bytes());
-        [&header[..], lacing, body].concat()
+        super::page(flags, 0, serial, 0, lacing, body)
+    }
+
+    /// A recording of one packet.
+    fn recording(serial: u32, packet: &[u8]) -> Vec<u8> {
+        write(serial, &[(packet.to_vec(), 0)])
     }
 
     fn packets(bytes: &[u8]) -> Vec<Result<FirstPacket, Fault>> {
@@ -392,6 +453,18 @@ mod tests {
     fn own_recordings_read_back() {
         let bytes = recording(7, b"abc");
         assert_eq!(good(&bytes), [(7, b"abc".to_vec())]);
+    }
+
+    #[test]
+    fn packets_of_every_length_read_back() {
+        let lengths = [0, 1, 254, 255, 256, 65024, 65025, 65026, 200_000];
+        let first = b"\x80theora".to_vec();
+        let rest = lengths.map(|length| (0..length).map(|i| i as u8).collect());
+        let wanted: Vec<Vec<u8>> = [first].into_iter().chain(rest).collect();
+        let written: Vec<_> = wanted.iter().map(|packet| (packet.clone(), 3)).collect();
+        let (packets, fault) = theora(&write(5, &written));
+        assert!(fault.is_none());
+        assert_eq!(packets, wanted);
     }
 
     #[test]

@@ -1,14 +1,17 @@
 //! What `wedgepetal info` prints of a recording.
 
 use std::fmt::{self, Write};
-use wedgepetal::{Session, Sizes};
+use wedgepetal::lists::TABLE_BYTES;
+use wedgepetal::{Session, Sizes, WorkLengths};
 
-/// The fields and sizes of a session as text.
-pub fn report(session: &Session, sizes: &Sizes) -> String {
+/// The fields of a session, the sizes of its frames, and the memory that
+/// decoding them takes, as text.
+pub fn report(session: &Session, sizes: &Sizes, lengths: &WorkLengths) -> String {
     let mut text = String::new();
     // Writing to a string does not fail.
     let _ = write_fields(&mut text, session);
     let _ = write_sizes(&mut text, sizes);
+    let _ = write_memory(&mut text, sizes, lengths);
     text
 }
 
@@ -79,4 +82,12 @@ fn write_sizes(out: &mut String, sizes: &Sizes) -> fmt::Result {
         )?;
     }
     Ok(())
+}
+
+/// What a decoder is lent, in bytes.
+fn write_memory(out: &mut String, sizes: &Sizes, lengths: &WorkLengths) -> fmt::Result {
+    writeln!(out, "bytes that decoding takes")?;
+    writeln!(out, "  three buffers         {}", 3 * sizes.buffer)?;
+    writeln!(out, "  work memory           {}", lengths.bytes)?;
+    writeln!(out, "  table memory          {TABLE_BYTES}")
 }

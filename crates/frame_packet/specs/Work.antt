@@ -76,39 +76,10 @@ module _ (f : PixelFormat) (w h : ℕ) where
     active = replicate (blocksOf f w h) 0;
   }
 
-  -- what the readers leave: what was read, with zeros behind it, and behind the elements of the coded blocks in bits and active; the rest of the scratch is open
-  pub record LeftBy (b : Body) (m : Work) : Type 0 where
-    pub records : m .records ≡ map packed (b .records)
-    pub coded : m .coded ≡ padded 0 (blocksOf f w h) (b .coded)
-    pub coefs : m .coefs ≡ padded (pos 0) (64 * blocksOf f w h) (b .tokens .coefs)
-    pub lasts : m .lasts ≡ padded 0 (blocksOf f w h) (b .tokens .lasts)
-    pub bits : drop (length (b .coded)) (m .bits) ≡ replicate (blocksOf f w h - length (b .coded)) 0
-    pub active : drop (length (b .coded)) (m .active) ≡ replicate (blocksOf f w h - length (b .coded)) 0
-
-  -- after a refusal all is open
-  abbrev pub Left : Work → Outcome Body → Type 0
-  Left m (got b e) = LeftBy b m
-  Left m (refused k e) = Unit {0}
-
-  -- the same of the flags, with the list of the coded blocks and the records of all
-  abbrev pub asCoded : Outcome (List ℕ) → CodedRead
-  asCoded (got flags e) = coded.Listed (length (codedBlocks f w h flags)) (codedLuma f w h flags) e
-  asCoded (refused k e) = coded.Refused k e
-
-  abbrev pub StoredCoded : (flags records coded : List ℕ) → Outcome (List ℕ) → Type 0
-  StoredCoded flags records coded (got l e) = (flags ≡ l) × (records ≡ map packed (codedRecords f w h l)) × (coded ≡ padded 0 (blocksOf f w h) (codedBlocks f w h l))
-  StoredCoded flags records coded (refused k e) = Unit {0}
-
   -- after a refusal all zero
   abbrev pub workAfter : Outcome Frame → Work
   workAfter (got fr e) = holding (fr .body)
   workAfter (refused k e) = clear
-
--- the same of the tokens, where there are n blocks, of which `count` are coded
-abbrev pub StoredTokens : (n count : ℕ) (coefs : List ℤ) (lasts bits active : List ℕ) → Outcome Tokens → Type 0
-StoredTokens n count coefs lasts bits active (got t e) =
-    (coefs ≡ padded (pos 0) (64 * n) (t .coefs)) × (lasts ≡ padded 0 n (t .lasts)) × (drop count bits ≡ replicate (n - count) 0) × (drop count active ≡ replicate (n - count) 0)
-StoredTokens n count coefs lasts bits active (refused k e) = Unit {0}
 
 -- the numbers of coded blocks and of tokens, and the place behind the packet
 abbrev pub asRead : Outcome Body → Read
@@ -119,3 +90,33 @@ asRead (refused k e) = Refused k e
 abbrev pub asFrame : Outcome Frame → FrameRead
 asFrame (got fr e) = record { read = asRead (got (fr .body) e); header = header.asHeader (fr .header) }
 asFrame (refused k e) = record { read = Refused k e; header = header.repeated }
+
+-- ---- what the inner functions answer and leave; after a refusal the slices are open
+-- behind the tokens, where there are n blocks, of which `count` are coded: what was read stands in front, and zeros behind it and behind the first `count` of bits and active
+abbrev pub StoredTokens : (n count : ℕ) (coefs : List ℤ) (lasts bits active : List ℕ) → Outcome Tokens → Type 0
+StoredTokens n count coefs lasts bits active (got t e) =
+    (coefs ≡ padded (pos 0) (64 * n) (t .coefs)) × (lasts ≡ padded 0 n (t .lasts)) × (drop count bits ≡ replicate (n - count) 0) × (drop count active ≡ replicate (n - count) 0)
+StoredTokens n count coefs lasts bits active (refused k e) = Unit {0}
+
+module _ (f : PixelFormat) (w h : ℕ) where
+  -- behind the flags: the numbers of coded blocks and of coded luma blocks; the flags, the records and the list of the coded blocks stand in the slices
+  abbrev pub asCoded : Outcome (List ℕ) → CodedRead
+  asCoded (got flags e) = coded.Listed (length (codedBlocks f w h flags)) (codedLuma f w h flags) e
+  asCoded (refused k e) = coded.Refused k e
+
+  abbrev pub StoredCoded : (flags records coded : List ℕ) → Outcome (List ℕ) → Type 0
+  StoredCoded flags records coded (got l e) = (flags ≡ l) × (records ≡ map packed (codedRecords f w h l)) × (coded ≡ padded 0 (blocksOf f w h) (codedBlocks f w h l))
+  StoredCoded flags records coded (refused k e) = Unit {0}
+
+  -- behind the body, before the scratch is cleared: what was read, with zeros behind it, and zeros behind the elements of the coded blocks in bits and active
+  pub record LeftBy (b : Body) (m : Work) : Type 0 where
+    pub records : m .records ≡ map packed (b .records)
+    pub coded : m .coded ≡ padded 0 (blocksOf f w h) (b .coded)
+    pub coefs : m .coefs ≡ padded (pos 0) (64 * blocksOf f w h) (b .tokens .coefs)
+    pub lasts : m .lasts ≡ padded 0 (blocksOf f w h) (b .tokens .lasts)
+    pub bits : drop (length (b .coded)) (m .bits) ≡ replicate (blocksOf f w h - length (b .coded)) 0
+    pub active : drop (length (b .coded)) (m .active) ≡ replicate (blocksOf f w h - length (b .coded)) 0
+
+  abbrev pub Left : Work → Outcome Body → Type 0
+  Left m (got b e) = LeftBy b m
+  Left m (refused k e) = Unit {0}

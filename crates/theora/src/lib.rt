@@ -1,232 +1,528 @@
 // The public face of the decoder.
-use geometry::Block;
+use frame_header::Header;
+use frame_header::Kind;
+use frame_packet::Read;
 use geometry::PixelFormat;
-use geometry::Place;
 use headers::Session;
 use setup::TableAnswer;
 ghost use mathlib.Core.Path.{_≡_};
-ghost use Prim.Native.Nat.{ℕ, _≤_, _<_};
-ghost use Rattle.geometry.specs.Frame.{block};
-ghost use Rattle.theora.specs.Orders.{hasBlock, blockAt, blockNumber, macroBlockAt, macroBlockNumber, macroBlockOf, sampleOffset, asBlock, asPlace, asNumber};
-ghost use Rattle.theora.specs.Setup.{tableLimit, matrixInto, asMatrix, leaving};
+ghost use mathlib.Core.Bool.{true};
+ghost use Prim.Native.Nat.{_*_, _≤_, _^_};
+ghost use lib.IntN.{pos};
+ghost use lib.ListN.{length, replicate};
+ghost use Rattle.bitstream.specs.Reading.{refused};
+ghost use Rattle.geometry.specs.Sizes.{blocksOf};
+ghost use Rattle.quantization.specs.Sound.{Held};
+ghost use Rattle.setup.specs.Header.{Setup};
+ghost use Rattle.setup.specs.Table.{tableBytes};
+ghost use Rattle.ways.specs.Ways.{firstWay};
+ghost use Rattle.reconstruct.specs.Lent.{blocksIn};
+ghost use Rattle.headers.specs.Fits.{sessionFits};
+ghost use Rattle.theora.specs.Memory.{memory, blocks, lengthsOf, workLengths, zeroed, cleared, lengthsFit};
+ghost use Rattle.theora.specs.Call.{state, call, done, readBy, read, sessionAfter, answerFor, decoded, byRules};
+ghost use Rattle.theora.specs.Made.{AllQi, AllLimits, HoldsSetup, SetupHeld, BlocksLent, MatricesAre, FrameIs};
 
-// A block; the frame has no such block; or the number of the refusal.
-pub enum BlockAnswer {
-    Is(Block),
-    Absent,
+// The published lengths of work memory's slices, in elements, and the bytes of all of them together.
+pub struct WorkLengths {
+    pub records: u64,
+    pub coded: u64,
+    pub coefs: u64,
+    pub dc: u64,
+    pub lasts: u64,
+    pub flags: u64,
+    pub bits: u64,
+    pub supers: u64,
+    pub modes: u64,
+    pub active: u64,
+    pub bytes: u64,
+}
+
+// These lengths, or number 8.
+pub enum WorkAnswer {
+    Is(WorkLengths),
     Refused(u32),
 }
 
-// The same of a macro block's place.
-pub enum PlaceAnswer {
-    Is(Place),
-    Absent,
+// An accepted frame, or the number of the refusal.
+pub enum Verdict {
+    Accepted,
     Refused(u32),
 }
 
-// The same of a number: a place in coded order, or an offset in a plane buffer.
-pub enum NumberAnswer {
-    Is(u64),
-    Absent,
-    Refused(u32),
+// A frame call's answer: beside a refusal the header is that of a repeat, and says nothing. The session is that for the next call.
+pub struct FrameAnswer {
+    pub verdict: Verdict,
+    pub header: Header,
+    pub session: Session,
 }
 
-// A quantization matrix stands in the slice that was lent; there is no such matrix; or the number of the refusal.
-pub enum MatrixAnswer {
-    Is,
-    Absent,
-    Refused(u32),
-}
-
-// Whether a frame of w by h macro blocks has block b.
-fn has_block(format: PixelFormat, w: u64, h: u64, b: Block) -> bool
-    requires { ⌜ (w ≤ 65535) × (h ≤ 65535) ⌝ }
-    ensures { λ r. ⌜ r ≡ hasBlock format w h b ⌝ }
+// The published lengths for the frames of a session that fits.
+fn lengths_of(s: Session) -> WorkLengths
+    requires { ⌜ sessionFits s ≡ true ⌝ }
+    ensures { λ r. ⌜ r ≡ lengthsOf s ⌝ }
 {
-    if 3 <= b.plane {
-        return false;
+    let format = headers::pixel_format(s.pf);
+    let sizes = geometry::sizes(format, s.fmbw, s.fmbh);
+    let n = sizes.blocks;
+    let m = sizes.macro_blocks;
+    let k = 2 * sizes.super_blocks;
+    let coefs = 64 * n;
+    let bytes = 153 * n + k + m;
+    WorkLengths {
+        records: n,
+        coded: n,
+        coefs,
+        dc: n,
+        lasts: n,
+        flags: n,
+        bits: n,
+        supers: k,
+        modes: m,
+        active: n,
+        bytes,
     }
-    let plane = geometry::plane_of(format, w, h, b.plane);
-    (b.x < plane.across) & (b.y < plane.up)
 }
 
-// The block that is number i in the coded order of a session's frames.
-pub fn block_at(s: Session, i: u64) -> BlockAnswer
-    ensures { λ r. ⌜ r ≡ asBlock (blockAt s i) ⌝ }
+// The lengths of work memory for a session's frames.
+pub fn work_lengths(s: Session) -> WorkAnswer
+    ensures { λ r. ⌜ r ≡ workLengths s ⌝ }
 {
     if headers::session_fits(s) {
-        let format = headers::pixel_format(s.pf);
-        let sizes = geometry::sizes(format, s.fmbw, s.fmbh);
-        if i < sizes.blocks {
-            return BlockAnswer::Is(geometry::block_at(format, s.fmbw, s.fmbh, i));
+        return WorkAnswer::Is(lengths_of(s));
+    }
+    WorkAnswer::Refused(8)
+}
+
+// Whether every lent length is the published one.
+fn lengths_fit(
+    s: Session,
+    golden: &[u8],
+    previous: &[u8],
+    new: &[u8],
+    table: &[u8],
+    records: &[u32],
+    coded: &[u64],
+    coefs: &[i16],
+    dc: &[i16],
+    lasts: &[u8],
+    flags: &[u8],
+    bits: &[u8],
+    supers: &[u8],
+    modes: &[u8],
+    active: &[u64],
+) -> bool
+    requires { ⌜ sessionFits s ≡ true ⌝ }
+    ensures { λ r. ⌜ r ≡ lengthsFit (lengthsOf s) (now (golden .entry)) (now (previous .entry)) (now (new .entry)) (now (table .entry)) (memory (now (records .entry)) (now (coded .entry)) (now (coefs .entry)) (now (dc .entry)) (now (lasts .entry)) (now (flags .entry)) (now (bits .entry)) (now (supers .entry)) (now (modes .entry)) (now (active .entry))) ⌝ }
+{
+    let l = lengths_of(s);
+    let buffer = 64 * l.records;
+    (golden.len() as u64 == buffer)
+        & (previous.len() as u64 == buffer)
+        & (new.len() as u64 == buffer)
+        & (table.len() == setup::TABLE_BYTES)
+        & (records.len() as u64 == l.records)
+        & (coded.len() as u64 == l.coded)
+        & (coefs.len() as u64 == l.coefs)
+        & (dc.len() as u64 == l.dc)
+        & (lasts.len() as u64 == l.lasts)
+        & (flags.len() as u64 == l.flags)
+        & (bits.len() as u64 == l.bits)
+        & (supers.len() as u64 == l.supers)
+        & (modes.len() as u64 == l.modes)
+        & (active.len() as u64 == l.active)
+}
+
+// The quantization matrices of a frame's qi, for each type, in it for each plane, in it for each qi.
+fn load_matrices(
+    table: &[u8],
+    place: usize,
+    ac_scale: &[u16],
+    dc_scale: &[u16],
+    sizes: &[u16],
+    indices: &[u16],
+    qis: [u8; 3],
+    count: usize,
+    matrices: &mut [u16],
+)
+    requires { ⌜ (length (now table) ≤ 2 ^ 58) × Held (now table) place (now «ac_scale») (now «dc_scale») (now sizes) (now indices) × AllQi qis count × (count ≤ 3) × (length (now matrices) ≡ 1152) ⌝ }
+    ensures { λ _. ⌜ MatricesAre (now (table .entry)) place (now («ac_scale» .entry)) (now («dc_scale» .entry)) (now (sizes .entry)) (now (indices .entry)) qis count (now (matrices .exit)) ⌝ }
+{
+    let mut j: usize = 0;
+    while j < 6 * count {
+        let index = j / 6;
+        let set = j % 6;
+        let qi = qis[index] as usize;
+        let at = (set * 3 + index) * 64;
+        let end = at + 64;
+        matrices::matrix(
+            table,
+            place,
+            ac_scale,
+            dc_scale,
+            sizes,
+            indices,
+            set / 3,
+            set % 3,
+            qi,
+            &mut matrices[at..end],
+        );
+        j += 1;
+    }
+}
+
+// The frame of the blocks that were read. Their memory is 0 everywhere at last.
+fn make(
+    table: &[u8],
+    place: usize,
+    limits: &[u16],
+    ac_scale: &[u16],
+    dc_scale: &[u16],
+    sizes: &[u16],
+    indices: &[u16],
+    header: Header,
+    format: PixelFormat,
+    w: u64,
+    h: u64,
+    records: &mut [u32],
+    coded: &mut [u64],
+    count: usize,
+    coefs: &mut [i16],
+    dc: &mut [i16],
+    lasts: &mut [u8],
+    golden: &[u8],
+    previous: &[u8],
+    new: &mut [u8],
+)
+    requires { ⌜ (length (now table) ≤ 2 ^ 58) × Held (now table) place (now «ac_scale») (now «dc_scale») (now sizes) (now indices) × AllLimits (now limits) × AllQi (header .qis) 3 × (header .count ≤ 3) × (w ≤ 65535) × (h ≤ 65535) ⌝ }
+    requires { ⌜ BlocksLent format w h (now records) (now coded) count (now coefs) (now lasts) (header .count) × (now dc ≡ replicate (blocksOf format w h) (pos 0))
+        × (length (now new) ≡ 64 * blocksOf format w h) × (length (now golden) ≡ 64 * blocksOf format w h) × (length (now previous) ≡ 64 * blocksOf format w h) ⌝ }
+    ensures { λ _. ⌜ FrameIs (now (table .entry)) place (now («ac_scale» .entry)) (now («dc_scale» .entry)) (now (sizes .entry)) (now (indices .entry)) (header .qis) (now (limits .entry)) format w h (blocksIn (now (records .entry)) (now (coded .entry)) count (now (coefs .entry)) (now (lasts .entry))) (now (golden .entry)) (now (previous .entry)) (now (new .exit)) ⌝ }
+    ensures { λ _. ⌜ (now (records .exit) ≡ replicate (length (now (records .entry))) 0) × (now (coded .exit) ≡ replicate (length (now (coded .entry))) 0) × (now (coefs .exit) ≡ replicate (length (now (coefs .entry))) (pos 0))
+        × (now (dc .exit) ≡ replicate (length (now (dc .entry))) (pos 0)) × (now (lasts .exit) ≡ replicate (length (now (lasts .entry))) 0) ⌝ }
+{
+    let qis = header.qis;
+    let number = header.count as usize;
+    let mut matrices = [0u16; 1152];
+    load_matrices(
+        table,
+        place,
+        ac_scale,
+        dc_scale,
+        sizes,
+        indices,
+        qis,
+        number,
+        &mut matrices,
+    );
+    let first = qis[0] as usize;
+    let limit = tables::loop_limit(limits, first) as u32;
+    reconstruct::make_frame(
+        new,
+        golden,
+        previous,
+        records,
+        coded,
+        count,
+        coefs,
+        dc,
+        lasts,
+        &matrices,
+        limit,
+        format,
+        w,
+        h,
+    );
+}
+
+// Work memory, whole, becomes 0.
+fn clear_memory(
+    records: &mut [u32],
+    coded: &mut [u64],
+    coefs: &mut [i16],
+    dc: &mut [i16],
+    lasts: &mut [u8],
+    flags: &mut [u8],
+    bits: &mut [u8],
+    supers: &mut [u8],
+    modes: &mut [u8],
+    active: &mut [u64],
+)
+    requires { ⌜ length (now active) ≡ length (now bits) ⌝ }
+    ensures { λ _. ⌜ memory (now (records .exit)) (now (coded .exit)) (now (coefs .exit)) (now (dc .exit)) (now (lasts .exit)) (now (flags .exit)) (now (bits .exit)) (now (supers .exit)) (now (modes .exit)) (now (active .exit)) ≡ zeroed (memory (now (records .entry)) (now (coded .entry)) (now (coefs .entry)) (now (dc .entry)) (now (lasts .entry)) (now (flags .entry)) (now (bits .entry)) (now (supers .entry)) (now (modes .entry)) (now (active .entry))) ⌝ }
+{
+    frame_packet::clear_read(records, coded, coefs, lasts);
+    let values = dc.len();
+    buffer::clear_shorts(dc, values);
+    let blocks = bits.len();
+    frame_packet::clear_scratch(blocks, flags, bits, supers, modes, active);
+}
+
+// The number of a refusal alone: nothing else of the answer says anything, and the session stays.
+fn refusal(k: u32, s: Session) -> FrameAnswer
+    ensures { λ r. ⌜ r ≡ answerFor s (refused k 0) ⌝ }
+{
+    FrameAnswer {
+        verdict: Verdict::Refused(k),
+        header: Header {
+            kind: Kind::Repeat,
+            qis: [0, 0, 0],
+            count: 0,
+        },
+        session: s,
+    }
+}
+
+// The session after an accepted frame of a kind.
+fn session_after(kind: Kind, s: Session) -> Session
+    ensures { λ r. ⌜ r ≡ sessionAfter kind s ⌝ }
+{
+    match kind {
+        Kind::Intra => {
+            let mut next = s;
+            next.references = true;
+            next
         }
-        return BlockAnswer::Absent;
+        Kind::Inter => s,
+        Kind::Repeat => s,
     }
-    BlockAnswer::Refused(8)
 }
 
-// The number of block (x, y) of a plane there.
-pub fn block_number(s: Session, plane: u64, x: u64, y: u64) -> NumberAnswer
-    ensures { λ r. ⌜ r ≡ asNumber (blockNumber s (block plane x y)) ⌝ }
+// A packet, by a setup that lies in slices. Work memory is all zero before and after.
+fn decode_packet(
+    s: Session,
+    packet: &[u8],
+    table: &[u8],
+    place: usize,
+    limits: &[u16],
+    ac_scale: &[u16],
+    dc_scale: &[u16],
+    sizes: &[u16],
+    indices: &[u16],
+    nodes: &[u8],
+    records: &mut [u32],
+    coded: &mut [u64],
+    coefs: &mut [i16],
+    dc: &mut [i16],
+    lasts: &mut [u8],
+    flags: &mut [u8],
+    bits: &mut [u8],
+    supers: &mut [u8],
+    modes: &mut [u8],
+    active: &mut [u64],
+    golden: &[u8],
+    previous: &[u8],
+    new: &mut [u8],
+) -> FrameAnswer
+    requires { ⌜ (sessionFits s ≡ true) × (length (now packet) ≤ 2 ^ 58) × (length (now table) ≤ 2 ^ 58) × SetupHeld (now table) place (now limits) (now «ac_scale») (now «dc_scale») (now sizes) (now indices) (now nodes) ⌝ }
+    requires { ⌜ (memory (now records) (now coded) (now coefs) (now dc) (now lasts) (now flags) (now bits) (now supers) (now modes) (now active) ≡ cleared s)
+        × (length (now new) ≡ 64 * blocks s) × (length (now golden) ≡ 64 * blocks s) × (length (now previous) ≡ 64 * blocks s) ⌝ }
+    ensures { λ r. ⌜ ((setup : Setup) → HoldsSetup setup (now (table .entry)) place (now (limits .entry)) (now («ac_scale» .entry)) (now («dc_scale» .entry)) (now (sizes .entry)) (now (indices .entry)) (now (nodes .entry))
+        → done r (now (new .exit)) (memory (now (records .exit)) (now (coded .exit)) (now (coefs .exit)) (now (dc .exit)) (now (lasts .exit)) (now (flags .exit)) (now (bits .exit)) (now (supers .exit)) (now (modes .exit)) (now (active .exit)))
+        ≡ decoded firstWay (state s (now (golden .entry)) (now (previous .entry))) (now (new .entry)) (readBy s setup (now (packet .entry)))) ⌝ }
 {
-    if headers::session_fits(s) {
-        let format = headers::pixel_format(s.pf);
-        let b = Block { plane, x, y };
-        if has_block(format, s.fmbw, s.fmbh, b) {
-            return NumberAnswer::Is(geometry::block_number(format, s.fmbw, s.fmbh, b));
-        }
-        return NumberAnswer::Absent;
-    }
-    NumberAnswer::Refused(8)
-}
-
-// The macro block that is number i in the coded order of a session's frames.
-pub fn macro_block_at(s: Session, i: u64) -> PlaceAnswer
-    ensures { λ r. ⌜ r ≡ asPlace (macroBlockAt s i) ⌝ }
-{
-    if headers::session_fits(s) {
-        let format = headers::pixel_format(s.pf);
-        let sizes = geometry::sizes(format, s.fmbw, s.fmbh);
-        if i < sizes.macro_blocks {
-            return PlaceAnswer::Is(geometry::macro_block_at(s.fmbw, s.fmbh, i));
-        }
-        return PlaceAnswer::Absent;
-    }
-    PlaceAnswer::Refused(8)
-}
-
-// The number of macro block (x, y) there.
-pub fn macro_block_number(s: Session, x: u64, y: u64) -> NumberAnswer
-    ensures { λ r. ⌜ r ≡ asNumber (macroBlockNumber s x y) ⌝ }
-{
-    if headers::session_fits(s) {
-        if x < s.fmbw {
-            if y < s.fmbh {
-                return NumberAnswer::Is(geometry::macro_block_number(s.fmbw, s.fmbh, x, y));
-            }
-        }
-        return NumberAnswer::Absent;
-    }
-    NumberAnswer::Refused(8)
-}
-
-// The macro block that block (x, y) of a plane belongs to.
-pub fn macro_block_of(s: Session, plane: u64, x: u64, y: u64) -> PlaceAnswer
-    ensures { λ r. ⌜ r ≡ asPlace (macroBlockOf s (block plane x y)) ⌝ }
-{
-    if headers::session_fits(s) {
-        let format = headers::pixel_format(s.pf);
-        let b = Block { plane, x, y };
-        if has_block(format, s.fmbw, s.fmbh, b) {
-            return PlaceAnswer::Is(geometry::macro_of_block(format, b));
-        }
-        return PlaceAnswer::Absent;
-    }
-    PlaceAnswer::Refused(8)
-}
-
-// Where in a plane buffer sample (column, row) of block (x, y) of a plane lies.
-pub fn sample_offset(s: Session, plane: u64, x: u64, y: u64, column: u64, row: u64) -> NumberAnswer
-    ensures { λ r. ⌜ r ≡ asNumber (sampleOffset s (block plane x y) column row) ⌝ }
-{
-    if headers::session_fits(s) {
-        let format = headers::pixel_format(s.pf);
-        let b = Block { plane, x, y };
-        let there = has_block(format, s.fmbw, s.fmbh, b);
-        if there & (column < 8) & (row < 8) {
-            return NumberAnswer::Is(geometry::sample_offset(
+    let format = headers::pixel_format(s.pf);
+    let w = s.fmbw;
+    let h = s.fmbh;
+    let got = frame_packet::read_frame(
+        packet,
+        s.references,
+        nodes,
+        format,
+        w,
+        h,
+        records,
+        coded,
+        coefs,
+        lasts,
+        flags,
+        bits,
+        supers,
+        modes,
+        active,
+    );
+    let read = got.read;
+    match read {
+        Read::Refused(k, _) => refusal(k, s),
+        Read::Whole(count, _, _) => {
+            let header = got.header;
+            let kind = header.kind;
+            make(
+                table,
+                place,
+                limits,
+                ac_scale,
+                dc_scale,
+                sizes,
+                indices,
+                header,
                 format,
-                s.fmbw,
-                s.fmbh,
-                b,
-                column,
-                row,
-            ));
-        }
-        return NumberAnswer::Absent;
-    }
-    NumberAnswer::Refused(8)
-}
-
-// The loop limit of a qi, by the setup of a table memory.
-pub fn loop_limit(table: &[u8], qi: u64) -> NumberAnswer
-    ensures { λ r. ⌜ r ≡ asNumber (tableLimit (now (table .entry)) qi) ⌝ }
-{
-    if table.len() != setup::TABLE_BYTES {
-        return NumberAnswer::Refused(1);
-    }
-    let mut limits = [0u16; 64];
-    let mut ac = [0u16; 64];
-    let mut dc = [0u16; 64];
-    let mut sizes = [0u16; 384];
-    let mut indices = [0u16; 384];
-    let mut nodes = [0u8; 5120];
-    let answer = setup::load_table(
-        table,
-        &mut limits,
-        &mut ac,
-        &mut dc,
-        &mut sizes,
-        &mut indices,
-        &mut nodes,
-    );
-    match answer {
-        TableAnswer::NotGenuine => NumberAnswer::Refused(8),
-        TableAnswer::Genuine(_) => {
-            if qi < 64 {
-                let limit = tables::loop_limit(&limits, qi as usize);
-                return NumberAnswer::Is(limit as u64);
+                w,
+                h,
+                records,
+                coded,
+                count,
+                coefs,
+                dc,
+                lasts,
+                golden,
+                previous,
+                new,
+            );
+            let next = session_after(kind, s);
+            FrameAnswer {
+                verdict: Verdict::Accepted,
+                header: header,
+                session: next,
             }
-            NumberAnswer::Absent
         }
     }
 }
 
-// The quantization matrix of a type (0 intra, 1 inter), a plane and a qi, in natural order, by the setup of a table memory.
-pub fn matrix(table: &[u8], kind: u64, plane: u64, qi: u64, out: &mut [u16]) -> MatrixAnswer
-    ensures { λ r. ⌜ r ≡ asMatrix (matrixInto (now (out .entry)) (now (table .entry)) kind plane qi) ⌝ }
-    ensures { λ r. ⌜ now (out .exit) ≡ leaving (now (out .entry)) (matrixInto (now (out .entry)) (now (table .entry)) kind plane qi) ⌝ }
+// A packet, by table memory. Work memory is all zero before and after.
+fn decode(
+    s: Session,
+    packet: &[u8],
+    table: &[u8],
+    records: &mut [u32],
+    coded: &mut [u64],
+    coefs: &mut [i16],
+    dc: &mut [i16],
+    lasts: &mut [u8],
+    flags: &mut [u8],
+    bits: &mut [u8],
+    supers: &mut [u8],
+    modes: &mut [u8],
+    active: &mut [u64],
+    golden: &[u8],
+    previous: &[u8],
+    new: &mut [u8],
+) -> FrameAnswer
+    requires { ⌜ (sessionFits s ≡ true) × (length (now packet) ≤ 2 ^ 58) × (length (now table) ≡ tableBytes)
+        × (memory (now records) (now coded) (now coefs) (now dc) (now lasts) (now flags) (now bits) (now supers) (now modes) (now active) ≡ cleared s)
+        × (length (now new) ≡ 64 * blocks s) × (length (now golden) ≡ 64 * blocks s) × (length (now previous) ≡ 64 * blocks s) ⌝ }
+    ensures { λ r. ⌜ done r (now (new .exit)) (memory (now (records .exit)) (now (coded .exit)) (now (coefs .exit)) (now (dc .exit)) (now (lasts .exit)) (now (flags .exit)) (now (bits .exit)) (now (supers .exit)) (now (modes .exit)) (now (active .exit)))
+        ≡ decoded firstWay (state s (now (golden .entry)) (now (previous .entry))) (now (new .entry)) (read s (now (table .entry)) (now (packet .entry))) ⌝ }
 {
-    if out.len() != 64 {
-        return MatrixAnswer::Refused(1);
-    }
-    if table.len() != setup::TABLE_BYTES {
-        return MatrixAnswer::Refused(1);
-    }
     let mut limits = [0u16; 64];
-    let mut ac = [0u16; 64];
-    let mut dc = [0u16; 64];
+    let mut ac_scale = [0u16; 64];
+    let mut dc_scale = [0u16; 64];
     let mut sizes = [0u16; 384];
     let mut indices = [0u16; 384];
     let mut nodes = [0u8; 5120];
-    let answer = setup::load_table(
+    let held = setup::load_table(
         table,
         &mut limits,
-        &mut ac,
-        &mut dc,
+        &mut ac_scale,
+        &mut dc_scale,
         &mut sizes,
         &mut indices,
         &mut nodes,
     );
-    match answer {
-        TableAnswer::NotGenuine => MatrixAnswer::Refused(8),
-        TableAnswer::Genuine(place) => {
-            if (kind < 2) & (plane < 3) & (qi < 64) {
-                matrices::matrix(
-                    table,
-                    place,
-                    &ac,
-                    &dc,
-                    &sizes,
-                    &indices,
-                    kind as usize,
-                    plane as usize,
-                    qi as usize,
-                    out,
-                );
-                return MatrixAnswer::Is;
-            }
-            MatrixAnswer::Absent
-        }
+    match held {
+        TableAnswer::NotGenuine => refusal(8, s),
+        TableAnswer::Genuine(place) => decode_packet(
+            s,
+            packet,
+            table,
+            place,
+            &limits,
+            &ac_scale,
+            &dc_scale,
+            &sizes,
+            &indices,
+            &nodes,
+            records,
+            coded,
+            coefs,
+            dc,
+            lasts,
+            flags,
+            bits,
+            supers,
+            modes,
+            active,
+            golden,
+            previous,
+            new,
+        ),
     }
+}
+
+// A frame call: reads a packet and, if it is accepted, makes its frame in `new`. Of the lent slices a caller keeps golden, previous and new;
+// the others are work memory, which may hold anything.
+pub fn frame(
+    s: Session,
+    packet: &[u8],
+    table: &[u8],
+    records: &mut [u32],
+    coded: &mut [u64],
+    coefs: &mut [i16],
+    dc: &mut [i16],
+    lasts: &mut [u8],
+    flags: &mut [u8],
+    bits: &mut [u8],
+    supers: &mut [u8],
+    modes: &mut [u8],
+    active: &mut [u64],
+    golden: &[u8],
+    previous: &[u8],
+    new: &mut [u8],
+) -> FrameAnswer
+    ensures { λ r. ⌜ done r (now (new .exit)) (memory (now (records .exit)) (now (coded .exit)) (now (coefs .exit)) (now (dc .exit)) (now (lasts .exit)) (now (flags .exit)) (now (bits .exit)) (now (supers .exit)) (now (modes .exit)) (now (active .exit)))
+        ≡ byRules firstWay (state s (now (golden .entry)) (now (previous .entry)))
+        (call (now (packet .entry)) (now (table .entry)) (memory (now (records .entry)) (now (coded .entry)) (now (coefs .entry)) (now (dc .entry)) (now (lasts .entry)) (now (flags .entry)) (now (bits .entry)) (now (supers .entry)) (now (modes .entry)) (now (active .entry))) (now (new .entry))) ⌝ }
+{
+    if headers::session_fits(s) {
+        let fit = lengths_fit(
+            s,
+            golden,
+            previous,
+            new,
+            table,
+            records,
+            coded,
+            coefs,
+            dc,
+            lasts,
+            flags,
+            bits,
+            supers,
+            modes,
+            active,
+        );
+        if fit {
+            clear_memory(
+                records,
+                coded,
+                coefs,
+                dc,
+                lasts,
+                flags,
+                bits,
+                supers,
+                modes,
+                active,
+            );
+            return decode(
+                s,
+                bitstream::readable(packet),
+                table,
+                records,
+                coded,
+                coefs,
+                dc,
+                lasts,
+                flags,
+                bits,
+                supers,
+                modes,
+                active,
+                golden,
+                previous,
+                new,
+            );
+        }
+        return refusal(1, s);
+    }
+    refusal(8, s)
 }

@@ -1,20 +1,28 @@
 -- The calls by the lengths of their lists. Assumes nothing.
-use Prim.Native.Nat.{ℕ}
-use mathlib.Core.Path.{_≡_, sym, ap, ap₂, _∙_}
+use Prim.Native.Nat.{ℕ, _<_}
+use native.Mathlib.Omega.{arith}
+use mathlib.Core.Path.{_≡_, refl, sym, ap, ap₂, _∙_}
 use mathlib.Core.Bool.{Bool, true, false, _&&_}
 use mathlib.Core.List.{List, [], _∷_}
 use lib.Dec.{eqb}
-use lib.ListN.{length}
+use lib.ListN.{length, getD, set}
+use lib.Seq.{getD-set-same, getD-set-other, set-getD}
 use borrow.Author.Tests.{eqb-true, eq-eqb, ne-eqb}
-use Rattle.bitstream.specs.Reading.{choose}
+use Rattle.bitstream.specs.Reading.{Outcome, got, refused, choose}
 use Rattle.headers.proofs.Fitting.{and-both}
 use Rattle.headers.specs.declared.Session.{Session}
 use Rattle.setup.specs.declared.SetupAnswer.{SetupAnswer}
 use Rattle.setup.specs.Table.{tableBytes, setupOutcome, asSetupAnswer, tableAfter, isTable}
-use Rattle.theora.specs.declared.MatrixAnswer.{MatrixAnswer}
-use Rattle.theora.specs.Found.{Found, is, absent, refused}
-use Rattle.theora.specs.Setup.{tableMatrix, matrixInto, asMatrix, leaving}
-use Rattle.theora_c.specs.Face.{Returned, gives, flag, numbersOf, sessionOf, onList, setupNumber, setupCall, tableCall, matrixReturned, matrixFound, matrixCall}
+use Rattle.queries.specs.declared.MatrixAnswer.{MatrixAnswer}
+use Rattle.queries.specs.Found.{Found, is, absent, refused as no-table}
+use Rattle.queries.specs.Setup.{tableMatrix, matrixInto, asMatrix, leaving}
+use Rattle.frame_header.specs.declared.Header.{Header}
+use Rattle.frame_header.specs.declared.Kind.{Kind}
+use Rattle.frame_header.specs.declared.Kind.the-variants.{Intra, Inter, Repeat}
+use Rattle.ways.specs.Ways.{firstWay}
+use Rattle.theora.specs.declared.Verdict.{Verdict}
+use Rattle.theora.specs.Call.{Call, Done, Asked, state, said, sessionAfter, answerFor, byRules}
+use Rattle.theora_c.specs.Face.{Returned, gives, flag, numbersOf, sessionOf, onList, setupNumber, setupCall, tableCall, matrixReturned, matrixFound, matrixCall, headerNumbers, referenceNumber, sessionNumbers, Answered, answers, verdictReturned, frameGives, stateOf, frameCall}
 
 -- the numbers of a session, with the last one found by `flag_number`
 pub with-flag : (s : Session) (n : ℕ) → n ≡ flag (s .references)
@@ -55,7 +63,7 @@ module _ (t : List ℕ) where
 matrix-found : (old fresh new : List ℕ) (x : Found (List ℕ)) {r : MatrixAnswer} → (r ≡ asMatrix x) × (new ≡ leaving fresh x) → matrixReturned old new r ≡ matrixFound old x
 matrix-found old fresh new (is m) h = ap (matrixReturned old new) (h .0) ∙ ap (gives 0) (h .1)
 matrix-found old fresh new absent h = ap (matrixReturned old new) (h .0)
-matrix-found old fresh new (refused k) h = ap (matrixReturned old new) (h .0)
+matrix-found old fresh new (no-table k) h = ap (matrixReturned old new) (h .0)
 
 module _ (t fresh new old : List ℕ) (type plane qi : ℕ) where
   into : length fresh ≡ 64 → matrixInto fresh t type plane qi ≡ tableMatrix t type plane qi
@@ -66,3 +74,65 @@ module _ (t fresh new old : List ℕ) (type plane qi : ℕ) where
       → length old ≡ 64 → y ≡ matrixReturned old new r → y ≡ matrixCall t type plane qi old
   unfolding matrixCall
   matrix-made z h l e = rw (eq-eqb _ _ l) (e ∙ matrix-found old fresh new (matrixInto fresh t type plane qi) h ∙ ap (matrixFound old) (into z))
+
+-- the numbers of a frame's answer, from what `reference_number` and `return_header` answer; or as they were
+module _ (session old : List ℕ) (h : Header) {v : Verdict} where
+  pub frame-accepted : {k n : ℕ} {l : List ℕ} → v ≡ Verdict.Accepted → n ≡ referenceNumber (h .kind) (getD session 16 0) → gives k l ≡ gives 0 (headerNumbers h)
+      → answers k (set session 16 n) l ≡ verdictReturned session old h v
+  frame-accepted e m g = rw (e, m, ap (λ (x : Returned). x .number) g, ap (λ (x : Returned). x .left) g)
+
+  pub frame-refused : {k : ℕ} → v ≡ Verdict.Refused k → answers k session old ≡ verdictReturned session old h v
+  frame-refused e = rw e
+
+-- a frame call that is made on the session s of the list, and one whose lists have other lengths
+module _ (session old golden previous : List ℕ) (c : Call) where
+  pub frame-made : (eqb (length session) 17 && eqb (length old) 5) ≡ true → {s : Session} {d : Done} {a : Answered} → s ≡ sessionOf session
+      → d ≡ byRules firstWay (state s golden previous) c → a ≡ verdictReturned session old (d .answer .header) (d .answer .verdict)
+      → frameGives a (d .new) (d .memory) ≡ frameCall session old golden previous c
+  unfolding frameCall
+  frame-made t e h k = rw (t, k, h, e)
+
+  pub frame-unmade : (eqb (length session) 17 && eqb (length old) 5) ≡ false
+      → frameGives (answers 1 session old) (c .new) (c .memory) ≡ frameCall session old golden previous c
+  unfolding frameCall
+  frame-unmade t = rw t
+
+-- the numbers of a session after a frame say the session that the rules hand on
+module _ (l : List ℕ) (h : length l ≡ 17) where
+  other : (i : ℕ) → i < 16 → getD (set l 16 1) i 0 ≡ getD l i 0
+  other i k = getD-set-other l 16 i 1 0 (λ e. omega arith)
+
+  pub session-handed : (kind : Kind) → sessionOf (sessionNumbers kind l) ≡ sessionAfter kind (sessionOf l)
+  unfolding sessionOf sessionAfter
+  session-handed Intra =
+      rw (
+        other 0 (omega arith),
+        other 1 (omega arith),
+        other 2 (omega arith),
+        other 3 (omega arith),
+        other 4 (omega arith),
+        other 5 (omega arith),
+        other 6 (omega arith),
+        other 7 (omega arith),
+        other 8 (omega arith),
+        other 9 (omega arith),
+        other 10 (omega arith),
+        other 11 (omega arith),
+        other 12 (omega arith),
+        other 13 (omega arith),
+        other 14 (omega arith),
+        other 15 (omega arith),
+        getD-set-same l 16 1 0 (omega arith),
+      )
+  session-handed Inter = rw (set-getD l 16 0)
+  session-handed Repeat = rw (set-getD l 16 0)
+
+  answer-handed : (old : List ℕ) (o : Outcome Asked) → let a = answerFor (sessionOf l) o in sessionOf (verdictReturned l old (a .header) (a .verdict) .session) ≡ a .session
+  answer-handed old (refused k e) = refl
+  answer-handed old (got a e) = session-handed (a .frame .header .kind)
+
+  -- so the session that demand 3 speaks of is the one that the list says, from call to call
+  pub session-kept : (old golden previous : List ℕ) (c : Call) → length old ≡ 5
+      → sessionOf (frameCall l old golden previous c .answered .session) ≡ byRules firstWay (stateOf l golden previous) c .answer .session
+  unfolding frameCall byRules
+  session-kept old golden previous c k = rw (eq-eqb _ _ h, eq-eqb _ _ k) (answer-handed old (said (stateOf l golden previous) c))

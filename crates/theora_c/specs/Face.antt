@@ -3,7 +3,7 @@ use Prim.Native.Nat.{ℕ}
 use mathlib.Core.Bool.{Bool, true, false, not, _&&_}
 use mathlib.Core.List.{List, [], _∷_}
 use lib.Dec.{eqb}
-use lib.ListN.{length, getD}
+use lib.ListN.{length, getD, set}
 use Rattle.bitstream.specs.Reading.{choose}
 use Rattle.geometry.specs.declared.FrameSizes.{FrameSizes}
 use Rattle.geometry.specs.Frame.{block}
@@ -14,13 +14,23 @@ use Rattle.headers.specs.Identification.{identification, asIdentification}
 use Rattle.headers.specs.Sizes.{sessionSizes}
 use Rattle.setup.specs.declared.SetupAnswer.{SetupAnswer}
 use Rattle.setup.specs.Table.{tableBytes, setupOutcome, asSetupAnswer, tableAfter, isTable}
-use Rattle.theora.specs.declared.BlockAnswer.{BlockAnswer}
-use Rattle.theora.specs.declared.PlaceAnswer.{PlaceAnswer}
-use Rattle.theora.specs.declared.NumberAnswer.{NumberAnswer}
-use Rattle.theora.specs.declared.MatrixAnswer.{MatrixAnswer}
-use Rattle.theora.specs.Found.{Found, is, absent, refused}
-use Rattle.theora.specs.Setup.{tableLimit, tableMatrix}
-use Rattle.theora.specs.Orders.{blockAt, blockNumber, macroBlockAt, macroBlockNumber, macroBlockOf, sampleOffset, asBlock, asPlace, asNumber}
+use Rattle.queries.specs.declared.BlockAnswer.{BlockAnswer}
+use Rattle.queries.specs.declared.PlaceAnswer.{PlaceAnswer}
+use Rattle.queries.specs.declared.NumberAnswer.{NumberAnswer}
+use Rattle.queries.specs.declared.MatrixAnswer.{MatrixAnswer}
+use Rattle.queries.specs.Found.{Found, is, absent, refused}
+use Rattle.queries.specs.Setup.{tableLimit, tableMatrix}
+use Rattle.queries.specs.Orders.{blockAt, blockNumber, macroBlockAt, macroBlockNumber, macroBlockOf, sampleOffset, asBlock, asPlace, asNumber}
+use Rattle.frame_header.specs.declared.Header.{Header}
+use Rattle.frame_header.specs.declared.Kind.{Kind}
+use Rattle.frame_header.specs.declared.Kind.the-variants.{Intra, Inter, Repeat}
+use Rattle.ways.specs.Ways.{firstWay}
+use Rattle.theora.specs.declared.FrameAnswer.{FrameAnswer}
+use Rattle.theora.specs.declared.Verdict.{Verdict}
+use Rattle.theora.specs.declared.WorkAnswer.{WorkAnswer}
+use Rattle.theora.specs.declared.WorkLengths.{WorkLengths}
+use Rattle.theora.specs.Memory.{Memory, workLengths}
+use Rattle.theora.specs.Call.{State, Call, Done, state, byRules}
 
 -- what a call returns, and what the list lent for its answer holds afterwards
 pub record Returned : Type 0 where
@@ -157,3 +167,70 @@ matrixFound old (refused k) = gives k old
 
 unfoldable pub matrixCall : List ℕ → ℕ → ℕ → ℕ → List ℕ → Returned
 matrixCall table type plane qi old = sized (eqb (length old) 64) old (matrixFound old (tableMatrix table type plane qi))
+
+-- ---- frames
+-- the lengths of work memory as 11 numbers
+unfoldable pub lengthNumbers : WorkLengths → List ℕ
+lengthNumbers l =
+    l .records ∷ l .coded ∷ l .coefs ∷ l .dc ∷ l .lasts ∷ l .flags ∷ l .bits ∷ l .supers ∷ l .modes ∷ l .active ∷ l .bytes ∷ []
+
+abbrev pub lengthsReturned : List ℕ → WorkAnswer → Returned
+lengthsReturned old (WorkAnswer.Is l) = gives 0 (lengthNumbers l)
+lengthsReturned old (WorkAnswer.Refused k) = gives k old
+
+abbrev pub workLengthsCall : List ℕ → List ℕ → Returned
+workLengthsCall session old = onList 11 session old (λ s. lengthsReturned old (workLengths s))
+
+-- "its kind (intra, inter, repeat)" as a number
+abbrev pub kindNumber : Kind → ℕ
+kindNumber Intra = 0
+kindNumber Inter = 1
+kindNumber Repeat = 2
+
+-- what an accepted frame answers, as 5 numbers: its kind, how many qi there are, and three qi, of which the others are 0
+unfoldable pub headerNumbers : Header → List ℕ
+headerNumbers h = kindNumber (h .kind) ∷ h .count ∷ getD (h .qis) 0 0 ∷ getD (h .qis) 1 0 ∷ getD (h .qis) 2 0 ∷ []
+
+-- "Accepted inter and empty packets leave the session as it was; an intra one sets its reference flag": the flag's number, from what it was
+abbrev pub referenceNumber : Kind → ℕ → ℕ
+referenceNumber Intra old = 1
+referenceNumber Inter old = old
+referenceNumber Repeat old = old
+
+abbrev pub sessionNumbers : Kind → List ℕ → List ℕ
+sessionNumbers kind session = set session 16 (referenceNumber kind (getD session 16 0))
+
+-- what a frame call returns, and what the lists of the session and of the answer hold afterwards
+pub record Answered : Type 0 where
+  pub number : ℕ
+  pub session : List ℕ
+  pub left : List ℕ
+
+abbrev pub answers : ℕ → (session left : List ℕ) → Answered
+answers k session left = record { number = k; session = session; left = left }
+
+abbrev pub verdictReturned : (session old : List ℕ) → Header → Verdict → Answered
+verdictReturned session old h Verdict.Accepted = answers 0 (sessionNumbers (h .kind) session) (headerNumbers h)
+verdictReturned session old h (Verdict.Refused k) = answers k session old
+
+-- the same, and all else that is lent to be written: new and work memory
+pub record FrameReturned : Type 0 where
+  pub answered : Answered
+  pub new : List ℕ
+  pub memory : Memory
+
+abbrev pub frameGives : Answered → (new : List ℕ) → Memory → FrameReturned
+frameGives a new memory = record { answered = a; new = new; memory = memory }
+
+abbrev pub stateOf : (session golden previous : List ℕ) → State
+stateOf session golden previous = state (sessionOf session) golden previous
+
+abbrev pub doneReturned : (session old : List ℕ) → Done → FrameReturned
+doneReturned session old d = frameGives (verdictReturned session old (d .answer .header) (d .answer .verdict)) (d .new) (d .memory)
+
+-- a frame call: 1 for a session or an answer of another length, before all else; then the rules
+unfoldable pub frameCall : (session old golden previous : List ℕ) → Call → FrameReturned
+frameCall session old golden previous c =
+    choose (eqb (length session) 17 && eqb (length old) 5)
+    (doneReturned session old (byRules firstWay (stateOf session golden previous) c))
+    (frameGives (answers 1 session old) (c .new) (c .memory))

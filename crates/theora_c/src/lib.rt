@@ -1,16 +1,23 @@
 // The face for C and other languages: include/wedgepetal.h says what each call is for.
+use frame_header::Header;
+use frame_header::Kind;
 use headers::IdentificationAnswer;
 use headers::Session;
 use headers::SizesAnswer;
+use queries::BlockAnswer;
+use queries::MatrixAnswer;
+use queries::NumberAnswer;
+use queries::PlaceAnswer;
 use setup::SetupAnswer;
-use theora::BlockAnswer;
-use theora::MatrixAnswer;
-use theora::NumberAnswer;
-use theora::PlaceAnswer;
+use theora::FrameAnswer;
+use theora::Verdict;
+use theora::WorkAnswer;
 ghost use mathlib.Core.Path.{_≡_};
 ghost use Prim.Native.Nat.{ℕ};
 ghost use lib.ListN.{length};
-ghost use Rattle.theora_c.specs.Face.{gives, flag, numbersOf, sessionOf, sessionReturned, sizesReturned, blockReturned, placeReturned, numberReturned, identificationCall, sizesCall, blockAtCall, blockNumberCall, macroBlockAtCall, macroBlockNumberCall, macroBlockOfCall, sampleOffsetCall, setupCall, tableCall, limitCall, matrixReturned, matrixCall};
+ghost use Rattle.theora_c.specs.Face.{gives, flag, numbersOf, sessionOf, sessionReturned, sizesReturned, blockReturned, placeReturned, numberReturned, identificationCall, sizesCall, blockAtCall, blockNumberCall, macroBlockAtCall, macroBlockNumberCall, macroBlockOfCall, sampleOffsetCall, setupCall, tableCall, limitCall, matrixReturned, matrixCall, lengthsReturned, workLengthsCall, kindNumber, headerNumbers, referenceNumber, answers, verdictReturned, frameGives, frameCall};
+ghost use Rattle.theora.specs.Memory.{memory};
+ghost use Rattle.theora.specs.Call.{call};
 
 // ---- lists of numbers
 
@@ -192,6 +199,86 @@ fn return_matrix(answer: MatrixAnswer, numbers: &[u16], list: &mut [u64]) -> u32
     }
 }
 
+fn return_lengths(answer: WorkAnswer, list: &mut [u64]) -> u32
+    requires { ⌜ length (now list) ≡ 11 ⌝ }
+    ensures { λ r. ⌜ gives r (now (list .exit)) ≡ lengthsReturned (now (list .entry)) answer ⌝ }
+{
+    match answer {
+        WorkAnswer::Is(l) => {
+            let numbers = [
+                l.records,
+                l.coded,
+                l.coefs,
+                l.dc,
+                l.lasts,
+                l.flags,
+                l.bits,
+                l.supers,
+                l.modes,
+                l.active,
+                l.bytes,
+            ];
+            store(list, &numbers)
+        }
+        WorkAnswer::Refused(k) => k,
+    }
+}
+
+// ---- the answer of a frame
+
+fn kind_number(kind: Kind) -> u64
+    ensures { λ r. ⌜ r ≡ kindNumber kind ⌝ }
+{
+    match kind {
+        Kind::Intra => 0,
+        Kind::Inter => 1,
+        Kind::Repeat => 2,
+    }
+}
+
+// The reference number of a session after an accepted frame.
+fn reference_number(kind: Kind, before: u64) -> u64
+    ensures { λ r. ⌜ r ≡ referenceNumber kind before ⌝ }
+{
+    match kind {
+        Kind::Intra => 1,
+        Kind::Inter => before,
+        Kind::Repeat => before,
+    }
+}
+
+fn return_header(h: Header, list: &mut [u64]) -> u32
+    requires { ⌜ length (now list) ≡ 5 ⌝ }
+    ensures { λ r. ⌜ gives r (now (list .exit)) ≡ gives 0 (headerNumbers h) ⌝ }
+{
+    let kind = h.kind;
+    let qis = h.qis;
+    let number = kind_number(kind);
+    let count = h.count as u64;
+    let first = qis[0] as u64;
+    let second = qis[1] as u64;
+    let third = qis[2] as u64;
+    let numbers = [number, count, first, second, third];
+    store(list, &numbers)
+}
+
+fn return_frame(answer: FrameAnswer, session: &mut [u64], list: &mut [u64]) -> u32
+    requires { ⌜ (length (now session) ≡ 17) × (length (now list) ≡ 5) ⌝ }
+    ensures { λ r. ⌜ answers r (now (session .exit)) (now (list .exit)) ≡ verdictReturned (now (session .entry)) (now (list .entry)) (answer .header) (answer .verdict) ⌝ }
+{
+    let header = answer.header;
+    let kind = header.kind;
+    let verdict = answer.verdict;
+    match verdict {
+        Verdict::Accepted => {
+            let before = session[16];
+            session[16] = reference_number(kind, before);
+            return_header(header, list)
+        }
+        Verdict::Refused(k) => k,
+    }
+}
+
 // ---- the calls
 
 #[no_mangle]
@@ -219,7 +306,7 @@ pub extern "C" fn wedgepetal_block_at(session: &[u64], number: u64, block: &mut 
     ensures { λ r. ⌜ gives r (now (block .exit)) ≡ blockAtCall (now (session .entry)) number (now (block .entry)) ⌝ }
 {
     if (session.len() == 17) & (block.len() == 3) {
-        return return_block(theora::block_at(session_of(session), number), block);
+        return return_block(queries::block_at(session_of(session), number), block);
     }
     1
 }
@@ -236,7 +323,7 @@ pub extern "C" fn wedgepetal_block_number(
 {
     if (session.len() == 17) & (number.len() == 1) {
         return return_number(
-            theora::block_number(session_of(session), plane, x, y),
+            queries::block_number(session_of(session), plane, x, y),
             number,
         );
     }
@@ -248,7 +335,7 @@ pub extern "C" fn wedgepetal_macro_block_at(session: &[u64], number: u64, place:
     ensures { λ r. ⌜ gives r (now (place .exit)) ≡ macroBlockAtCall (now (session .entry)) number (now (place .entry)) ⌝ }
 {
     if (session.len() == 17) & (place.len() == 2) {
-        return return_place(theora::macro_block_at(session_of(session), number), place);
+        return return_place(queries::macro_block_at(session_of(session), number), place);
     }
     1
 }
@@ -264,7 +351,7 @@ pub extern "C" fn wedgepetal_macro_block_number(
 {
     if (session.len() == 17) & (number.len() == 1) {
         return return_number(
-            theora::macro_block_number(session_of(session), x, y),
+            queries::macro_block_number(session_of(session), x, y),
             number,
         );
     }
@@ -283,7 +370,7 @@ pub extern "C" fn wedgepetal_macro_block_of(
 {
     if (session.len() == 17) & (place.len() == 2) {
         return return_place(
-            theora::macro_block_of(session_of(session), plane, x, y),
+            queries::macro_block_of(session_of(session), plane, x, y),
             place,
         );
     }
@@ -304,7 +391,7 @@ pub extern "C" fn wedgepetal_sample_offset(
 {
     if (session.len() == 17) & (offset.len() == 1) {
         return return_number(
-            theora::sample_offset(session_of(session), plane, x, y, column, row),
+            queries::sample_offset(session_of(session), plane, x, y, column, row),
             offset,
         );
     }
@@ -339,7 +426,7 @@ pub extern "C" fn wedgepetal_loop_limit(table: &[u8], qi: u64, limit: &mut [u64]
     ensures { λ r. ⌜ gives r (now (limit .exit)) ≡ limitCall (now (table .entry)) qi (now (limit .entry)) ⌝ }
 {
     if limit.len() == 1 {
-        return return_number(theora::loop_limit(table, qi), limit);
+        return return_number(queries::loop_limit(table, qi), limit);
     }
     1
 }
@@ -356,8 +443,67 @@ pub extern "C" fn wedgepetal_matrix(
 {
     if matrix.len() == 64 {
         let mut numbers = [0u16; 64];
-        let answer = theora::matrix(table, kind, plane, qi, &mut numbers);
+        let answer = queries::matrix(table, kind, plane, qi, &mut numbers);
         return return_matrix(answer, &numbers, matrix);
+    }
+    1
+}
+
+#[no_mangle]
+pub extern "C" fn wedgepetal_work_lengths(session: &[u64], lengths: &mut [u64]) -> u32
+    ensures { λ r. ⌜ gives r (now (lengths .exit)) ≡ workLengthsCall (now (session .entry)) (now (lengths .entry)) ⌝ }
+{
+    if (session.len() == 17) & (lengths.len() == 11) {
+        return return_lengths(theora::work_lengths(session_of(session)), lengths);
+    }
+    1
+}
+
+#[no_mangle]
+pub extern "C" fn wedgepetal_frame(
+    session: &mut [u64],
+    packet: &[u8],
+    table: &[u8],
+    records: &mut [u32],
+    coded: &mut [u64],
+    coefs: &mut [i16],
+    dc: &mut [i16],
+    lasts: &mut [u8],
+    flags: &mut [u8],
+    bits: &mut [u8],
+    supers: &mut [u8],
+    modes: &mut [u8],
+    active: &mut [u64],
+    golden: &[u8],
+    previous: &[u8],
+    new: &mut [u8],
+    answer: &mut [u64],
+) -> u32
+    ensures { λ r. ⌜ frameGives (answers r (now (session .exit)) (now (answer .exit))) (now (new .exit)) (memory (now (records .exit)) (now (coded .exit)) (now (coefs .exit)) (now (dc .exit)) (now (lasts .exit)) (now (flags .exit)) (now (bits .exit)) (now (supers .exit)) (now (modes .exit)) (now (active .exit)))
+        ≡ frameCall (now (session .entry)) (now (answer .entry)) (now (golden .entry)) (now (previous .entry))
+        (call (now (packet .entry)) (now (table .entry)) (memory (now (records .entry)) (now (coded .entry)) (now (coefs .entry)) (now (dc .entry)) (now (lasts .entry)) (now (flags .entry)) (now (bits .entry)) (now (supers .entry)) (now (modes .entry)) (now (active .entry))) (now (new .entry))) ⌝ }
+{
+    if (session.len() == 17) & (answer.len() == 5) {
+        let s = session_of(session);
+        let done = theora::frame(
+            s,
+            packet,
+            table,
+            records,
+            coded,
+            coefs,
+            dc,
+            lasts,
+            flags,
+            bits,
+            supers,
+            modes,
+            active,
+            golden,
+            previous,
+            new,
+        );
+        return return_frame(done, session, answer);
     }
     1
 }

@@ -1,13 +1,142 @@
-//! Decoding.
+//! The frame call, and a recording decoded by it.
 
+use super::bits::Fault;
 use super::frame::codebook::{Codebooks, codebooks};
 use super::frame::reader::FrameFault;
 use super::frame::vectors::FourRule;
-use super::frame::{FramePacket, read};
+use super::frame::{FramePacket, Kind, read};
 use super::layout::Layout;
 use super::samples::ways::{Source, Way, make};
 use super::session::Fields;
 use super::setup::Setup;
+use super::sizes::{Sizes, sizes};
+use super::table_face::Table;
+
+/// "The session record holds the identification fields and whether references exist"
+#[derive(Clone, Debug, PartialEq, Eq)]
+pub struct Session {
+    /// The identification fields.
+    pub fields: Fields,
+    /// Whether references exist.
+    pub references: bool,
+}
+
+/// "An accepted frame answers with its kind (intra, inter, repeat) and the qi list"
+#[derive(Clone, Debug, PartialEq, Eq)]
+pub struct Accepted {
+    /// The kind.
+    pub kind: Kind,
+    /// The qi list, empty for a repeat.
+    pub qis: Vec<usize>,
+    /// How many tokens were read.
+    pub tokens: u64,
+}
+
+/// What a frame call leaves in work memory.
+#[derive(Clone, Copy, Debug, PartialEq, Eq)]
+pub enum Work {
+    /// What was there.
+    Untouched,
+    /// All zero.
+    Zero,
+}
+
+/// What a frame call answers and leaves, beside new.
+#[derive(Clone, Debug, PartialEq, Eq)]
+pub struct Outcome {
+    /// The answer; 1 and 8 have place 0.
+    pub answer: Result<Accepted, Fault>,
+    /// The session afterwards.
+    pub session: Session,
+    /// Work memory afterwards.
+    pub work: Work,
+}
+
+/// The lengths of the slices of work memory, as multiples of NBS, NMBS and NSBS.
+pub type WorkFormula = [(u64, u64, u64)];
+
+/// What a caller lends to a frame call, but new.
+#[derive(Clone, Copy)]
+pub struct Lent<'a> {
+    /// Table memory, looked at once.
+    pub table: &'a Table,
+    /// The lengths of work memory's slices.
+    pub work: &'a [u64],
+    /// The golden frame.
+    pub golden: &'a [u8],
+    /// The previous frame.
+    pub previous: &'a [u8],
+}
+
+/// The frame call: "identification part of 8, then 1, the rest of 8, then the
+/// packet". Writes new if the packet is accepted.
+pub fn frame_call(
+    session: &Session,
+    packet: &[u8],
+    lent: Lent,
+    formula: &WorkFormula,
+    rule: FourRule,
+    new: &mut [u8],
+) -> Outcome {
+    let outcome = |answer, work| Outcome {
+        answer,
+        session: session.clone(),
+        work,
+    };
+    let refused = |number| Err(Fault { number, place: 0 });
+    if !session.fields.sound() {
+        return outcome(refused(8), Work::Untouched);
+    }
+    if !lengths_are_right(&sizes(&session.fields), lent, formula, new.len()) {
+        return outcome(refused(1), Work::Untouched);
+    }
+    let Table::Genuine(setup) = lent.table else {
+        return outcome(refused(8), Work::Zero);
+    };
+    let decoder = Decoder::new(&session.fields, setup);
+    let read = match decoder.read(session.references, rule, packet) {
+        Ok(read) => read,
+        Err(fault) => return outcome(Err(fault.fault), Work::Zero),
+    };
+    decoder.make(Way::Second, &read, lent.golden, lent.previous, new);
+    Outcome {
+        session: session.after(read.kind),
+        ..outcome(Ok(Accepted::of(read)), Work::Zero)
+    }
+}
+
+/// Whether every lent length is the published one.
+fn lengths_are_right(sizes: &Sizes, lent: Lent, formula: &WorkFormula, new: usize) -> bool {
+    let published = formula.iter().map(|(blocks, macro_blocks, super_blocks)| {
+        blocks * sizes.nbs + macro_blocks * sizes.nmbs + super_blocks * sizes.nsbs
+    });
+    let planes = [lent.golden.len(), lent.previous.len(), new];
+    !matches!(lent.table, Table::OtherLength)
+        && published.eq(lent.work.iter().copied())
+        && planes.iter().all(|length| *length as u64 == sizes.buffer)
+}
+
+impl Session {
+    /// "Accepted inter and empty packets leave the session as it was; an intra
+    /// one sets its reference flag."
+    fn after(&self, kind: Kind) -> Session {
+        Session {
+            fields: self.fields.clone(),
+            references: self.references || kind == Kind::Intra,
+        }
+    }
+}
+
+impl Accepted {
+    /// The answer to a packet that was read.
+    fn of(read: FramePacket) -> Accepted {
+        Accepted {
+            kind: read.kind,
+            qis: read.qis,
+            tokens: read.tokens,
+        }
+    }
+}
 
 /// A sound session's sizes and orders and a genuine table, looked at once for
 /// many packets.
@@ -56,5 +185,159 @@ impl<'a> Decoder<'a> {
             previous,
         };
         make(way, source, packet, new);
+    }
+}
+
+#[cfg(test)]
+mod tests {
+    use super::super::setup::tests::small;
+    use super::super::table_memory::{TABLE_BYTES, left_by};
+    use super::*;
+    use crate::bit_writer::BitWriter;
+    use crate::reference::setup::setup;
+
+    /// A slice for each block, one for each macro block, two for each super block.
+    const FORMULA: [(u64, u64, u64); 3] = [(1, 0, 0), (0, 1, 0), (0, 0, 2)];
+
+    /// One macro block in 4:2:0.
+    fn session(references: bool) -> Session {
+        let fields = Fields {
+            fmbw: 1,
+            fmbh: 1,
+            frn: 1,
+            frd: 1,
+            ..Fields::default()
+        };
+        Session { fields, references }
+    }
+
+    /// Lone leaves: tree t has token t % 32.
+    fn genuine() -> Table {
+        let header = small();
+        Table::read(&left_by(header.bytes(), &setup(header.bytes())))
+    }
+
+    /// An intra frame with qi 63 and these choices at positions 0 and 1, for
+    /// luma and chroma.
+    fn intra(choices: [u64; 4]) -> Vec<u8> {
+        let mut bits = BitWriter::default();
+        bits.put(63, 8);
+        bits.put(0, 4);
+        choices.iter().for_each(|choice| bits.put(*choice, 4));
+        bits.bytes().to_vec()
+    }
+
+    struct Given {
+        session: Session,
+        table: Table,
+        work: Vec<u64>,
+        lengths: [usize; 3],
+    }
+
+    fn given(references: bool) -> Given {
+        Given {
+            session: session(references),
+            table: genuine(),
+            work: vec![6, 1, 6],
+            lengths: [384; 3],
+        }
+    }
+
+    /// The outcome, and new after the call; before it is all 7. Golden is all
+    /// 100, previous all 50.
+    fn call(given: &Given, packet: &[u8]) -> (Outcome, Vec<u8>) {
+        let (golden, previous) = (vec![100; given.lengths[0]], vec![50; given.lengths[1]]);
+        let mut new = vec![7; given.lengths[2]];
+        let lent = Lent {
+            table: &given.table,
+            work: &given.work,
+            golden: &golden,
+            previous: &previous,
+        };
+        let rule = FourRule::LastIsD;
+        let outcome = frame_call(&given.session, packet, lent, &FORMULA, rule, &mut new);
+        (outcome, new)
+    }
+
+    fn assert_refused(given: &Given, packet: &[u8], number: u32, place: u64, work: Work) {
+        let (outcome, new) = call(given, packet);
+        assert_eq!(outcome.answer, Err(Fault { number, place }));
+        assert_eq!(
+            (outcome.session, outcome.work),
+            (given.session.clone(), work)
+        );
+        assert!(new.iter().all(|sample| *sample == 7));
+    }
+
+    #[test]
+    fn an_intra_frame_makes_references() {
+        // A value of 1 in each block, then tokens that need more bits.
+        let mut packet = intra([9, 9, 9, 9]);
+        packet.extend([0; 40]);
+        let (outcome, new) = call(&given(false), &packet);
+        let accepted = outcome.answer.unwrap();
+        assert_eq!((accepted.kind, accepted.qis), (Kind::Intra, vec![63]));
+        assert!(outcome.session.references);
+        assert_eq!(outcome.work, Work::Zero);
+        assert!(new.iter().any(|sample| *sample != 7));
+    }
+
+    #[test]
+    fn dc_only_frames() {
+        // Token 0 ends each block at position 0.
+        let (outcome, new) = call(&given(true), &intra([0, 0, 0, 0]));
+        assert_eq!(outcome.answer.unwrap().tokens, 6);
+        assert_eq!(new, [128; 384]);
+    }
+
+    #[test]
+    fn an_empty_packet_repeats_previous() {
+        let (outcome, new) = call(&given(true), &[]);
+        let accepted = outcome.answer.unwrap();
+        assert_eq!((accepted.kind, accepted.tokens), (Kind::Repeat, 0));
+        assert!(accepted.qis.is_empty());
+        assert_eq!(outcome.session, session(true));
+        assert_eq!(new, [50; 384]);
+        assert_refused(&given(false), &[], 9, 0, Work::Zero);
+    }
+
+    #[test]
+    fn an_inter_frame_without_coded_blocks_is_previous() {
+        let mut bits = BitWriter::default();
+        bits.put(0x40, 8);
+        // One qi; no super block partly, none fully coded; scheme 1.
+        [(0, 1), (0b0101, 4), (0b0101, 4), (1, 3), (0, 1), (0, 16)]
+            .into_iter()
+            .for_each(|(value, width)| bits.put(value, width));
+        let (outcome, new) = call(&given(true), bits.bytes());
+        assert_eq!(outcome.answer.unwrap().kind, Kind::Inter);
+        assert_eq!(outcome.session, session(true));
+        assert_eq!(new, [50; 384]);
+        assert_refused(&given(false), bits.bytes(), 9, 1, Work::Zero);
+    }
+
+    #[test]
+    fn refusals_in_order() {
+        let bad_packet = [0x80];
+        let zeros = || Table::read(&[0; TABLE_BYTES]);
+        assert_refused(&given(true), &bad_packet, 10, 0, Work::Zero);
+        let mut wrong = given(true);
+        wrong.table = zeros();
+        assert_refused(&wrong, &bad_packet, 8, 0, Work::Zero);
+        for index in 0..3 {
+            let mut short = given(true);
+            short.table = zeros();
+            short.lengths[index] -= 1;
+            assert_refused(&short, &bad_packet, 1, 0, Work::Untouched);
+            let mut long = given(true);
+            long.table = zeros();
+            long.work[index] += 1;
+            assert_refused(&long, &bad_packet, 1, 0, Work::Untouched);
+        }
+        let mut other = given(true);
+        other.table = Table::read(&[0; TABLE_BYTES - 1]);
+        assert_refused(&other, &bad_packet, 1, 0, Work::Untouched);
+        other.session.fields.pf = 1;
+        assert_refused(&other, &bad_packet, 8, 0, Work::Untouched);
     }
 }

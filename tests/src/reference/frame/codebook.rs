@@ -34,7 +34,6 @@ impl Codebook {
     }
 
     /// The codes.
-    #[cfg(test)]
     pub fn codes(&self) -> &Codes {
         &self.codes
     }

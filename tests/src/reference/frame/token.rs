@@ -21,7 +21,6 @@ pub enum Token {
 }
 
 /// How many bits follow the code of each token.
-#[cfg(test)]
 pub const EXTRA_BITS: [u32; 32] = [
     0, 0, 0, 2, 3, 4, 12, 3, 6, 0, 0, 0, 0, 1, 1, 1, 1, 2, 3, 4, 5, 6, 10, 1, 1, 1, 1, 1, 3, 4, 2,
     3,

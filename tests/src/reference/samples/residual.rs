@@ -49,12 +49,17 @@ pub fn residual(block: &Quantized) -> Square {
     if block.dc_only {
         return [dc_only(block.dc, block.dc_quantizer); 64];
     }
+    inverse(&dequantized(block))
+}
+
+/// "Dequantised values are cut to 16 bits." In natural order.
+pub fn dequantized(block: &Quantized) -> Square {
     let mut square = [0; 64];
     square[0] = cut(block.dc * block.dc_quantizer);
     for (coefficient, place) in block.coefficients.iter().zip(NATURAL).skip(1) {
         square[place] = cut(i64::from(*coefficient) * block.matrix[place] as i64);
     }
-    inverse(&square)
+    square
 }
 
 /// "every residual is (c·q+15)>>5, cut only after the shift"

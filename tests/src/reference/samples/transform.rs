@@ -15,6 +15,11 @@ const C7: i64 = 12785;
 
 /// "rows then columns, then (x+8)>>4"
 pub fn inverse(coefficients: &Square) -> Square {
+    rows_then_columns(coefficients).map(|x| (x + 8) >> 4)
+}
+
+/// The transform before the last shift.
+pub fn rows_then_columns(coefficients: &Square) -> Square {
     let mut rows = [0; 64];
     for row in 0..8 {
         let from: [i64; 8] = std::array::from_fn(|i| coefficients[8 * row + i]);
@@ -24,7 +29,7 @@ pub fn inverse(coefficients: &Square) -> Square {
     for column in 0..8 {
         let from: [i64; 8] = std::array::from_fn(|i| rows[8 * i + column]);
         for (i, x) in line(&from).into_iter().enumerate() {
-            square[8 * i + column] = (x + 8) >> 4;
+            square[8 * i + column] = x;
         }
     }
     square

@@ -9,7 +9,8 @@ use super::super::setup::Setup;
 use super::dc;
 use super::loop_filter::filter_block;
 use super::prediction;
-use super::residual::{Quantized, is_dc_only, residual};
+use super::residual::{Quantized, dequantized, is_dc_only, residual};
+use super::transform::rows_then_columns;
 
 /// Which way.
 #[derive(Clone, Copy, Debug, PartialEq, Eq)]
@@ -126,24 +127,43 @@ impl<'a> Maker<'a> {
             previous,
             ..
         } = self.source;
+        let place = layout.blocks[block];
+        let prediction = self.packet.records[block].prediction;
+        let predicted = prediction::predicted(layout, place, prediction, golden, previous);
+        let residual = residual(&self.quantized(block, number));
+        std::array::from_fn(|i| sample(predicted[i] + residual[i]))
+    }
+
+    /// What its residual is made of.
+    fn quantized(&self, block: usize, number: usize) -> Quantized<'_> {
         let Record {
             qi_index,
             prediction,
             ..
         } = self.packet.records[block];
-        let place = layout.blocks[block];
+        let plane = self.source.layout.blocks[block].plane;
         let kind = usize::from(prediction != Prediction::None);
-        let matrices = &self.matrices[kind][place.plane];
-        let residual = residual(&Quantized {
+        let matrices = &self.matrices[kind][plane];
+        Quantized {
             dc: self.dc[block],
             coefficients: &self.packet.coefficients[number],
             dc_only: is_dc_only(self.packet.last_visits[number]),
             dc_quantizer: matrices[0][0] as i64,
             matrix: &matrices[qi_index],
-        });
-        let predicted = prediction::predicted(layout, place, prediction, golden, previous);
-        std::array::from_fn(|i| sample(predicted[i] + residual[i]))
+        }
     }
+}
+
+/// Whether x+8 passes 16 bits in the last shift of some block. libtheora's
+/// vector code makes another frame then.
+pub fn passes_16_bits(source: Source, packet: &FramePacket) -> bool {
+    let maker = Maker::new(source, packet);
+    let coded = packet.coded.iter().enumerate();
+    coded
+        .map(|(number, block)| maker.quantized(*block, number))
+        .filter(|block| !block.dc_only)
+        .flat_map(|block| rows_then_columns(&dequantized(&block)))
+        .any(|x| x + 8 > 32767)
 }
 
 /// "Uncoded blocks copy previous."

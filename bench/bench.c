@@ -1,0 +1,276 @@
+/*
+ * Times the decoding of recordings, side by side in one run: this decoder, libtheora, FFmpeg (one thread each).
+ *
+ *   bench RECORDING.ogv..
+ *
+ * All packets are read into memory first; only decoding is timed. Each decoder goes over the whole recording in turn,
+ * several rounds, and its fastest round counts. One line of a table for each recording: the frame's size in macro blocks,
+ * the number of frames, microseconds per frame of each decoder, and the ratios.
+ */
+#define _POSIX_C_SOURCE 199309L
+#include "wedgepetal.h"
+
+#include <libavcodec/avcodec.h>
+#include <ogg/ogg.h>
+#include <stdio.h>
+#include <stdlib.h>
+#include <string.h>
+#include <theora/theoradec.h>
+#include <time.h>
+
+enum { HEADERS = 3, LEAST_ROUNDS = 3, MOST_ROUNDS = 400 };
+static const double ENOUGH_SECONDS = 1.0;
+
+struct recording {
+    unsigned char **packets;
+    size_t *lengths;
+    size_t count;
+};
+
+static void fail(const char *what)
+{
+    fprintf(stderr, "bench: %s\n", what);
+    exit(1);
+}
+
+static void *memory(size_t bytes)
+{
+    void *m = calloc(bytes > 0 ? bytes : 1, 1);
+    if (m == NULL) {
+        fail("no memory");
+    }
+    return m;
+}
+
+static double now(void)
+{
+    struct timespec t;
+    clock_gettime(CLOCK_MONOTONIC, &t);
+    return (double)t.tv_sec + (double)t.tv_nsec * 1e-9;
+}
+
+/* ---- the packets of a recording's Theora stream */
+
+static void add_packet(struct recording *r, const ogg_packet *p)
+{
+    size_t n = r->count + 1;
+    r->packets = realloc(r->packets, n * sizeof *r->packets);
+    r->lengths = realloc(r->lengths, n * sizeof *r->lengths);
+    if (r->packets == NULL || r->lengths == NULL) {
+        fail("no memory");
+    }
+    /* FFmpeg reads past the end of its packets. */
+    r->packets[r->count] = memory((size_t)p->bytes + AV_INPUT_BUFFER_PADDING_SIZE);
+    memcpy(r->packets[r->count], p->packet, (size_t)p->bytes);
+    r->lengths[r->count] = (size_t)p->bytes;
+    r->count = n;
+}
+
+static struct recording read_recording(const char *path)
+{
+    struct recording r = {0};
+    ogg_sync_state sync;
+    ogg_stream_state stream;
+    ogg_page page;
+    ogg_packet packet;
+    int have = 0;
+    size_t got;
+    FILE *in = fopen(path, "rb");
+    if (in == NULL) {
+        fail(path);
+    }
+    ogg_sync_init(&sync);
+    do {
+        got = fread(ogg_sync_buffer(&sync, 65536), 1, 65536, in);
+        ogg_sync_wrote(&sync, (long)got);
+        while (ogg_sync_pageout(&sync, &page) == 1) {
+            if (!have && ogg_page_bos(&page) && page.body_len >= 7 && memcmp(page.body, "\200theora", 7) == 0) {
+                have = 1;
+                ogg_stream_init(&stream, ogg_page_serialno(&page));
+            }
+            if (have && ogg_stream_pagein(&stream, &page) == 0) {
+                while (ogg_stream_packetout(&stream, &packet) == 1) {
+                    add_packet(&r, &packet);
+                }
+            }
+        }
+    } while (got > 0);
+    fclose(in);
+    if (have) {
+        ogg_stream_clear(&stream);
+    }
+    ogg_sync_clear(&sync);
+    if (r.count <= HEADERS) {
+        fail("no Theora stream");
+    }
+    return r;
+}
+
+/* ---- this decoder */
+
+/* Decodes the whole recording. golden, previous and new are three buffers; an accepted frame's buffer is handed on by number. */
+static double our_round(const struct recording *r)
+{
+    uint64_t session[WEDGEPETAL_SESSION_NUMBERS], sizes[WEDGEPETAL_SIZE_NUMBERS], lengths[WEDGEPETAL_LENGTH_NUMBERS];
+    uint64_t answer[WEDGEPETAL_ANSWER_NUMBERS];
+    uint8_t *table = memory(WEDGEPETAL_TABLE_BYTES), *planes[3];
+    void *lent;
+    struct wedgepetal_work work;
+    int golden = 0, previous = 1;
+    double start;
+    if (wedgepetal_identification(r->packets[0], r->lengths[0], session, WEDGEPETAL_SESSION_NUMBERS) != 0 ||
+        wedgepetal_setup(r->packets[2], r->lengths[2], table, WEDGEPETAL_TABLE_BYTES) != 0 ||
+        wedgepetal_sizes(session, WEDGEPETAL_SESSION_NUMBERS, sizes, WEDGEPETAL_SIZE_NUMBERS) != 0 ||
+        wedgepetal_work_lengths(session, WEDGEPETAL_SESSION_NUMBERS, lengths, WEDGEPETAL_LENGTH_NUMBERS) != 0) {
+        fail("a header is refused");
+    }
+    lent = memory(lengths[WEDGEPETAL_WORK_BYTES]);
+    work = wedgepetal_work_in(lent, lengths);
+    for (int p = 0; p < 3; p++) {
+        planes[p] = memory(sizes[WEDGEPETAL_BUFFER]);
+    }
+    start = now();
+    for (size_t i = HEADERS; i < r->count; i++) {
+        int new = 0;
+        while (new == golden || new == previous) {
+            new++;
+        }
+        if (wedgepetal_frame_in(&work, session, r->packets[i], r->lengths[i], table, planes[golden], planes[previous],
+                                planes[new], sizes[WEDGEPETAL_BUFFER], answer) == 0) {
+            previous = new;
+            golden = answer[WEDGEPETAL_KIND] == WEDGEPETAL_INTRA ? new : golden;
+        }
+    }
+    start = now() - start;
+    free(table);
+    free(lent);
+    for (int p = 0; p < 3; p++) {
+        free(planes[p]);
+    }
+    return start;
+}
+
+/* ---- libtheora */
+
+static double theora_round(const struct recording *r)
+{
+    th_info info;
+    th_comment comment;
+    th_setup_info *setup = NULL;
+    th_dec_ctx *decoder;
+    th_ycbcr_buffer planes;
+    double start;
+    th_info_init(&info);
+    th_comment_init(&comment);
+    for (size_t i = 0; i < HEADERS; i++) {
+        ogg_packet p = {.packet = r->packets[i], .bytes = (long)r->lengths[i], .b_o_s = i == 0, .packetno = (long)i};
+        if (th_decode_headerin(&info, &comment, &setup, &p) <= 0) {
+            fail("libtheora refuses a header");
+        }
+    }
+    decoder = th_decode_alloc(&info, setup);
+    start = now();
+    for (size_t i = HEADERS; i < r->count; i++) {
+        ogg_packet p = {.packet = r->packets[i], .bytes = (long)r->lengths[i], .packetno = (long)i, .granulepos = -1};
+        if (th_decode_packetin(decoder, &p, NULL) >= 0) {
+            th_decode_ycbcr_out(decoder, planes);
+        }
+    }
+    start = now() - start;
+    th_decode_free(decoder);
+    th_setup_free(setup);
+    th_comment_clear(&comment);
+    th_info_clear(&info);
+    return start;
+}
+
+/* ---- FFmpeg: the three headers, each behind its length in two bytes, are its extradata. It is given no empty packet: to it that is the end. */
+
+static double ffmpeg_round(const struct recording *r)
+{
+    AVCodecContext *c = avcodec_alloc_context3(avcodec_find_decoder(AV_CODEC_ID_THEORA));
+    AVPacket *packet = av_packet_alloc();
+    AVFrame *frame = av_frame_alloc();
+    size_t size = 0, at = 0;
+    double start;
+    for (size_t i = 0; i < HEADERS; i++) {
+        size += 2 + r->lengths[i];
+    }
+    c->extradata = av_mallocz(size + AV_INPUT_BUFFER_PADDING_SIZE);
+    c->extradata_size = (int)size;
+    for (size_t i = 0; i < HEADERS; i++) {
+        c->extradata[at++] = (uint8_t)(r->lengths[i] >> 8);
+        c->extradata[at++] = (uint8_t)r->lengths[i];
+        memcpy(c->extradata + at, r->packets[i], r->lengths[i]);
+        at += r->lengths[i];
+    }
+    c->thread_count = 1;
+    if (avcodec_open2(c, c->codec, NULL) < 0) {
+        start = -1; /* it refuses some setups */
+    } else {
+        start = now();
+        for (size_t i = HEADERS; i < r->count; i++) {
+            if (r->lengths[i] > 0) {
+                packet->data = r->packets[i];
+                packet->size = (int)r->lengths[i];
+                avcodec_send_packet(c, packet);
+                while (avcodec_receive_frame(c, frame) == 0) {
+                    av_frame_unref(frame);
+                }
+            }
+        }
+        start = now() - start;
+    }
+    av_frame_free(&frame);
+    packet->data = NULL;
+    packet->size = 0;
+    av_packet_free(&packet);
+    avcodec_free_context(&c);
+    return start;
+}
+
+/* ---- side by side */
+
+static const char *base_name(const char *path)
+{
+    const char *slash = strrchr(path, '/');
+    return slash == NULL ? path : slash + 1;
+}
+
+static void compare(const char *path)
+{
+    struct recording r = read_recording(path);
+    double best[3] = {1e9, 1e9, 1e9}, began = now();
+    double frames = (double)(r.count - HEADERS);
+    const unsigned char *id = r.packets[0];
+    for (int round = 0; round < LEAST_ROUNDS || (now() - began < ENOUGH_SECONDS && round < MOST_ROUNDS); round++) {
+        double t[3] = {our_round(&r), theora_round(&r), ffmpeg_round(&r)};
+        for (int k = 0; k < 3; k++) {
+            best[k] = t[k] < best[k] ? t[k] : best[k];
+        }
+    }
+    printf("| %s | %d × %d | %.0f | %.1f | %.1f | ", base_name(path), id[10] << 8 | id[11], id[12] << 8 | id[13], frames,
+           best[0] / frames * 1e6, best[1] / frames * 1e6);
+    if (best[2] < 0) {
+        printf("- | %.2f | - |\n", best[0] / best[1]);
+    } else {
+        printf("%.1f | %.2f | %.2f |\n", best[2] / frames * 1e6, best[0] / best[1], best[0] / best[2]);
+    }
+    fflush(stdout);
+    for (size_t i = 0; i < r.count; i++) {
+        free(r.packets[i]);
+    }
+    free(r.packets);
+    free(r.lengths);
+}
+
+int main(int count, char **words)
+{
+    av_log_set_level(AV_LOG_QUIET);
+    printf("| recording | macro blocks | frames | ours, µs a frame | libtheora | FFmpeg | ours / libtheora | ours / FFmpeg |\n");
+    printf("|---|---|---|---|---|---|---|---|\n");
+    for (int k = 1; k < count; k++) {
+        compare(words[k]);
+    }
+    return 0;
+}

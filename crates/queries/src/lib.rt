@@ -1,0 +1,232 @@
+// What a caller may ask of a session and of a table memory: orders of blocks, offsets of samples, loop limits, quantization matrices.
+use geometry::Block;
+use geometry::PixelFormat;
+use geometry::Place;
+use headers::Session;
+use setup::TableAnswer;
+ghost use mathlib.Core.Path.{_≡_};
+ghost use Prim.Native.Nat.{ℕ, _≤_, _<_};
+ghost use Rattle.geometry.specs.Frame.{block};
+ghost use Rattle.queries.specs.Orders.{hasBlock, blockAt, blockNumber, macroBlockAt, macroBlockNumber, macroBlockOf, sampleOffset, asBlock, asPlace, asNumber};
+ghost use Rattle.queries.specs.Setup.{tableLimit, matrixInto, asMatrix, leaving};
+
+// A block; the frame has no such block; or the number of the refusal.
+pub enum BlockAnswer {
+    Is(Block),
+    Absent,
+    Refused(u32),
+}
+
+// The same of a macro block's place.
+pub enum PlaceAnswer {
+    Is(Place),
+    Absent,
+    Refused(u32),
+}
+
+// The same of a number: a place in coded order, or an offset in a plane buffer.
+pub enum NumberAnswer {
+    Is(u64),
+    Absent,
+    Refused(u32),
+}
+
+// A quantization matrix stands in the slice that was lent; there is no such matrix; or the number of the refusal.
+pub enum MatrixAnswer {
+    Is,
+    Absent,
+    Refused(u32),
+}
+
+// Whether a frame of w by h macro blocks has block b.
+fn has_block(format: PixelFormat, w: u64, h: u64, b: Block) -> bool
+    requires { ⌜ (w ≤ 65535) × (h ≤ 65535) ⌝ }
+    ensures { λ r. ⌜ r ≡ hasBlock format w h b ⌝ }
+{
+    if 3 <= b.plane {
+        return false;
+    }
+    let plane = geometry::plane_of(format, w, h, b.plane);
+    (b.x < plane.across) & (b.y < plane.up)
+}
+
+// The block that is number i in the coded order of a session's frames.
+pub fn block_at(s: Session, i: u64) -> BlockAnswer
+    ensures { λ r. ⌜ r ≡ asBlock (blockAt s i) ⌝ }
+{
+    if headers::session_fits(s) {
+        let format = headers::pixel_format(s.pf);
+        let sizes = geometry::sizes(format, s.fmbw, s.fmbh);
+        if i < sizes.blocks {
+            return BlockAnswer::Is(geometry::block_at(format, s.fmbw, s.fmbh, i));
+        }
+        return BlockAnswer::Absent;
+    }
+    BlockAnswer::Refused(8)
+}
+
+// The number of block (x, y) of a plane there.
+pub fn block_number(s: Session, plane: u64, x: u64, y: u64) -> NumberAnswer
+    ensures { λ r. ⌜ r ≡ asNumber (blockNumber s (block plane x y)) ⌝ }
+{
+    if headers::session_fits(s) {
+        let format = headers::pixel_format(s.pf);
+        let b = Block { plane, x, y };
+        if has_block(format, s.fmbw, s.fmbh, b) {
+            return NumberAnswer::Is(geometry::block_number(format, s.fmbw, s.fmbh, b));
+        }
+        return NumberAnswer::Absent;
+    }
+    NumberAnswer::Refused(8)
+}
+
+// The macro block that is number i in the coded order of a session's frames.
+pub fn macro_block_at(s: Session, i: u64) -> PlaceAnswer
+    ensures { λ r. ⌜ r ≡ asPlace (macroBlockAt s i) ⌝ }
+{
+    if headers::session_fits(s) {
+        let format = headers::pixel_format(s.pf);
+        let sizes = geometry::sizes(format, s.fmbw, s.fmbh);
+        if i < sizes.macro_blocks {
+            return PlaceAnswer::Is(geometry::macro_block_at(s.fmbw, s.fmbh, i));
+        }
+        return PlaceAnswer::Absent;
+    }
+    PlaceAnswer::Refused(8)
+}
+
+// The number of macro block (x, y) there.
+pub fn macro_block_number(s: Session, x: u64, y: u64) -> NumberAnswer
+    ensures { λ r. ⌜ r ≡ asNumber (macroBlockNumber s x y) ⌝ }
+{
+    if headers::session_fits(s) {
+        if x < s.fmbw {
+            if y < s.fmbh {
+                return NumberAnswer::Is(geometry::macro_block_number(s.fmbw, s.fmbh, x, y));
+            }
+        }
+        return NumberAnswer::Absent;
+    }
+    NumberAnswer::Refused(8)
+}
+
+// The macro block that block (x, y) of a plane belongs to.
+pub fn macro_block_of(s: Session, plane: u64, x: u64, y: u64) -> PlaceAnswer
+    ensures { λ r. ⌜ r ≡ asPlace (macroBlockOf s (block plane x y)) ⌝ }
+{
+    if headers::session_fits(s) {
+        let format = headers::pixel_format(s.pf);
+        let b = Block { plane, x, y };
+        if has_block(format, s.fmbw, s.fmbh, b) {
+            return PlaceAnswer::Is(geometry::macro_of_block(format, b));
+        }
+        return PlaceAnswer::Absent;
+    }
+    PlaceAnswer::Refused(8)
+}
+
+// Where in a plane buffer sample (column, row) of block (x, y) of a plane lies.
+pub fn sample_offset(s: Session, plane: u64, x: u64, y: u64, column: u64, row: u64) -> NumberAnswer
+    ensures { λ r. ⌜ r ≡ asNumber (sampleOffset s (block plane x y) column row) ⌝ }
+{
+    if headers::session_fits(s) {
+        let format = headers::pixel_format(s.pf);
+        let b = Block { plane, x, y };
+        let there = has_block(format, s.fmbw, s.fmbh, b);
+        if there & (column < 8) & (row < 8) {
+            return NumberAnswer::Is(geometry::sample_offset(
+                format,
+                s.fmbw,
+                s.fmbh,
+                b,
+                column,
+                row,
+            ));
+        }
+        return NumberAnswer::Absent;
+    }
+    NumberAnswer::Refused(8)
+}
+
+// The loop limit of a qi, by the setup of a table memory.
+pub fn loop_limit(table: &[u8], qi: u64) -> NumberAnswer
+    ensures { λ r. ⌜ r ≡ asNumber (tableLimit (now (table .entry)) qi) ⌝ }
+{
+    if table.len() != setup::TABLE_BYTES {
+        return NumberAnswer::Refused(1);
+    }
+    let mut limits = [0u16; 64];
+    let mut ac = [0u16; 64];
+    let mut dc = [0u16; 64];
+    let mut sizes = [0u16; 384];
+    let mut indices = [0u16; 384];
+    let mut nodes = [0u8; 5120];
+    let answer = setup::load_table(
+        table,
+        &mut limits,
+        &mut ac,
+        &mut dc,
+        &mut sizes,
+        &mut indices,
+        &mut nodes,
+    );
+    match answer {
+        TableAnswer::NotGenuine => NumberAnswer::Refused(8),
+        TableAnswer::Genuine(_) => {
+            if qi < 64 {
+                let limit = tables::loop_limit(&limits, qi as usize);
+                return NumberAnswer::Is(limit as u64);
+            }
+            NumberAnswer::Absent
+        }
+    }
+}
+
+// The quantization matrix of a type (0 intra, 1 inter), a plane and a qi, in natural order, by the setup of a table memory.
+pub fn matrix(table: &[u8], kind: u64, plane: u64, qi: u64, out: &mut [u16]) -> MatrixAnswer
+    ensures { λ r. ⌜ r ≡ asMatrix (matrixInto (now (out .entry)) (now (table .entry)) kind plane qi) ⌝ }
+    ensures { λ r. ⌜ now (out .exit) ≡ leaving (now (out .entry)) (matrixInto (now (out .entry)) (now (table .entry)) kind plane qi) ⌝ }
+{
+    if out.len() != 64 {
+        return MatrixAnswer::Refused(1);
+    }
+    if table.len() != setup::TABLE_BYTES {
+        return MatrixAnswer::Refused(1);
+    }
+    let mut limits = [0u16; 64];
+    let mut ac = [0u16; 64];
+    let mut dc = [0u16; 64];
+    let mut sizes = [0u16; 384];
+    let mut indices = [0u16; 384];
+    let mut nodes = [0u8; 5120];
+    let answer = setup::load_table(
+        table,
+        &mut limits,
+        &mut ac,
+        &mut dc,
+        &mut sizes,
+        &mut indices,
+        &mut nodes,
+    );
+    match answer {
+        TableAnswer::NotGenuine => MatrixAnswer::Refused(8),
+        TableAnswer::Genuine(place) => {
+            if (kind < 2) & (plane < 3) & (qi < 64) {
+                matrices::matrix(
+                    table,
+                    place,
+                    &ac,
+                    &dc,
+                    &sizes,
+                    &indices,
+                    kind as usize,
+                    plane as usize,
+                    qi as usize,
+                    out,
+                );
+                return MatrixAnswer::Is;
+            }
+            MatrixAnswer::Absent
+        }
+    }
+}

@@ -1,0 +1,50 @@
+-- `theora_c::return_frame` meets its contract. Assumes nothing.
+use borrow.Author.Needs.{needs}
+use Rattle.theora_c.proofs.Calls.{frame-accepted, frame-refused}
+use Rattle.theora_c.proofs.return_frame.Statement.{statement}
+use Rattle.theora_c.proofs.return_frame.Tie as tie
+
+enum-told : tie.Need-enum-told
+enum-told c = search needs
+
+slice-read-before : tie.Need-slice-read-before
+slice-read-before c = search needs
+
+reference-number-requires : tie.Need-reference-number-requires
+reference-number-requires c κs = search needs
+
+slice-write-session : tie.Need-slice-write-session
+slice-write-session c = search needs
+
+return-header-requires : tie.Need-return-header-requires
+return-header-requires c κs = search needs
+
+enum-known-verdict : tie.Need-enum-known-verdict
+enum-known-verdict c = search needs
+
+same-length : tie.Need-same-length
+same-length c = search needs
+
+same-length-2 : tie.Need-same-length-2
+same-length-2 c = search needs
+
+returns : tie.Need-returns
+returns c = let a = c .before .before .before .before .before .before .before .before .before .before .before .args in frame-accepted (a .session .now) (a .list .now) (a .answer .header) (c .before .before .before .before .before .before .enum-told .given .1) (c .before .before .before .before .reference-number .ensures) (c .before .before .return-header .ensures)
+
+returns-2 : tie.Need-returns-2
+returns-2 c = let a = c .before .before .before .before .before .before .args in frame-refused (a .session .now) (a .list .now) (a .answer .header) (c .before .verdict .given .1)
+
+pub return-frame-spec : {M : Type 1} → statement M
+return-frame-spec =
+    tie.close
+    (tie.spec
+    enum-told
+    slice-read-before
+    reference-number-requires
+    slice-write-session
+    return-header-requires
+    enum-known-verdict
+    same-length
+    same-length-2
+    returns
+    returns-2)

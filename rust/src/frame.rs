@@ -1,0 +1,146 @@
+//! The frame call, and the planes of a frame.
+
+use crate::lists::{self, ANSWER_NUMBERS, Buffers};
+use crate::{Refusal, Session, Sizes, Table, Work};
+
+/// The kind of a frame.
+#[derive(Clone, Copy, Debug, PartialEq, Eq, Hash)]
+pub enum Kind {
+    /// All blocks are coded, and none is predicted.
+    Intra,
+    /// Blocks may be predicted, or left as they were.
+    Inter,
+    /// An empty packet: the previous frame once more.
+    Repeat,
+}
+
+/// What an accepted frame answers.
+#[derive(Clone, Copy, Debug, PartialEq, Eq, Hash)]
+pub struct FrameAnswer {
+    /// The frame's kind.
+    pub kind: Kind,
+    qis: [u8; 3],
+    count: usize,
+}
+
+impl FrameAnswer {
+    /// The list of qi: one to three of them, none for a repeat.
+    pub fn qis(&self) -> &[u8] {
+        &self.qis[..self.count]
+    }
+
+    /// The answer that a list of numbers stands for.
+    fn from_list(list: &[u64; ANSWER_NUMBERS]) -> FrameAnswer {
+        let [kind, count, qis @ ..] = *list;
+        FrameAnswer {
+            kind: match kind {
+                0 => Kind::Intra,
+                1 => Kind::Inter,
+                _ => Kind::Repeat,
+            },
+            // A qi has 6 bits, and there are at most 3.
+            qis: qis.map(|qi| qi as u8),
+            count: count as usize,
+        }
+    }
+}
+
+impl Session {
+    /// Decodes a frame packet into `buffers.new`. If it is an intra frame, the
+    /// session has references afterwards. [`Player`](crate::Player) also hands
+    /// the frames on from call to call.
+    ///
+    /// # Errors
+    ///
+    /// Number 8 for fields that could not come from an identification header,
+    /// 1 if work memory or a buffer has another length than this session's,
+    /// then 4 and 9 to 13, for the first fault of the packet. The session and
+    /// `buffers.new` are then as they were.
+    pub fn frame(
+        &mut self,
+        packet: &[u8],
+        table: &Table,
+        work: &mut Work,
+        buffers: Buffers<'_>,
+    ) -> Result<FrameAnswer, Refusal> {
+        let mut session = self.to_list();
+        let mut answer = [0; ANSWER_NUMBERS];
+        Refusal::check(lists::frame(
+            &mut session,
+            packet,
+            table.bytes(),
+            work.slices(),
+            buffers,
+            &mut answer,
+        ))?;
+        *self = Session::from_list(&session);
+        Ok(FrameAnswer::from_list(&answer))
+    }
+}
+
+/// A frame: its planes Y', Cb, Cr in one buffer.
+#[derive(Clone, Copy, Debug)]
+pub struct Frame<'a> {
+    sizes: &'a Sizes,
+    bytes: &'a [u8],
+}
+
+impl<'a> Frame<'a> {
+    /// The frame in a buffer of these sizes.
+    ///
+    /// # Errors
+    ///
+    /// Number 1 if the buffer has another length.
+    pub fn new(sizes: &'a Sizes, bytes: &'a [u8]) -> Result<Frame<'a>, Refusal> {
+        if bytes.len() as u64 == sizes.buffer {
+            Ok(Frame { sizes, bytes })
+        } else {
+            Err(Refusal::LENGTH)
+        }
+    }
+
+    /// The whole buffer: plane 0 first, in each plane the lowest row first.
+    pub fn bytes(&self) -> &'a [u8] {
+        self.bytes
+    }
+
+    /// The planes Y', Cb, Cr.
+    ///
+    /// # Panics
+    ///
+    /// If the planes of the sizes do not lie in their buffer. Those that a
+    /// session gives do.
+    pub fn planes(&self) -> [Samples<'a>; 3] {
+        self.sizes.planes.each_ref().map(|plane| {
+            // They lie in memory, so that these numbers fit.
+            let (offset, length) = (plane.offset as usize, plane.length as usize);
+            Samples {
+                width: 8 * plane.blocks_across as usize,
+                height: 8 * plane.blocks_up as usize,
+                bytes: &self.bytes[offset..offset + length],
+            }
+        })
+    }
+}
+
+/// The samples of one plane.
+#[derive(Clone, Copy, Debug, PartialEq, Eq)]
+pub struct Samples<'a> {
+    /// How many samples a row has.
+    pub width: usize,
+    /// How many rows there are.
+    pub height: usize,
+    /// The rows one after the other, the lowest first.
+    pub bytes: &'a [u8],
+}
+
+impl<'a> Samples<'a> {
+    /// A row, counted from the bottom.
+    ///
+    /// # Panics
+    ///
+    /// If there is no such row.
+    pub fn row(&self, y: usize) -> &'a [u8] {
+        &self.bytes[y * self.width..(y + 1) * self.width]
+    }
+}

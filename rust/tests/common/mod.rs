@@ -1,0 +1,61 @@
+//! Sessions and packets that the tests share.
+
+use wedgepetal::Session;
+
+/// A session of so many macro blocks.
+pub fn session(fmbw: u64, fmbh: u64, pf: u64) -> Session {
+    Session {
+        vrev: 1,
+        fmbw,
+        fmbh,
+        picw: 16 * fmbw,
+        pich: 16 * fmbh,
+        picx: 0,
+        picy: 0,
+        frn: 25,
+        frd: 1,
+        parn: 0,
+        pard: 0,
+        cs: 0,
+        nombr: 0,
+        qual: 0,
+        kfgshift: 6,
+        pf,
+        references: false,
+    }
+}
+
+/// A packet of these bits, written as 0 and 1; other characters are passed over.
+pub fn packet(bits: &str) -> Vec<u8> {
+    let bits: Vec<u8> = bits
+        .bytes()
+        .filter(|c| matches!(c, b'0' | b'1'))
+        .map(|c| c - b'0')
+        .collect();
+    bits.chunks(8)
+        .map(|byte| (0..8).fold(0, |sum, i| sum << 1 | byte.get(i).unwrap_or(&0)))
+        .collect()
+}
+
+/// A setup header: limits 1, scales 1, one matrix of the value 0, one range.
+/// Each tree is a lone leaf with the token that is given for its number.
+pub fn setup_packet(token: impl Fn(usize) -> u8) -> Vec<u8> {
+    let common: String = b"\x82theora".map(|byte| format!("{byte:08b}")).concat();
+    let ones = "1".repeat(64);
+    let trees: String = (0..80).map(|i| format!("1{:05b}", token(i))).collect();
+    let parts = [
+        &common,
+        "001",
+        &ones,
+        "0000",
+        &ones,
+        "0000",
+        &ones,
+        "000000000",
+        &"0".repeat(512),
+        "111110",
+        "00000000",
+        &trees,
+    ];
+    packet(&parts.concat())
+}

@@ -1,0 +1,285 @@
+//! Frame packets: random ones of small frames, and damaged, cut and extended
+//! ones of recordings.
+//!
+//! Each is given to the independent implementation, and what must hold of any
+//! decoder is tried on it: bytes behind the place reached change nothing, a
+//! packet that ends before it is refused by 4, a refusal by another number
+//! stands when bytes are appended, both ways make the same frame, a refused
+//! call writes nothing.
+
+use crate::frame_calls::Caller;
+use crate::generate::cases::Case;
+use crate::generate::encoder::{Encoded, encoded};
+use crate::generate::frame_packets::{packet, variant};
+use crate::random::Random;
+use crate::reference::decode::Decoder;
+use crate::reference::frame::reader::{Bits, Field, FrameFault};
+use crate::reference::frame::vectors::FourRule;
+use crate::reference::frame::{FramePacket, Kind};
+use crate::reference::samples::ways::Way;
+use std::collections::BTreeMap;
+use std::fmt;
+
+/// How many packets are made for one session and setup.
+const PACKETS_OF_A_CASE: u64 = 64;
+
+/// What was tried.
+#[derive(Default)]
+pub struct Report {
+    /// Accepted packets by kind.
+    accepted: BTreeMap<Kind, u64>,
+    /// How often a field was at fault by a number.
+    faults: BTreeMap<(Field, u32), u64>,
+    /// Macro blocks of accepted inter frames by mode.
+    modes: [u64; 8],
+    /// Blocks that are DC-only, and others.
+    blocks: [u64; 2],
+    tokens: u64,
+    /// Calls with a wrong session, length or table, by their answer.
+    wrong_calls: BTreeMap<u32, u64>,
+}
+
+/// What a packet is decoded with.
+pub struct Frame<'a> {
+    /// Session and setup.
+    pub decoder: &'a Decoder<'a>,
+    /// Whether references exist.
+    pub references: bool,
+    /// The golden frame.
+    pub golden: &'a [u8],
+    /// The previous frame.
+    pub previous: &'a [u8],
+}
+
+/// Tries so many random packets, and some of frames with very long runs.
+pub fn compare(random: &mut Random, packets: u64) -> Result<Report, String> {
+    let mut report = Report::default();
+    for _ in 0..packets.div_ceil(PACKETS_OF_A_CASE) {
+        let case = Case::small(random);
+        report.of_case(random, &case, PACKETS_OF_A_CASE)?;
+    }
+    // More than 4129 super blocks; more than 4129 blocks.
+    for (fmbw, fmbh, kind) in [(1, 4200, Kind::Inter), (28, 27, Kind::Intra)] {
+        let case = Case::of_size(random, fmbw, fmbh);
+        report.longest_runs(random, &case, kind)?;
+    }
+    Ok(report)
+}
+
+impl Report {
+    /// Tries so many packets of one session and setup.
+    fn of_case(&mut self, random: &mut Random, case: &Case, packets: u64) -> Result<(), String> {
+        let decoder = Decoder::new(&case.fields, &case.setup);
+        let caller = Caller::new(case);
+        let mut new = vec![0; case.golden.len()];
+        for _ in 0..packets {
+            let references = !random.once_in(8);
+            let made = packet(random, &decoder, references);
+            let frame = Frame {
+                decoder: &decoder,
+                references,
+                golden: &case.golden,
+                previous: &case.previous,
+            };
+            let read = self.of_packet(&frame, made.bytes())?;
+            caller.right(&frame, made.bytes(), read, &mut new)?;
+            if random.once_in(16) {
+                let number = caller.wrong(random, &frame, made.bytes(), &mut new)?;
+                *self.wrong_calls.entry(number).or_default() += 1;
+            }
+        }
+        Ok(())
+    }
+
+    /// Tries packets until some of them had a run of 4129.
+    fn longest_runs(&mut self, random: &mut Random, case: &Case, kind: Kind) -> Result<(), String> {
+        let decoder = Decoder::new(&case.fields, &case.setup);
+        let frame = Frame {
+            decoder: &decoder,
+            references: true,
+            golden: &case.golden,
+            previous: &case.previous,
+        };
+        let mut tried = 0;
+        for _ in 0..100 {
+            let Encoded { written, sent } = encoded(random, &decoder, kind);
+            if sent.is_some_and(|sent| sent.longest_runs > 0) {
+                drop(self.of_packet(&frame, written.bytes())?);
+                tried += 1;
+            }
+            if tried == 3 {
+                return Ok(());
+            }
+        }
+        Err("no packets with a run of 4129".to_string())
+    }
+
+    /// Tries so many variants of a recording's packet.
+    pub fn of_recording(
+        &mut self,
+        random: &mut Random,
+        frame: &Frame,
+        packet: &[u8],
+        variants: u64,
+    ) -> Result<(), String> {
+        for _ in 0..variants {
+            drop(self.of_packet(frame, variant(random, packet).bytes())?);
+        }
+        Ok(())
+    }
+
+    /// Tries one packet.
+    fn of_packet(
+        &mut self,
+        frame: &Frame,
+        packet: &[u8],
+    ) -> Result<Result<FramePacket, FrameFault>, String> {
+        let read = frame.read(packet);
+        self.count(&read);
+        let held = match &read {
+            Ok(read) => frame.accepted(packet, read),
+            Err(fault) => frame.refused(packet, *fault),
+        };
+        match held {
+            true => Ok(read),
+            false => Err(format!("packet {packet:02x?}\nread {read:?}")),
+        }
+    }
+
+    /// Counts what a packet says, or its fault.
+    fn count(&mut self, read: &Result<FramePacket, FrameFault>) {
+        let read = match read {
+            Err(FrameFault { fault, field }) => {
+                *self.faults.entry((*field, fault.number)).or_default() += 1;
+                return;
+            }
+            Ok(read) => read,
+        };
+        *self.accepted.entry(read.kind).or_default() += 1;
+        self.tokens += read.tokens;
+        for visit in &read.last_visits {
+            self.blocks[usize::from(*visit >= 2)] += 1;
+        }
+        if read.kind == Kind::Inter {
+            read.modes
+                .iter()
+                .for_each(|mode| self.modes[*mode as usize] += 1);
+        }
+    }
+
+    /// The faults that a packet can have and that none of these had.
+    pub fn missed(&self) -> Vec<String> {
+        possible()
+            .into_iter()
+            .filter(|kind| !self.faults.contains_key(kind))
+            .map(|(field, number)| format!("no {field:?} refused by {number}"))
+            .collect()
+    }
+}
+
+impl Frame<'_> {
+    /// Reads a packet.
+    fn read(&self, packet: &[u8]) -> Result<FramePacket, FrameFault> {
+        self.decoder
+            .read(self.references, FourRule::LastIsD, packet)
+    }
+
+    /// Makes the frame of a packet.
+    pub fn make(&self, way: Way, read: &FramePacket, new: &mut [u8]) {
+        self.decoder
+            .make(way, read, self.golden, self.previous, new);
+    }
+
+    /// What must hold of an accepted packet.
+    fn accepted(&self, packet: &[u8], read: &FramePacket) -> bool {
+        let [mut first, mut second] = [0, 255].map(|byte| vec![byte; self.previous.len()]);
+        self.make(Way::First, read, &mut first);
+        self.make(Way::Second, read, &mut second);
+        if packet.is_empty() {
+            return first == second;
+        }
+        let needed = read.bits.div_ceil(8) as usize;
+        let longer = [packet, &[0x5A; 9]].concat();
+        let cut = &packet[..(read.bits as usize - 1) / 8];
+        let number = self.read(cut).map_err(|fault| fault.fault.number);
+        first == second
+            && read.tokens <= 64 * read.coded.len() as u64
+            && self.read(&packet[..needed]).as_ref() == Ok(read)
+            && self.read(&longer).as_ref() == Ok(read)
+            && (cut.is_empty() || number == Err(4))
+    }
+
+    /// What must hold of a refused packet.
+    fn refused(&self, packet: &[u8], fault: FrameFault) -> bool {
+        let longer = [packet, &[0xA5; 9]].concat();
+        let bits = 8 * packet.len() as u64;
+        fault.fault.place <= bits
+            && (fault.fault.number == 4
+                || packet.is_empty()
+                || self.read(&longer).err() == Some(fault))
+    }
+}
+
+/// Every field with the numbers by which it can be refused. The first qi, the
+/// second and the bit behind it lie within bytes that were begun before, so
+/// that a packet never ends at them.
+fn possible() -> Vec<(Field, u32)> {
+    let mut kinds = vec![
+        (Field::Packet, 9),
+        (Field::FirstBit, 10),
+        (Field::Type, 9),
+        (Field::Reserved, 11),
+        (Field::Token, 13),
+    ];
+    let strings = [
+        Bits::Partly,
+        Bits::Fully,
+        Bits::Blocks,
+        Bits::BlockQi(0),
+        Bits::BlockQi(1),
+    ];
+    for bits in strings {
+        kinds.push((Field::RunBit(bits), 4));
+        kinds.extend([(Field::Run(bits), 4), (Field::Run(bits), 12)]);
+    }
+    let plain = [
+        Field::MoreQi(1),
+        Field::Qi(2),
+        Field::Reserved,
+        Field::Scheme,
+        Field::Rank,
+        Field::RankCode,
+        Field::RawMode,
+        Field::VectorBit,
+        Field::VariableComponent,
+        Field::FixedComponent,
+        Field::Choice(0, 0),
+        Field::Choice(0, 1),
+        Field::Choice(1, 0),
+        Field::Choice(1, 1),
+        Field::Token,
+    ];
+    kinds.extend(plain.map(|field| (field, 4)));
+    kinds
+}
+
+impl fmt::Display for Report {
+    fn fmt(&self, f: &mut fmt::Formatter<'_>) -> fmt::Result {
+        let refused: u64 = self.faults.values().sum();
+        writeln!(f, "  accepted {:?}, refused {refused}", self.accepted)?;
+        writeln!(
+            f,
+            "  modes {:?}, tokens {}, blocks with DC only {}, others {}",
+            self.modes, self.tokens, self.blocks[0], self.blocks[1]
+        )?;
+        writeln!(f, "  faults by field:")?;
+        for ((field, number), count) in &self.faults {
+            writeln!(f, "    {:20} {number}: {count}", format!("{field:?}"))?;
+        }
+        writeln!(
+            f,
+            "  calls with a wrong session, length or table: {:?}",
+            self.wrong_calls
+        )
+    }
+}
