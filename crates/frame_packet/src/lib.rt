@@ -250,7 +250,7 @@ fn read_body(
 }
 
 // The slices that hold what was read.
-fn clear_read(records: &mut [u32], coded: &mut [u64], coefs: &mut [i16], lasts: &mut [u8])
+pub fn clear_read(records: &mut [u32], coded: &mut [u64], coefs: &mut [i16], lasts: &mut [u8])
     ensures { λ _. ⌜ (now (records .exit) ≡ replicate (length (now (records .entry))) 0) × (now (coded .exit) ≡ replicate (length (now (coded .entry))) 0) × (now (coefs .exit) ≡ replicate (length (now (coefs .entry))) (pos 0)) × (now (lasts .exit) ≡ replicate (length (now (lasts .entry))) 0) ⌝ }
 {
     let blocks = records.len();
@@ -264,7 +264,7 @@ fn clear_read(records: &mut [u32], coded: &mut [u64], coefs: &mut [i16], lasts: 
 }
 
 // The other slices. Behind the first `count` of `bits` and of `active` there is nothing to clear.
-fn clear_scratch(
+pub fn clear_scratch(
     count: usize,
     flags: &mut [u8],
     bits: &mut [u8],

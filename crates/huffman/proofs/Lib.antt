@@ -2,5 +2,6 @@ pub mod Trees
 pub mod Grows
 pub mod Nodes
 pub mod Codes
+pub mod Lookups
 pub mod Answers
 pub mod Examples

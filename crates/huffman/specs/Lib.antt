@@ -1,3 +1,4 @@
 pub mod Tree
 pub mod Code
 pub mod Answer
+pub mod Lookup

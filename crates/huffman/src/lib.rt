@@ -1,13 +1,14 @@
 // Huffman trees: one is read from a setup packet into a table of 64 nodes, and tokens are read by the codes of such a table.
 use bitstream::Field;
 ghost use mathlib.Core.Path.{_≡_};
-ghost use Prim.Native.Nat.{ℕ, _+_, _-_, _*_, _<_, _≤_, _^_};
+ghost use Prim.Native.Nat.{ℕ, _+_, _-_, _*_, _/_, _<_, _≤_, _^_};
 ghost use lib.ListN.{length, take};
-ghost use Rattle.bitstream.specs.Bits.{bits, bitAt};
+ghost use Rattle.bitstream.specs.Bits.{bits, bitAt, number};
 ghost use Rattle.bitstream.specs.Answer.{asField};
 ghost use Rattle.huffman.specs.Tree.{tree, huffmanTree};
 ghost use Rattle.huffman.specs.Code.{tokenCode, treeOf, Formed};
 ghost use Rattle.huffman.specs.Answer.{asPlace, nodesAfter, asGrown, Stored, branch};
+ghost use Rattle.huffman.specs.Lookup.{stepped, Lookup, Begun};
 
 // The bit place behind a tree, or the number of the refusal and the place of the field at fault.
 pub enum Place {
@@ -105,15 +106,43 @@ fn next_node(node: usize, value: u8, b: u8) -> usize
     value as usize - 128
 }
 
-// The token whose code stands at the bit place `at`, by the table of nodes; a code that is cut is refused by 4 at its first bit.
-pub fn read_code(packet: &[u8], at: usize, nodes: &[u8]) -> Field
-    requires { ⌜ (length (now packet) ≤ 2 ^ 58) × Formed (now nodes) ⌝ }
+// One bit more for an entry of a lookup: 64 times the number of bits taken, and the node where they lead.
+fn step(nodes: &[u8], from: u16, b: u8) -> u16
+    requires { ⌜ (length (now nodes) ≡ 64) × (from ≤ 60000) ⌝ }
+    ensures { λ r. ⌜ (r ≡ stepped (now (nodes .entry)) from b) × (r ≤ from + 200) ⌝ }
+{
+    let node = (from % 64) as usize;
+    let value = nodes[node];
+    if value < 128 {
+        return from;
+    }
+    (from / 64 + 1) * 64 + next_node(node, value, b) as u16
+}
+
+// Fills the lookup of a tree. The entry m has the bits of m behind its first 1, so 2 m and 2 m + 1 have one bit more.
+pub fn fill_lookup(nodes: &[u8], lookup: &mut [u16])
+    requires { ⌜ (length (now nodes) ≡ 64) × (length (now lookup) ≡ 128) ⌝ }
+    ensures { λ _. ⌜ Lookup (now (nodes .entry)) (now (lookup .exit)) ⌝ }
+{
+    lookup[1] = 0;
+    let mut m = 1;
+    while m < 64 {
+        let entry = lookup[m];
+        lookup[2 * m] = step(nodes, entry, 0);
+        lookup[2 * m + 1] = step(nodes, entry, 1);
+        m += 1;
+    }
+}
+
+// The token whose code stands at the bit place `at`, by the table of nodes, from an entry of its first bits on; a code that is cut is refused by 4 at its first bit.
+fn walk_from(packet: &[u8], at: usize, nodes: &[u8], start: usize) -> Field
+    requires { ⌜ (length (now packet) ≤ 2 ^ 58) × Formed (now nodes) × Begun (now nodes) (now packet) at start ⌝ }
     ensures { λ r. ⌜ r ≡ asField (tokenCode (treeOf (now (nodes .entry))) (now (packet .entry)) at) ⌝ }
 {
     let total = packet.len() * 8;
-    let mut node: usize = 0;
-    let mut place = at;
-    let mut value = nodes[0];
+    let mut node = start % 64;
+    let mut place = at + start / 64;
+    let mut value = nodes[node];
     while 128 <= value {
         if total <= place {
             return Field::Refused(4, at);
@@ -124,4 +153,34 @@ pub fn read_code(packet: &[u8], at: usize, nodes: &[u8]) -> Field
     }
     let token = value as u32;
     Field::Got(token, place)
+}
+
+// The token whose code stands at the bit place `at`, by the table of nodes; a code that is cut is refused by 4 at its first bit.
+pub fn read_code(packet: &[u8], at: usize, nodes: &[u8]) -> Field
+    requires { ⌜ (length (now packet) ≤ 2 ^ 58) × Formed (now nodes) ⌝ }
+    ensures { λ r. ⌜ r ≡ asField (tokenCode (treeOf (now (nodes .entry))) (now (packet .entry)) at) ⌝ }
+{
+    walk_from(packet, at, nodes, 0)
+}
+
+// The six bits from the bit place `at` on, out of two bytes.
+fn six_bits(packet: &[u8], at: usize) -> usize
+    requires { ⌜ at / 8 + 1 < length (now packet) ⌝ }
+    ensures { λ r. ⌜ (r ≡ number (now (packet .entry)) at 6) × (r < 64) ⌝ }
+{
+    let first = packet[at / 8] as usize;
+    let second = packet[at / 8 + 1] as usize;
+    ((first * 256 + second) >> (10 - at % 8)) % 64
+}
+
+// The same as `read_code`: the first six bits by the lookup of the tree, but for a code in the packet's last byte.
+pub fn read_code_by(packet: &[u8], at: usize, nodes: &[u8], lookup: &[u16]) -> Field
+    requires { ⌜ (length (now packet) ≤ 2 ^ 58) × Formed (now nodes) × Lookup (now nodes) (now lookup) ⌝ }
+    ensures { λ r. ⌜ r ≡ asField (tokenCode (treeOf (now (nodes .entry))) (now (packet .entry)) at) ⌝ }
+{
+    if packet.len() <= at / 8 + 1 {
+        return read_code(packet, at, nodes);
+    }
+    let entry = lookup[64 + six_bits(packet, at)];
+    walk_from(packet, at, nodes, entry as usize)
 }

@@ -1,12 +1,13 @@
 -- The table of rows: what holds of each row, found by one test over the table. Assumes nothing.
-use Prim.Native.Nat.{ℕ, zero, suc, _+_, _≤_}
-use mathlib.Core.Path.{_≡_}
-use mathlib.Core.List.{List, [], _∷_, map}
+use Prim.Native.Nat.{ℕ, zero, suc, _+_, _*_, _/_, _%_, _≤_, _<_}
+use native.Mathlib.Omega.{arith}
+use mathlib.Core.Path.{_≡_, refl}
+use mathlib.Core.List.{List, [], _∷_}
 use mathlib.Core.Bool.{Bool, true, false}
 use lib.Dec.{T, leb, leb→le}
-use lib.ListN.{getD, List·getD-map}
+use lib.ListN.{length, getD, List·getD-map}
 use Rattle.token.specs.Token.{Row, counted, rows, rowOf}
-use Rattle.token.specs.Answer.{asExtra, Small}
+use Rattle.token.specs.Answer.{asExtra, packed, packedRows, Small}
 
 abbrev pub both : Bool → Bool → Bool
 both true b = b
@@ -30,6 +31,14 @@ every-at f [] h t = h
 every-at f (x ∷ xs) h zero = both-left (f x) (every f xs) h
 every-at f (x ∷ xs) h (suc t) = every-at f xs (both-right (f x) (every f xs) h) t
 
+digits : (a b c d e f n : ℕ) → b < 16 → c < 256 → d < 16 → e < 16 → f < 16 → n ≡ ((((a * 16 + b) * 256 + c) * 16 + d) * 16 + e) * 16 + f
+    → (n / 16777216 ≡ a) × (n / 1048576 % 16 ≡ b) × (n / 4096 % 256 ≡ c) × (n / 256 % 16 ≡ d) × (n / 16 % 16 ≡ e) × (n % 16 ≡ f)
+digits a b c d e f n hb hc hd he hf h = (omega arith, omega arith, omega arith, omega arith, omega arith, omega arith)
+
+pub rows-length : length packedRows ≡ 32
+unfolding packedRows
+rows-length = refl
+
 module _ (t : ℕ) where
   pub sign-base-most : rowOf t .signBase ≤ 1
   unfolding rowOf
@@ -48,10 +57,18 @@ module _ (t : ℕ) where
   unfolding rowOf
   bits-most = leb→le _ _ (every-at (λ r. leb (r .signBits + r .sizeBits + r .zeroBits) 12) rows tt t)
 
-  -- the code's table
-  pub extra-row : getD (map asExtra rows) t (asExtra (counted 0 0)) ≡ asExtra (rowOf t)
-  unfolding rowOf
-  extra-row = List·getD-map asExtra rows t (counted 0 0)
-
   pub extra-small : Small (asExtra (rowOf t))
   extra-small = record { sign = sign-base-most; size = size-base-most; zeros = zero-base-most; bits = bits-most }
+
+  -- the code's table
+  pub row-packed : getD packedRows t 0 ≡ packed (rowOf t)
+  unfolding rowOf packedRows
+  row-packed = List·getD-map packed rows t (counted 0 0)
+
+  -- the six numbers of a row, taken out of the one
+  pub row-unpacked : (n : ℕ) → n ≡ packed (rowOf t)
+      → record { 0 = n / 16777216; 1 = n / 1048576 % 16; 2 = n / 4096 % 256; 3 = n / 256 % 16; 4 = n / 16 % 16; 5 = n % 16 } ≡ asExtra (rowOf t)
+  row-unpacked n h =
+      let r = rowOf t in
+      let d = digits (r .signBase) (r .signBits) (r .sizeBase) (r .sizeBits) (r .zeroBase) (r .zeroBits) n (omega (arith, bits-most)) (omega (arith, size-base-most)) (omega (arith, bits-most)) (omega (arith, zero-base-most)) (omega (arith, bits-most)) h in
+      λ i. record { 0 = d .0 i; 1 = d .1 i; 2 = d .2 i; 3 = d .3 i; 4 = d .4 i; 5 = d .5 i }

@@ -1,7 +1,8 @@
 -- What the code answers, as outcomes of the reading algebra.
-use Prim.Native.Nat.{ℕ, _+_, _/_, _%_, _^_, _≤_}
+use Prim.Native.Nat.{ℕ, _+_, _*_, _/_, _%_, _^_, _≤_}
+use mathlib.Core.List.{List, map}
 use Rattle.bitstream.specs.Reading.{Outcome, got, refused}
-use Rattle.token.specs.Token.{Meaning, endOfBlock, zeroRun, coefficient, Row}
+use Rattle.token.specs.Token.{Meaning, endOfBlock, zeroRun, coefficient, Row, rows}
 use Rattle.token.specs.declared.Token.{Token}
 use Rattle.token.specs.declared.Token.the-variants.{EndOfBlock, ZeroRun, Coefficient, Refused}
 use Rattle.token.specs.declared.Extra.{Extra}
@@ -15,6 +16,13 @@ asToken (refused k e) = Refused k e
 -- a row of the code's table: its six numbers in the same order
 abbrev pub asExtra : Row → Extra
 asExtra r = record { 0 = r .signBase; 1 = r .signBits; 2 = r .sizeBase; 3 = r .sizeBits; 4 = r .zeroBase; 5 = r .zeroBits }
+
+-- a row as one number, by hexadecimal digits: the size's base has two of them
+abbrev pub packed : Row → ℕ
+packed r = ((((r .signBase * 16 + r .signBits) * 256 + r .sizeBase) * 16 + r .sizeBits) * 16 + r .zeroBase) * 16 + r .zeroBits
+
+unfoldable pub packedRows : List ℕ
+packedRows = map packed rows
 
 -- how large the numbers of a row are
 pub record Small (r : Extra) : Type 0 where

@@ -5,7 +5,7 @@ ghost use Prim.Native.Nat.{_+_, _<_, _≤_, _%_, _^_};
 ghost use lib.ListN.{length};
 ghost use Rattle.bitstream.specs.Reading.{got, whole};
 ghost use Rattle.token.specs.Token.{extra, valueOf, meaning, rowOf};
-ghost use Rattle.token.specs.Answer.{asToken, asExtra, Small, signOf, sizeOf, zerosOf};
+ghost use Rattle.token.specs.Answer.{asToken, asExtra, packedRows, Small, signOf, sizeOf, zerosOf};
 
 // What a token means, and the bit place behind it: an end-of-block run of so many blocks, a run of zeros, or zeros and then a value.
 // Or the number of the refusal and its place.
@@ -19,46 +19,68 @@ pub enum Token {
 // The base and the number of extra bits of a token's sign, of its size and of its zeros.
 pub struct Extra(pub u8, pub u8, pub u8, pub u8, pub u8, pub u8);
 
-const EXTRA: [Extra; 32] = [
-    Extra(0, 0, 1, 0, 0, 0),
-    Extra(0, 0, 2, 0, 0, 0),
-    Extra(0, 0, 3, 0, 0, 0),
-    Extra(0, 0, 4, 2, 0, 0),
-    Extra(0, 0, 8, 3, 0, 0),
-    Extra(0, 0, 16, 4, 0, 0),
-    Extra(0, 0, 0, 12, 0, 0),
-    Extra(0, 0, 1, 3, 0, 0),
-    Extra(0, 0, 1, 6, 0, 0),
-    Extra(0, 0, 1, 0, 0, 0),
-    Extra(1, 0, 1, 0, 0, 0),
-    Extra(0, 0, 2, 0, 0, 0),
-    Extra(1, 0, 2, 0, 0, 0),
-    Extra(0, 1, 3, 0, 0, 0),
-    Extra(0, 1, 4, 0, 0, 0),
-    Extra(0, 1, 5, 0, 0, 0),
-    Extra(0, 1, 6, 0, 0, 0),
-    Extra(0, 1, 7, 1, 0, 0),
-    Extra(0, 1, 9, 2, 0, 0),
-    Extra(0, 1, 13, 3, 0, 0),
-    Extra(0, 1, 21, 4, 0, 0),
-    Extra(0, 1, 37, 5, 0, 0),
-    Extra(0, 1, 69, 9, 0, 0),
-    Extra(0, 1, 1, 0, 1, 0),
-    Extra(0, 1, 1, 0, 2, 0),
-    Extra(0, 1, 1, 0, 3, 0),
-    Extra(0, 1, 1, 0, 4, 0),
-    Extra(0, 1, 1, 0, 5, 0),
-    Extra(0, 1, 1, 0, 6, 2),
-    Extra(0, 1, 1, 0, 10, 3),
-    Extra(0, 1, 2, 1, 1, 0),
-    Extra(0, 1, 2, 1, 2, 1),
+// A row for each token, by hexadecimal digits: base and extra bits of the sign, of the size (two digits and one) and of the zeros.
+const ROWS: [u32; 32] = [
+    0x0001000,
+    0x0002000,
+    0x0003000,
+    0x0004200,
+    0x0008300,
+    0x0010400,
+    0x0000c00,
+    0x0001300,
+    0x0001600,
+    0x0001000,
+    0x1001000,
+    0x0002000,
+    0x1002000,
+    0x0103000,
+    0x0104000,
+    0x0105000,
+    0x0106000,
+    0x0107100,
+    0x0109200,
+    0x010d300,
+    0x0115400,
+    0x0125500,
+    0x0145900,
+    0x0101010,
+    0x0101020,
+    0x0101030,
+    0x0101040,
+    0x0101050,
+    0x0101062,
+    0x01010a3,
+    0x0102110,
+    0x0102121,
 ];
 
-fn extra_of(t: usize) -> Extra
-    requires { ⌜ t < 32 ⌝ }
+// The rows of all tokens. Whoever reads many tokens makes them once.
+pub fn all_rows() -> [u32; 32]
+    ensures { λ r. ⌜ r ≡ packedRows ⌝ }
+{
+    ROWS
+}
+
+fn extra_of(rows: &[u32], t: usize) -> Extra
+    requires { ⌜ (now rows ≡ packedRows) × (t < 32) ⌝ }
     ensures { λ r. ⌜ (r ≡ asExtra (rowOf t)) × Small r ⌝ }
 {
-    EXTRA[t]
+    let row = rows[t];
+    let sign_base = (row / 0x1000000) as u8;
+    let sign_bits = (row / 0x100000 % 16) as u8;
+    let size_base = (row / 0x1000 % 256) as u8;
+    let size_bits = (row / 0x100 % 16) as u8;
+    let zero_base = (row / 0x10 % 16) as u8;
+    let zero_bits = (row % 16) as u8;
+    Extra(
+        sign_base,
+        sign_bits,
+        size_base,
+        size_bits,
+        zero_base,
+        zero_bits,
+    )
 }
 
 // The low n bits of x.
@@ -81,11 +103,10 @@ fn value_of(sign: u32, size: u16) -> i16
 }
 
 // What the token t means, where its extra bits are the number x.
-fn meaning_of(t: usize, x: u32, next: usize) -> Token
-    requires { ⌜ (t < 32) × (x < 2 ^ 16) ⌝ }
+fn meaning_of(t: usize, row: Extra, x: u32, next: usize) -> Token
+    requires { ⌜ (row ≡ asExtra (rowOf t)) × Small row × (x < 2 ^ 16) ⌝ }
     ensures { λ r. ⌜ r ≡ asToken (got (meaning t (signOf (rowOf t) x) (sizeOf (rowOf t) x) (zerosOf (rowOf t) x)) next) ⌝ }
 {
-    let row = extra_of(t);
     let size = row.2 as u16 + low(x >> row.5, row.3 as usize) as u16;
     if t < 7 {
         return Token::EndOfBlock(size, next);
@@ -99,16 +120,16 @@ fn meaning_of(t: usize, x: u32, next: usize) -> Token
     Token::Coefficient(zeros, value, next)
 }
 
-// The extra bits of the token t, read as one field.
-pub fn read_extra(packet: &[u8], at: usize, t: usize) -> Token
-    requires { ⌜ (length (now packet) ≤ 2 ^ 58) × (t < 32) ⌝ }
+// The extra bits of the token t, read as one field, by the rows of all tokens.
+pub fn read_extra(packet: &[u8], at: usize, t: usize, rows: &[u32]) -> Token
+    requires { ⌜ (length (now packet) ≤ 2 ^ 58) × (t < 32) × (now rows ≡ packedRows) ⌝ }
     ensures { λ r. ⌜ r ≡ asToken (whole (extra t) (now (packet .entry)) at) ⌝ }
 {
-    let row = extra_of(t);
+    let row = extra_of(rows, t);
     let width = row.1 + row.3 + row.5;
     let field = bitstream::read(packet, at, width as usize);
     match field {
         Field::Refused(number, place) => Token::Refused(number, place),
-        Field::Got(x, next) => meaning_of(t, x, next),
+        Field::Got(x, next) => meaning_of(t, row, x, next),
     }
 }

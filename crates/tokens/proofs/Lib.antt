@@ -3,6 +3,7 @@ pub mod Goes
 pub mod Unfinished
 pub mod Tables
 pub mod Positions
+pub mod Groups
 pub mod Lists
 pub mod Fronts
 pub mod Laws

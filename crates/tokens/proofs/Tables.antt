@@ -1,5 +1,5 @@
 -- The tables of nodes, and the trees that they hold. Assumes nothing.
-use Prim.Native.Nat.{ℕ, zero, suc, _+_, _*_, _<_}
+use Prim.Native.Nat.{ℕ, zero, suc, _+_, _-_, _*_, _<_}
 use native.Mathlib.Omega.{arith}
 use mathlib.Core.Path.{_≡_, refl, sym, ap, ap₂, _∙_}
 use mathlib.Core.List.{List, [], _∷_, _++_}
@@ -65,3 +65,7 @@ trees-of nodes f = ap (treesFrom 80) (f .there) ∙ (ap (λ (n : ℕ). treesFrom
 
 pub nodes-long : (nodes : List ℕ) → Tables nodes → length nodes ≡ 5120
 nodes-long nodes f = omega (arith, ap length (f .there), tables-length (f .trees) (f .proper), f .count)
+
+-- the part from 64 j to 64 j + 64
+pub wide : (j : ℕ) → 64 * j + 64 - 64 * j ≡ 64
+wide j = omega arith

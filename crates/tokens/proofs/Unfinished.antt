@@ -8,14 +8,14 @@ use mathlib.Core.List.{List, [], _∷_, _++_, append-nil, append-assoc}
 use mathlib.Core.Bool.{Bool, true, false}
 use lib.Dec.{ltb}
 use lib.ListN.{length, getD, set, take, drop, drop-of-length-le}
-use lib.Seq.{drop-cons, take-suc-set, drop-set-lt, getD-drop, drop-drop, drop-append-add, drop-at, take-append-le, take-take, length-take-le, length-front}
+use lib.Seq.{drop-cons, take-set-le, take-suc-set, drop-set-lt, getD-drop, drop-drop, drop-append-add, drop-at, take-append-le, take-take, length-take-le, length-front}
 use borrow.Rule.Slice.PartMut.{putMid, postOf, mid-len}
 use borrow.Author.Tests.{lt-ltb, le-ltb, ltb-true, ltb-false}
 use Rattle.bitstream.specs.Reading.{Outcome, got, refused, after}
 use Rattle.huffman.specs.Tree.{Tree}
-use Rattle.tokens.specs.Tokens.{State, visit, pass, Choices, table, atPosition}
+use Rattle.tokens.specs.Tokens.{State, unfinished, visit, pass, Choices, table, atPosition}
 use Rattle.tokens.specs.Answer.{unfinishedOf, KeptOne, KeptActive}
-use Rattle.tokens.proofs.Ways.{visit-other}
+use Rattle.tokens.proofs.Ways.{visit-other, one-unfinished, one-finished}
 use Rattle.tokens.proofs.Goes.{Later, AllBelow, visit-goes, pass-goes}
 
 -- ---- one block
@@ -47,16 +47,20 @@ unfinished-cons ps b bs =
 
 -- ---- a step of `keep_unfinished`
 module _ (ps bs : List ℕ) (j k : ℕ) (h : j < length bs) (l : k ≤ j) where
-  pub one-left : 64 ≤ getD ps (getD bs j 0) 0 → KeptOne ps bs j k bs k
-  one-left f = record { most = omega arith; front = rw (left-out ps (getD bs j 0) [] f, unfinished-nil ps) (sym (append-nil _)); rest = refl }
+  abbrev moved : List ℕ
+  moved = set bs k (getD bs j 0)
 
-  pub one-kept : getD ps (getD bs j 0) 0 < 64 → KeptOne ps bs j k (set bs k (getD bs j 0)) (k + 1)
-  one-kept f =
-      record {
-        most = omega arith;
-        front = rw (kept ps (getD bs j 0) [] f, unfinished-nil ps, add-one) (take-suc-set bs k (getD bs j 0) (omega arith));
-        rest = drop-set-lt (j + 1) bs k (getD bs j 0) (omega arith);
-      }
+  rest : drop (j + 1) moved ≡ drop (j + 1) bs
+  rest = drop-set-lt (j + 1) bs k (getD bs j 0) (omega arith)
+
+  one-left : 64 ≤ getD ps (getD bs j 0) 0 → KeptOne ps bs j k moved k
+  one-left f = record { most = omega arith; front = rw (left-out ps (getD bs j 0) [] f, unfinished-nil ps, take-set-le k bs k (getD bs j 0) (omega arith)) (sym (append-nil _)); rest = rest }
+
+  one-kept : getD ps (getD bs j 0) 0 < 64 → KeptOne ps bs j k moved (k + 1)
+  one-kept f = record { most = omega arith; front = rw (kept ps (getD bs j 0) [] f, unfinished-nil ps, add-one) (take-suc-set bs k (getD bs j 0) (omega arith)); rest = rest }
+
+  pub one-moved : KeptOne ps bs j k moved (k + unfinished (getD ps (getD bs j 0) 0 ∷ []))
+  one-moved = either ps (getD bs j 0) (λ f. rw (← one-unfinished _ f) (one-kept f)) (λ f. rw (← one-finished _ f, add-zero) (one-left f))
 
 -- what is kept, and what is left of those that are still to be seen, are all
 pub keeps-start : (ps bs : List ℕ) → unfinishedOf ps bs ≡ take 0 bs ++ unfinishedOf ps (drop 0 bs)

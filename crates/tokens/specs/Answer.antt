@@ -2,13 +2,15 @@
 use Prim.Native.Nat.{ℕ, zero, suc, _+_, _-_, _*_, _<_, _≤_, _^_}
 use mathlib.Core.Path.{_≡_}
 use mathlib.Core.List.{List, [], _∷_, _++_}
-use lib.Dec.{ltb}
+use mathlib.Core.Bool.{Bool, true, false, not}
+use lib.Dec.{eqb, ltb}
 use lib.ListN.{length, getD, take, drop, replicate}
 use lib.IntN.{ℤ, pos}
 use Rattle.bitstream.specs.Reading.{Outcome, got, refused, choose}
 use Rattle.huffman.specs.Tree.{Tree, Proper, leaf, nodesOf}
 use Rattle.huffman.specs.Code.{treeOf}
-use Rattle.tokens.specs.Tokens.{State, Choices, Tokens}
+use Rattle.huffman.specs.Lookup.{Lookup}
+use Rattle.tokens.specs.Tokens.{State, Choices, Tokens, group}
 use Rattle.tokens.specs.declared.Visit.{Visit}
 use Rattle.tokens.specs.declared.Visit.the-variants as visit
 use Rattle.tokens.specs.declared.Chosen.{Chosen}
@@ -114,6 +116,17 @@ pub record Tables (nodes : List ℕ) : Type 0 where
 -- the nodes of the tree j
 abbrev pub nodesAt : List ℕ → ℕ → List ℕ
 nodesAt nodes j = take 64 (drop (64 * j) nodes)
+
+-- whether a group of positions begins at k
+unfoldable pub beginsGroup : ℕ → Bool
+beginsGroup k = choose (eqb k 0) true (not (eqb (group k) (group (k - 1))))
+
+-- the lookup of the table that is used at the position k by a choice, and what of it stands before the position: where a group begins, room
+abbrev pub Ready : List ℕ → ℕ → ℕ → List ℕ → Type 0
+Ready nodes k choice lookup = Lookup (nodesAt nodes (16 * group k + choice)) lookup
+
+abbrev pub Current : List ℕ → ℕ → ℕ → List ℕ → Type 0
+Current nodes k choice lookup = (length lookup ≡ 128) × (beginsGroup k ≡ false → Ready nodes k choice lookup)
 
 -- n trees; law `trees-of` of proofs/Tables says that `treesOf` undoes `tablesOf`
 unfoldable pub treesFrom : ℕ → List ℕ → List Tree

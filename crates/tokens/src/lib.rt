@@ -5,10 +5,11 @@ ghost use mathlib.Core.Path.{_≡_};
 ghost use Prim.Native.Nat.{_+_, _-_, _*_, _<_, _≤_, _^_};
 ghost use mathlib.Core.List.{[], _∷_};
 ghost use lib.ListN.{length, getD, take, drop};
-ghost use Rattle.token.specs.Answer.{asToken};
+ghost use Rattle.token.specs.Answer.{asToken, packedRows};
 ghost use Rattle.huffman.specs.Code.{treeOf, Formed};
+ghost use Rattle.huffman.specs.Lookup.{Lookup};
 ghost use Rattle.tokens.specs.Tokens.{token, stateOf, unfinished, runOf, readFor, visit, pass, group, choices, choicesOf, ranks, atPosition, positionsFrom, readTokens};
-ghost use Rattle.tokens.specs.Answer.{Visited, Shape, room, Below, unfinishedOf, KeptOne, KeptActive, asChosen, Tables, treeAt, treesOf, AllOpen, asCounted, Cleared, Stored, Untouched};
+ghost use Rattle.tokens.specs.Answer.{Visited, Shape, room, Below, unfinishedOf, KeptOne, KeptActive, asChosen, Tables, nodesAt, beginsGroup, Ready, Current, treeAt, treesOf, AllOpen, asCounted, Cleared, Stored, Untouched};
 
 // The place behind what was read, what is left of the end-of-block run, and how many tokens were read so far. Or the number of the refusal and its place.
 enum Visit {
@@ -28,16 +29,16 @@ pub enum Counted {
     Refused(u32, usize),
 }
 
-// A token at the place `at`, by the table of nodes.
-fn read_token(packet: &[u8], at: usize, nodes: &[u8]) -> Token
-    requires { ⌜ (length (now packet) ≤ 2 ^ 58) × Formed (now nodes) ⌝ }
+// A token at the place `at`, by the table of nodes and its lookup. The rows say which extra bits it has.
+fn read_token(packet: &[u8], at: usize, nodes: &[u8], lookup: &[u16], rows: &[u32]) -> Token
+    requires { ⌜ (length (now packet) ≤ 2 ^ 58) × Formed (now nodes) × Lookup (now nodes) (now lookup) × (now rows ≡ packedRows) ⌝ }
     ensures { λ r. ⌜ r ≡ asToken (token (treeOf (now (nodes .entry))) (now (packet .entry)) at) ⌝ }
 {
-    let code = huffman::read_code(packet, at, nodes);
+    let code = huffman::read_code_by(packet, at, nodes, lookup);
     let Field::Got(t, next) = code else {
         return Token::Refused(4, at);
     };
-    let whole = token::read_extra(packet, next, t as usize);
+    let whole = token::read_extra(packet, next, t as usize, rows);
     if let Token::Refused(number, _) = whole {
         return Token::Refused(number, at);
     }
@@ -82,6 +83,8 @@ fn read_for(
     packet: &[u8],
     at: usize,
     nodes: &[u8],
+    lookup: &[u16],
+    rows: &[u32],
     k: usize,
     b: usize,
     run: usize,
@@ -90,11 +93,11 @@ fn read_for(
     lasts: &mut [u8],
     coefs: &mut [i16],
 ) -> Visit
-    requires { ⌜ (length (now packet) ≤ 2 ^ 58) × Formed (now nodes) ⌝ }
+    requires { ⌜ (length (now packet) ≤ 2 ^ 58) × Formed (now nodes) × Lookup (now nodes) (now lookup) × (now rows ≡ packedRows) ⌝ }
     requires { ⌜ Shape (now positions) (now lasts) (now coefs) × (k < 64) × (b < length (now positions)) × (getD (now positions) b 0 ≡ k) × (tokens < 2 ^ 60) ⌝ }
     ensures { λ r. ⌜ Visited r (now (positions .exit)) (now (lasts .exit)) (now (coefs .exit)) (readFor (treeOf (now (nodes .entry))) k b (stateOf (now (positions .entry)) (now (lasts .entry)) (now (coefs .entry)) run tokens) (now (packet .entry)) at) ⌝ }
 {
-    let token = read_token(packet, at, nodes);
+    let token = read_token(packet, at, nodes, lookup, rows);
     match token {
         Token::Refused(number, place) => Visit::Refused(number, place),
         Token::EndOfBlock(n, next) => {
@@ -130,6 +133,8 @@ fn visit_block(
     packet: &[u8],
     at: usize,
     nodes: &[u8],
+    lookup: &[u16],
+    rows: &[u32],
     k: usize,
     b: usize,
     run: usize,
@@ -138,7 +143,7 @@ fn visit_block(
     lasts: &mut [u8],
     coefs: &mut [i16],
 ) -> Visit
-    requires { ⌜ (length (now packet) ≤ 2 ^ 58) × Formed (now nodes) ⌝ }
+    requires { ⌜ (length (now packet) ≤ 2 ^ 58) × Formed (now nodes) × Lookup (now nodes) (now lookup) × (now rows ≡ packedRows) ⌝ }
     requires { ⌜ Shape (now positions) (now lasts) (now coefs) × (k < 64) × (b < length (now positions)) × (tokens < 2 ^ 60) ⌝ }
     ensures { λ r. ⌜ Visited r (now (positions .exit)) (now (lasts .exit)) (now (coefs .exit)) (visit (treeOf (now (nodes .entry))) k b (stateOf (now (positions .entry)) (now (lasts .entry)) (now (coefs .entry)) run tokens) (now (packet .entry)) at) ⌝ }
 {
@@ -156,6 +161,8 @@ fn visit_block(
         packet,
         at,
         nodes,
+        lookup,
+        rows,
         k,
         b,
         run,
@@ -171,6 +178,7 @@ fn pass_blocks(
     packet: &[u8],
     at: usize,
     nodes: &[u8],
+    lookup: &[u16],
     k: usize,
     blocks: &[u64],
     run: usize,
@@ -179,10 +187,11 @@ fn pass_blocks(
     lasts: &mut [u8],
     coefs: &mut [i16],
 ) -> Visit
-    requires { ⌜ (length (now packet) ≤ 2 ^ 58) × Formed (now nodes) ⌝ }
+    requires { ⌜ (length (now packet) ≤ 2 ^ 58) × Formed (now nodes) × Lookup (now nodes) (now lookup) ⌝ }
     requires { ⌜ Shape (now positions) (now lasts) (now coefs) × (k < 64) × Below (length (now positions)) (now blocks) × (tokens + room (now positions) < 2 ^ 60) ⌝ }
     ensures { λ r. ⌜ Visited r (now (positions .exit)) (now (lasts .exit)) (now (coefs .exit)) (pass (treeOf (now (nodes .entry))) k (now (blocks .entry)) (stateOf (now (positions .entry)) (now (lasts .entry)) (now (coefs .entry)) run tokens) (now (packet .entry)) at) ⌝ }
 {
+    let rows = token::all_rows();
     let mut j = 0;
     let mut place = at;
     let mut left = run;
@@ -193,6 +202,8 @@ fn pass_blocks(
             packet,
             place,
             nodes,
+            lookup,
+            &rows,
             k,
             b,
             left,
@@ -212,18 +223,15 @@ fn pass_blocks(
     Visit::Done(place, left, count)
 }
 
-// Moves the block at the index j to the index `kept` of the list if it is unfinished; the index behind what is kept.
+// Moves the block at the index j to the index `kept` of the list; the index behind what is kept, which it is if it is unfinished.
 fn keep_one(positions: &[u8], blocks: &mut [u64], j: usize, kept: usize) -> usize
     requires { ⌜ (j < length (now blocks)) × (kept ≤ j) × (getD (now blocks) j 0 < length (now positions)) ⌝ }
     ensures { λ r. ⌜ KeptOne (now (positions .entry)) (now (blocks .entry)) j kept (now (blocks .exit)) r ⌝ }
 {
     let b = blocks[j];
     let p = positions[b as usize];
-    if 64 <= p {
-        return kept;
-    }
     blocks[kept] = b;
-    kept + 1
+    kept + one_if_unfinished(p)
 }
 
 // Moves the unfinished blocks of a list to its front, and answers how many they are.
@@ -316,6 +324,7 @@ fn pass_table(
     packet: &[u8],
     at: usize,
     nodes: &[u8],
+    lookup: &[u16],
     j: usize,
     k: usize,
     blocks: &[u64],
@@ -325,7 +334,7 @@ fn pass_table(
     lasts: &mut [u8],
     coefs: &mut [i16],
 ) -> Visit
-    requires { ⌜ (length (now packet) ≤ 2 ^ 58) × Tables (now nodes) × (j < 80) ⌝ }
+    requires { ⌜ (length (now packet) ≤ 2 ^ 58) × Tables (now nodes) × (j < 80) × Lookup (nodesAt (now nodes) j) (now lookup) ⌝ }
     requires { ⌜ Shape (now positions) (now lasts) (now coefs) × (k < 64) × Below (length (now positions)) (now blocks) × (tokens + room (now positions) < 2 ^ 60) ⌝ }
     ensures { λ r. ⌜ Visited r (now (positions .exit)) (now (lasts .exit)) (now (coefs .exit)) (pass (treeAt (now (nodes .entry)) j) k (now (blocks .entry)) (stateOf (now (positions .entry)) (now (lasts .entry)) (now (coefs .entry)) run tokens) (now (packet .entry)) at) ⌝ }
 {
@@ -335,6 +344,7 @@ fn pass_table(
         packet,
         at,
         &nodes[from..to],
+        lookup,
         k,
         blocks,
         run,
@@ -350,6 +360,8 @@ fn read_position(
     packet: &[u8],
     at: usize,
     nodes: &[u8],
+    luma_lookup: &[u16],
+    chroma_lookup: &[u16],
     k: usize,
     y: usize,
     c: usize,
@@ -363,7 +375,7 @@ fn read_position(
     lasts: &mut [u8],
     coefs: &mut [i16],
 ) -> Visit
-    requires { ⌜ (length (now packet) ≤ 2 ^ 58) × Tables (now nodes) × (y < 16) × (c < 16) × (k < 64) ⌝ }
+    requires { ⌜ (length (now packet) ≤ 2 ^ 58) × Tables (now nodes) × (y < 16) × (c < 16) × (k < 64) × Ready (now nodes) k y (now «luma_lookup») × Ready (now nodes) k c (now «chroma_lookup») ⌝ }
     requires { ⌜ (lumas ≤ luma) × (luma ≤ end) × (end ≤ length (now active)) × Below (length (now positions)) (take lumas (now active)) × Below (length (now positions)) (take (end - luma) (drop luma (now active))) ⌝ }
     requires { ⌜ Shape (now positions) (now lasts) (now coefs) × (tokens + room (now positions) < 2 ^ 60) ⌝ }
     ensures { λ r. ⌜ Visited r (now (positions .exit)) (now (lasts .exit)) (now (coefs .exit)) (atPosition (treesOf (now (nodes .entry))) (take lumas (now (active .entry))) (take (end - luma) (drop luma (now (active .entry)))) k (choicesOf y c) (stateOf (now (positions .entry)) (now (lasts .entry)) (now (coefs .entry)) run tokens) (now (packet .entry)) at) ⌝ }
@@ -373,6 +385,7 @@ fn read_position(
         packet,
         at,
         nodes,
+        luma_lookup,
         g + y,
         k,
         &active[..lumas],
@@ -389,6 +402,7 @@ fn read_position(
         packet,
         next,
         nodes,
+        chroma_lookup,
         g + c,
         k,
         &active[luma..end],
@@ -398,6 +412,29 @@ fn read_position(
         lasts,
         coefs,
     )
+}
+
+// Whether a group begins at the position k.
+fn begins_group(k: usize) -> bool
+    ensures { λ r. ⌜ r ≡ beginsGroup k ⌝ }
+{
+    if k == 0 {
+        return true;
+    }
+    group_of(k) != group_of(k - 1)
+}
+
+// Fills the lookup of the table that is used at the position k by a choice, where a group begins; else it is there.
+fn renew_lookup(nodes: &[u8], k: usize, choice: usize, lookup: &mut [u16])
+    requires { ⌜ Tables (now nodes) × (choice < 16) × Current (now nodes) k choice (now lookup) ⌝ }
+    ensures { λ _. ⌜ Ready (now (nodes .entry)) k choice (now (lookup .exit)) ⌝ }
+{
+    if !begins_group(k) {
+        return;
+    }
+    let from = 64 * (16 * group_of(k) + choice);
+    let to = from + 64;
+    huffman::fill_lookup(&nodes[from..to], lookup);
 }
 
 // All positions in turn. `active` holds the ranks of all blocks, luma's first; at each position only the unfinished ones are looked at.
@@ -415,6 +452,8 @@ fn read_positions(
     requires { ⌜ Shape (now positions) (now lasts) (now coefs) × AllOpen (now positions) × (now active ≡ ranks 0 (length (now positions))) ⌝ }
     ensures { λ r. ⌜ Visited r (now (positions .exit)) (now (lasts .exit)) (now (coefs .exit)) (positionsFrom (treesOf (now (nodes .entry))) (ranks 0 luma) (ranks luma (length (now (positions .entry)) - luma)) 64 0 (choicesOf 0 0) (stateOf (now (positions .entry)) (now (lasts .entry)) (now (coefs .entry)) 0 0) (now (packet .entry)) at) ⌝ }
 {
+    let mut luma_lookup = [0u16; 128];
+    let mut chroma_lookup = [0u16; 128];
     let mut k = 0;
     let mut place = at;
     let mut y = 0;
@@ -430,10 +469,14 @@ fn read_positions(
                 return Visit::Refused(number, e);
             }
             Chosen::Tables(a, b, next) => {
+                renew_lookup(nodes, k, a, &mut luma_lookup);
+                renew_lookup(nodes, k, b, &mut chroma_lookup);
                 let one = read_position(
                     packet,
                     next,
                     nodes,
+                    &luma_lookup,
+                    &chroma_lookup,
                     k,
                     a,
                     b,

@@ -300,13 +300,6 @@ const ZIG_ZAG: [u8; 64] = [
     63,
 ];
 
-fn zig_zag(i: usize) -> usize
-    requires { ⌜ i < 64 ⌝ }
-    ensures { λ r. ⌜ (r ≡ getD zigZag i 0) × (r < 64) ⌝ }
-{
-    ZIG_ZAG[i] as usize
-}
-
 fn dequantized(c: i16, q: u16) -> i16
     ensures { λ r. ⌜ r ≡ dequantized c q ⌝ }
 {
@@ -320,9 +313,11 @@ fn dequantize(coefs: &[i16], at: usize, dc: i16, q: u16, matrix: &[u16], out: &m
 {
     let first = dequantized(dc, q);
     out[0] = first;
+    let order = ZIG_ZAG;
     let mut i: usize = 1;
     while i < 64 {
-        let z = at + zig_zag(i);
+        let place = order[i] as usize;
+        let z = at + place;
         let x = dequantized(coefs[z], matrix[i]);
         out[i] = x;
         i += 1;

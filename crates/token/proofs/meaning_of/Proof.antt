@@ -13,9 +13,6 @@ use Rattle.token.proofs.Facts.{means-end, means-zeros, means-value}
 use Rattle.token.proofs.meaning_of.Statement.{statement}
 use Rattle.token.proofs.meaning_of.Tie as tie
 
-extra-of-requires : tie.Need-extra-of-requires
-extra-of-requires c κs = search needs
-
 cast-size : tie.Need-cast-size
 cast-size c = search needs
 
@@ -38,20 +35,20 @@ add-size : tie.Need-add-size
 add-size c = search needs
 
 -- the size that the code finds
-size-is : (c : tie.After-low) → c .before .before .before .before .extra-of .result .2 + c .low .result ≡ sizeOf (rowOf (c .before .before .before .before .before .args .t)) (c .before .before .before .before .before .args .x)
+size-is : (c : tie.After-low) → c .before .before .before .before .args .row .2 + c .low .result ≡ sizeOf (rowOf (c .before .before .before .before .args .t)) (c .before .before .before .before .args .x)
 size-is c =
-    let e = c .before .before .before .before .extra-of .ensures .0 in
-    let x = c .before .before .before .before .before .args .x in
+    let e = c .before .before .before .before .pre .0 in
+    let x = c .before .before .before .before .args .x in
     λ i. e i .2 + (c .low .ensures .0 ∙ (λ j. x / 2 ^ e j .5 % 2 ^ e j .3)) i
 
 returns : tie.Need-returns
 returns c =
-    let a = c .before .before .before .before .before .before .args in
+    let a = c .before .before .before .before .before .args in
     (λ i. EndOfBlock (size-is (c .before) i) (a .next)) ∙ sym (means-end (a .t) _ _ _ (a .next) (c .if1 .taken))
 
 returns-2 : tie.Need-returns-2
 returns-2 c =
-    let a = c .before .before .before .before .before .before .before .args in
+    let a = c .before .before .before .before .before .before .args in
     (λ i. ZeroRun (size-is (c .before .before) i) (a .next)) ∙ sym (means-zeros (a .t) _ _ _ (a .next) (c .before .if1 .left) (c .if2 .taken))
 
 cast-sign : tie.Need-cast-sign
@@ -71,9 +68,9 @@ shr-sign-2 c = search needs
 
 add-sign : tie.Need-add-sign
 add-sign c =
-    let x = c .before .before .before .before .before .before .before .before .before .before .args .x in
-    let r = c .before .before .before .before .before .before .before .before .before .extra-of .result in
-    omega (arith, shr-le x (r .5), shr-le (x / 2 ^ r .5) (r .3), c .before .before .before .before .before .before .before .before .before .extra-of .ensures .1 .sign, c .before .before .before .before .before .before .before .before .before .before .pre .1)
+    let x = c .before .before .before .before .before .before .before .before .before .args .x in
+    let r = c .before .before .before .before .before .before .before .before .before .args .row in
+    omega (arith, shr-le x (r .5), shr-le (x / 2 ^ r .5) (r .3), c .before .before .before .before .before .before .before .before .before .pre .1 .sign, c .before .before .before .before .before .before .before .before .before .pre .2)
 
 cast-zeros : tie.Need-cast-zeros
 cast-zeros c = search needs
@@ -95,11 +92,11 @@ value-of-requires c κs = search needs
 
 returns-3 : tie.Need-returns-3
 returns-3 c =
-    let a = c .before .before .before .before .before .before .before .before .before .before .before .before .before .before .args in
-    let e = c .before .before .before .before .before .before .before .before .before .before .before .before .before .extra-of .ensures .0 in
-    let sign : c .before .before .before .before .before .before .before .before .before .before .before .before .before .extra-of .result .0 + a .x / 2 ^ c .before .before .before .before .before .before .before .before .before .before .before .before .before .extra-of .result .5 / 2 ^ c .before .before .before .before .before .before .before .before .before .before .before .before .before .extra-of .result .3 ≡ signOf (rowOf (a .t)) (a .x) =
+    let a = c .before .before .before .before .before .before .before .before .before .before .before .before .before .args in
+    let e = c .before .before .before .before .before .before .before .before .before .before .before .before .before .pre .0 in
+    let sign : c .before .before .before .before .before .before .before .before .before .before .before .before .before .args .row .0 + a .x / 2 ^ c .before .before .before .before .before .before .before .before .before .before .before .before .before .args .row .5 / 2 ^ c .before .before .before .before .before .before .before .before .before .before .before .before .before .args .row .3 ≡ signOf (rowOf (a .t)) (a .x) =
     λ i. e i .0 + a .x / 2 ^ e i .5 / 2 ^ e i .3 in
-    let zeros : c .before .before .before .before .before .before .before .before .before .before .before .before .before .extra-of .result .4 + c .before .low2 .result ≡ zerosOf (rowOf (a .t)) (a .x) =
+    let zeros : c .before .before .before .before .before .before .before .before .before .before .before .before .before .args .row .4 + c .before .low2 .result ≡ zerosOf (rowOf (a .t)) (a .x) =
     λ i. e i .4 + (c .before .low2 .ensures .0 ∙ (λ j. a .x % 2 ^ e j .5)) i in
     let value = back w16 _ (c .value-of .ok) ∙ c .value-of .ensures ∙ (λ i. valueOf (sign i) (size-is (c .before .before .before .before .before .before .before .before .before) i)) in
     (λ i. Coefficient (zeros i) (value i) (a .next)) ∙ sym (means-value (a .t) _ _ _ (a .next) (c .before .before .before .before .before .before .before .if2 .left))
@@ -108,7 +105,6 @@ pub meaning-of-spec : {M : Type 1} → statement M
 meaning-of-spec =
     tie.close
     (tie.spec
-    extra-of-requires
     cast-size
     cast-low
     shr-low

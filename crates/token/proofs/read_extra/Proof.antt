@@ -44,30 +44,31 @@ module _ (c : tie.Start) where
   whole-field = field width (c .args .packet .now) (c .args .at)
 
 -- the field that the code reads is that one
-same-field : (c : tie.After-read) → c .read .result ≡ Rattle.bitstream.specs.Answer.asField (whole-field (c .before .before .before .before .before))
+same-field : (c : tie.After-read) → c .read .result ≡ Rattle.bitstream.specs.Answer.asField (whole-field (c .before .before .before .before .before .before))
 same-field c =
     let e = c .before .before .before .extra-of .ensures .0 in
-    let a = c .before .before .before .before .before .args in
+    let a = c .before .before .before .before .before .before .args in
     c .read .ensures ∙ (λ i. Rattle.bitstream.specs.Answer.asField (field (e i .1 + e i .3 + e i .5) (a .packet .now) (a .at)))
 
-one-got : (c : tie.After-known-told2) → whole-field (c .before .before .before .before .before .before .before .before) ≡ got (c .before .field2 .given .0 .0) (c .before .field2 .given .0 .1 .0)
-one-got c = read-got (whole-field (c .before .before .before .before .before .before .before .before)) (same-field (c .before .before .before)) (c .before .field2 .given .1)
+one-got : (c : tie.After-known-told2) → whole-field (c .before .before .before .before .before .before .before .before .before) ≡ got (c .before .field2 .given .0 .0) (c .before .field2 .given .0 .1 .0)
+one-got c = read-got (whole-field (c .before .before .before .before .before .before .before .before .before)) (same-field (c .before .before .before)) (c .before .field2 .given .1)
 
 meaning-of-requires : tie.Need-meaning-of-requires
 meaning-of-requires c κs =
-    let a = c .before .before .before .before .before .before .before .before .args in
-    let n : width (c .before .before .before .before .before .before .before .before) ≤ 16 = omega (arith, bits-most (a .t)) in
-    (search needs, lt-of-lt-of-le (field-lt (width (c .before .before .before .before .before .before .before .before)) (a .packet .now) (a .at) (one-got c)) (pow-mono n))
+    let a = c .before .before .before .before .before .before .before .before .before .args in
+    let n : width (c .before .before .before .before .before .before .before .before .before) ≤ 16 = omega (arith, bits-most (a .t)) in
+    let e = c .before .before .before .before .before .before .extra-of .ensures in
+    (e .0, e .1, lt-of-lt-of-le (field-lt (width (c .before .before .before .before .before .before .before .before .before)) (a .packet .now) (a .at) (one-got c)) (pow-mono n))
 
 returns : tie.Need-returns
 returns c =
-    let a = c .before .before .before .before .before .before .before .before .args in
-    let f = read-refused (whole-field (c .before .before .before .before .before .before .before .before)) (same-field (c .before .before .before)) (c .before .field .given .1) in
+    let a = c .before .before .before .before .before .before .before .before .before .args in
+    let f = read-refused (whole-field (c .before .before .before .before .before .before .before .before .before)) (same-field (c .before .before .before)) (c .before .field .given .1) in
     sym (ap asToken (extra-end (a .t) (a .packet .now) (a .at) f))
 
 returns-2 : tie.Need-returns-2
 returns-2 c =
-    let a = c .before .before .before .before .before .before .before .before .before .args in
+    let a = c .before .before .before .before .before .before .before .before .before .before .args in
     c .meaning-of .ensures ∙ sym (ap asToken (extra-got (a .t) (a .packet .now) (a .at) (one-got (c .before))))
 
 pub read-extra-spec : {M : Type 1} → statement M

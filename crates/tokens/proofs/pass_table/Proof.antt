@@ -1,19 +1,16 @@
 -- `tokens::pass_table` meets its contract. Assumes nothing.
 use borrow.Author.Needs.{needs}
-use Prim.Native.Nat.{ℕ, _+_, _-_, _*_}
+use Prim.Native.Nat.{ℕ, _*_}
 use native.Mathlib.Omega.{arith}
-use mathlib.Core.Path.{_≡_, sym, ap, _∙_}
+use mathlib.Core.Path.{sym, ap, _∙_}
 use lib.ListN.{take, drop}
 use Rattle.huffman.specs.Tree.{Tree}
 use Rattle.huffman.specs.Code.{treeOf}
 use Rattle.tokens.specs.Tokens.{stateOf, pass}
-use Rattle.tokens.proofs.Tables.{formed-at, tree-at, nodes-long}
+use Rattle.tokens.proofs.Tables.{formed-at, tree-at, nodes-long, wide}
 use Rattle.tokens.proofs.Ways.{on-same}
 use Rattle.tokens.proofs.pass_table.Statement.{statement}
 use Rattle.tokens.proofs.pass_table.Tie as tie
-
-wide : (j : ℕ) → 64 * j + 64 - 64 * j ≡ 64
-wide j = omega arith
 
 mul-from : tie.Need-mul-from
 mul-from c = search needs
@@ -29,14 +26,14 @@ part-pass-blocks-start c = search needs
 
 part-pass-blocks-end : tie.Need-part-pass-blocks-end
 part-pass-blocks-end c =
-    let u = c .before .before .before .before .before in
+    let u = c .before .before .before .before .before .before in
     omega (arith, nodes-long (u .args .nodes .now) (u .pre .0 .1), u .pre .0 .2)
 
 pass-blocks-requires : tie.Need-pass-blocks-requires
 pass-blocks-requires c κs =
-    let u = c .before .before .before .before .before .before .before .before .before in
+    let u = c .before .before .before .before .before .before .before .before .before .before in
     let a = u .args in
-    ((u .pre .0 .0, rw (wide (a .j)) (formed-at (a .nodes .now) (u .pre .0 .1) (a .j) (u .pre .0 .2))), u .pre .1)
+    ((u .pre .0 .0, rw (wide (a .j)) (formed-at (a .nodes .now) (u .pre .0 .1) (a .j) (u .pre .0 .2)), rw (wide (a .j)) (u .pre .0 .3)), u .pre .1)
 
 same-length : tie.Need-same-length
 same-length c = search needs
@@ -49,7 +46,7 @@ same-length-3 c = search needs
 
 returns : tie.Need-returns
 returns c =
-    let u = c .before .before .before .before .before .before .before .before .before .before .before .before .before .before .before in
+    let u = c .before .before .before .before .before .before .before .before .before .before .before .before .before .before .before .before in
     let a = u .args in
     let w = c .before .before .before .before .before .pass-blocks in
     let s = stateOf (a .positions .now) (a .lasts .now) (a .coefs .now) (a .run) (a .tokens) in

@@ -46,7 +46,7 @@ run-of-requires c κs = search needs
 
 sub-left : tie.Need-sub-left
 sub-left c =
-    let u = c .before .before .before .before .before .before .before .before .before .before in
+    let u = c .before .before .before .before .before .before .before .before .before .before .before .before in
     let some = unfinished-some (u .args .positions .now) (u .args .b) (u .pre .1 .2) (omega (arith, u .pre .1 .1, u .pre .1 .3)) in
     omega (arith, run-pos (u .args .positions .now) (c .before .before .before .token2 .given .0 .0) some, c .run-of .ensures)
 
@@ -59,8 +59,8 @@ cast-lasts c = search needs
 slice-write-lasts : tie.Need-slice-write-lasts
 slice-write-lasts c = search needs
 
-add-t25 : tie.Need-add-t25
-add-t25 c = search needs
+add-t27 : tie.Need-add-t27
+add-t27 c = search needs
 
 enum-known-token-3 : tie.Need-enum-known-token-3
 enum-known-token-3 c = search needs
@@ -73,7 +73,7 @@ add-to c = search needs
 
 returns : tie.Need-returns
 returns c =
-    let u = c .before .before .before .before .before .before .before .before .before in
+    let u = c .before .before .before .before .before .before .before .before .before .before .before in
     let a = u .args in
     let h = is-zeros (read u) (c .before .before .before .before .read-token .ensures) (c .before .before .token3 .given .1) in
     on-refusal _ _ _ (all u) (acts u h ∙ zeros-past (a .k) (a .b) (s u) (a .packet .now) (a .at) _ _ (c .if1 .taken))
@@ -90,8 +90,8 @@ cast-lasts-2 c = search needs
 slice-write-lasts-2 : tie.Need-slice-write-lasts-2
 slice-write-lasts-2 c = search needs
 
-add-t31 : tie.Need-add-t31
-add-t31 c = search needs
+add-t33 : tie.Need-add-t33
+add-t33 c = search needs
 
 enum-known-token-4 : tie.Need-enum-known-token-4
 enum-known-token-4 c = search needs
@@ -107,7 +107,7 @@ add-if2 c = search needs
 
 returns-2 : tie.Need-returns-2
 returns-2 c =
-    let u = c .before .before .before .before .before .before .before .before .before in
+    let u = c .before .before .before .before .before .before .before .before .before .before .before in
     let a = u .args in
     let h = is-value (read u) (c .before .before .before .before .read-token .ensures) (c .before .before .token4 .given .1) in
     on-refusal _ _ _ (all u) (acts u h ∙ value-past (a .k) (a .b) (s u) (a .packet .now) (a .at) _ _ _ (c .if2 .taken))
@@ -139,12 +139,12 @@ cast-lasts-3 c = search needs
 slice-write-lasts-3 : tie.Need-slice-write-lasts-3
 slice-write-lasts-3 c = search needs
 
-add-t39 : tie.Need-add-t39
-add-t39 c = search needs
+add-t41 : tie.Need-add-t41
+add-t41 c = search needs
 
 returns-3 : tie.Need-returns-3
 returns-3 c =
-    let u = c .before .before .before .before .before .before .before .before in
+    let u = c .before .before .before .before .before .before .before .before .before .before in
     let a = u .args in
     let h = is-refused (read u) (c .before .before .before .read-token .ensures) (c .before .token .given .1) in
     on-refusal _ _ _ (all u) (read-refused (tree u) (a .k) (a .b) (s u) (a .packet .now) (a .at) h)
@@ -157,7 +157,7 @@ same-length-2 c = search needs
 
 returns-4 : tie.Need-returns-4
 returns-4 c =
-    let u = c .before .before .before .before .before .before .before .before .before .before in
+    let u = c .before .before .before .before .before .before .before .before .before .before .before .before in
     let a = u .args in
     let v = c .before .before .before .token2 .given .0 in
     let h = is-end (read u) (c .before .before .before .before .before .read-token .ensures) (c .before .before .before .token2 .given .1) in
@@ -173,7 +173,7 @@ same-length-4 c = search needs
 
 returns-5 : tie.Need-returns-5
 returns-5 c =
-    let u = c .before .before .before .before .before .before .before .before .before in
+    let u = c .before .before .before .before .before .before .before .before .before .before .before in
     let a = u .args in
     let h = is-zeros (read u) (c .before .before .before .before .read-token .ensures) (c .before .before .token3 .given .1) in
     on-state _ _ _ (all u) (acts u h ∙ act-zeros (a .k) (a .b) (s u) (a .packet .now) (a .at) _ _ (c .if1 .left))
@@ -189,7 +189,7 @@ same-length-7 c = search needs
 
 returns-6 : tie.Need-returns-6
 returns-6 c =
-    let u = c .before .before .before .before .before .before .before .before .before in
+    let u = c .before .before .before .before .before .before .before .before .before .before .before in
     let a = u .args in
     let v = c .before .before .token4 .given .0 in
     let h = is-value (read u) (c .before .before .before .before .read-token .ensures) (c .before .before .token4 .given .1) in
@@ -210,7 +210,7 @@ read-for-spec =
     slice-write-positions
     cast-lasts
     slice-write-lasts
-    add-t25
+    add-t27
     enum-known-token-3
     cast-to
     add-to
@@ -219,7 +219,7 @@ read-for-spec =
     slice-write-positions-2
     cast-lasts-2
     slice-write-lasts-2
-    add-t31
+    add-t33
     enum-known-token-4
     cast-to-2
     add-to-2
@@ -234,7 +234,7 @@ read-for-spec =
     slice-write-positions-3
     cast-lasts-3
     slice-write-lasts-3
-    add-t39
+    add-t41
     returns-3
     same-length
     same-length-2

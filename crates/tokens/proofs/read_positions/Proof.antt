@@ -9,8 +9,9 @@ use lib.ListN.{length, take, drop}
 use Rattle.bitstream.specs.Reading.{Outcome, got}
 use Rattle.huffman.specs.Tree.{Tree}
 use Rattle.tokens.specs.Tokens.{State, stateOf, Choices, choicesOf, choices, atPosition, positionsFrom, ranks}
-use Rattle.tokens.specs.Answer.{treesOf, room}
+use Rattle.tokens.specs.Answer.{treesOf, room, Current}
 use Rattle.tokens.proofs.Goes.{position-goes, room-most}
+use Rattle.tokens.proofs.Groups.{current-start, current-chosen, current-on}
 use Rattle.tokens.proofs.Lists.{Lists, lists-start, luma-below, chroma-below, lists-on, lists-position}
 use Rattle.tokens.proofs.Positions.{chosen-tables, chosen-refused, choices-small, positions-none, positions-choices, positions-refused, positions-got, ranks-below}
 use Rattle.tokens.proofs.Ways.{on-state, on-refusal, on-refused, visit-done, visit-refused}
@@ -18,14 +19,15 @@ use Rattle.tokens.proofs.read_positions.Statement.{statement}
 use Rattle.tokens.proofs.read_positions.Tie as tie
 
 abbrev Inv-loop : tie.InvT-loop
-Inv-loop packet at nodes luma positions₀ lasts₀ coefs₀ active₀ k₀ place₀ y₀ c₀ left₀ count₀ lumas₀ end₀ positions lasts coefs active k place y c left count lumas end =
+Inv-loop packet at nodes luma positions₀ lasts₀ coefs₀ active₀ luma-lookup₀ chroma-lookup₀ k₀ place₀ y₀ c₀ left₀ count₀ lumas₀ end₀ positions lasts coefs active luma-lookup chroma-lookup k place y c left count lumas end =
     (k ≤ 64) × (length positions ≡ length positions₀) × (length lasts ≡ length lasts₀) × (length coefs ≡ length coefs₀) × (length active ≡ length active₀) × (y < 16) × (c < 16)
     × (count + room positions ≤ room positions₀) × Lists (length positions₀) positions active luma lumas end
     × (positionsFrom (treesOf nodes) (ranks 0 luma) (ranks luma (length positions₀ - luma)) 64 0 (choicesOf 0 0) (stateOf positions₀ lasts₀ coefs₀ 0 0) packet at
     ≡ positionsFrom (treesOf nodes) (ranks 0 luma) (ranks luma (length positions₀ - luma)) (64 - k) k (choicesOf y c) (stateOf positions lasts coefs left count) packet place)
+    × Current nodes k y luma-lookup × Current nodes k c chroma-lookup
 
 abbrev μ-loop : tie.MeasureT-loop
-μ-loop packet at nodes luma positions₀ lasts₀ coefs₀ active₀ k₀ place₀ y₀ c₀ left₀ count₀ lumas₀ end₀ positions lasts coefs active k place y c left count lumas end = 64 - k
+μ-loop packet at nodes luma positions₀ lasts₀ coefs₀ active₀ luma-lookup₀ chroma-lookup₀ k₀ place₀ y₀ c₀ left₀ count₀ lumas₀ end₀ positions lasts coefs active luma-lookup chroma-lookup k place y c left count lumas end = 64 - k
 
 -- a turn: the state, the choices, and all blocks
 module _ (c : tie.In-loop Inv-loop μ-loop) where
@@ -47,33 +49,33 @@ module _ (c : tie.In-loop Inv-loop μ-loop) where
   abbrev chromas : List ℕ
   chromas = ranks (c .before .before .before .before .before .before .before .args .luma) (length (c .before .before .before .before .before .before .before .args .positions .now) - c .before .before .before .before .before .before .before .args .luma)
 
--- the choices were read, and the position is read by the two lists
-module _ (c : tie.After-read-position-arg4 Inv-loop μ-loop) where
+-- the choices were read
+module _ (c : tie.After-luma-lookup Inv-loop μ-loop) where
   abbrev ch₂ : Choices
-  ch₂ = choicesOf (c .before .before .before .before .before .choice2 .given .0 .0) (c .before .before .before .before .before .choice2 .given .0 .1 .0)
+  ch₂ = choicesOf (c .before .before .choice2 .given .0 .0) (c .before .before .choice2 .given .0 .1 .0)
 
   abbrev next : ℕ
-  next = c .before .before .before .before .before .choice2 .given .0 .1 .1 .0
+  next = c .before .before .choice2 .given .0 .1 .1 .0
 
-  are : chosen (c .before .before .before .before .before .before .before .before) ≡ got ch₂ next
-  are = chosen-tables (chosen (c .before .before .before .before .before .before .before .before)) (c .before .before .before .before .before .before .before .read-choices .ensures) (c .before .before .before .before .before .choice2 .given .1)
+  are : chosen (c .before .before .before .before .before) ≡ got ch₂ next
+  are = chosen-tables (chosen (c .before .before .before .before .before)) (c .before .before .before .before .read-choices .ensures) (c .before .before .choice2 .given .1)
 
   small : (ch₂ .luma < 16) × (ch₂ .chroma < 16)
-  small =
-      let l = c .before .before .before .before .before .before .before .before .before .loop in
-      choices-small (l .k) (ch (c .before .before .before .before .before .before .before .before)) (c .before .before .before .before .before .before .before .before .before .before .before .before .before .before .before .args .packet .now) (l .place) (l .inv .5) (l .inv .6) are
+  small = let l = c .before .before .before .before .before .before .loop in choices-small (l .k) (ch (c .before .before .before .before .before)) (c .before .before .before .before .before .before .before .before .before .before .before .before .args .packet .now) (l .place) (l .inv .5) (l .inv .6) are
 
+-- the position is read by the two lists
+module _ (c : tie.After-read-position-arg4 Inv-loop μ-loop) where
   abbrev o : Outcome State
   o =
-      let l = c .before .before .before .before .before .before .before .before .before .loop in
-      let a = c .before .before .before .before .before .before .before .before .before .before .before .before .before .before .before .args in
-      atPosition (trees (c .before .before .before .before .before .before .before .before)) (take (l .lumas) (l .active)) (take (l .end - a .luma) (drop (a .luma) (l .active))) (l .k) ch₂ (s (c .before .before .before .before .before .before .before .before)) (a .packet .now) next
+      let l = c .before .before .before .before .before .before .before .before .before .before .before .before .before .before .before .before .before .loop in
+      let a = c .before .before .before .before .before .before .before .before .before .before .before .before .before .before .before .before .before .before .before .before .before .before .before .args in
+      atPosition (trees (c .before .before .before .before .before .before .before .before .before .before .before .before .before .before .before .before)) (take (l .lumas) (l .active)) (take (l .end - a .luma) (drop (a .luma) (l .active))) (l .k) (ch₂ (c .before .before .before .before .before .before .before .before .before .before .before)) (s (c .before .before .before .before .before .before .before .before .before .before .before .before .before .before .before .before)) (a .packet .now) (next (c .before .before .before .before .before .before .before .before .before .before .before))
 
-  by-lists : let l = c .before .before .before .before .before .before .before .before .before .loop in let a = c .before .before .before .before .before .before .before .before .before .before .before .before .before .before .before .args in atPosition (trees (c .before .before .before .before .before .before .before .before)) (lumas (c .before .before .before .before .before .before .before .before)) (chromas (c .before .before .before .before .before .before .before .before)) (l .k) ch₂ (s (c .before .before .before .before .before .before .before .before)) (a .packet .now) next ≡ o
+  by-lists : let l = c .before .before .before .before .before .before .before .before .before .before .before .before .before .before .before .before .before .loop in let a = c .before .before .before .before .before .before .before .before .before .before .before .before .before .before .before .before .before .before .before .before .before .before .before .args in atPosition (trees (c .before .before .before .before .before .before .before .before .before .before .before .before .before .before .before .before)) (lumas (c .before .before .before .before .before .before .before .before .before .before .before .before .before .before .before .before)) (chromas (c .before .before .before .before .before .before .before .before .before .before .before .before .before .before .before .before)) (l .k) (ch₂ (c .before .before .before .before .before .before .before .before .before .before .before)) (s (c .before .before .before .before .before .before .before .before .before .before .before .before .before .before .before .before)) (a .packet .now) (next (c .before .before .before .before .before .before .before .before .before .before .before)) ≡ o
   by-lists =
-      let l = c .before .before .before .before .before .before .before .before .before .loop in
-      let a = c .before .before .before .before .before .before .before .before .before .before .before .before .before .before .before .args in
-      lists-position (trees (c .before .before .before .before .before .before .before .before)) (length (a .positions .now)) (s (c .before .before .before .before .before .before .before .before)) (l .active) (a .luma) (l .lumas) (l .end) (l .k) ch₂ (a .packet .now) next (c .before .before .before .before .before .before .before .before .before .before .before .before .before .before .before .pre .0 .2) (l .inv .1) (c .before .before .before .before .before .before .before .before .loop-test .taken) (l .inv .8)
+      let l = c .before .before .before .before .before .before .before .before .before .before .before .before .before .before .before .before .before .loop in
+      let a = c .before .before .before .before .before .before .before .before .before .before .before .before .before .before .before .before .before .before .before .before .before .before .before .args in
+      lists-position (trees (c .before .before .before .before .before .before .before .before .before .before .before .before .before .before .before .before)) (length (a .positions .now)) (s (c .before .before .before .before .before .before .before .before .before .before .before .before .before .before .before .before)) (l .active) (a .luma) (l .lumas) (l .end) (l .k) (ch₂ (c .before .before .before .before .before .before .before .before .before .before .before)) (a .packet .now) (next (c .before .before .before .before .before .before .before .before .before .before .before)) (c .before .before .before .before .before .before .before .before .before .before .before .before .before .before .before .before .before .before .before .before .before .before .before .pre .0 .2) (l .inv .1) (c .before .before .before .before .before .before .before .before .before .before .before .before .before .before .before .before .loop-test .taken) (l .inv .8)
 
 loop-holds : tie.Need-loop-holds Inv-loop μ-loop
 loop-holds c =
@@ -89,6 +91,8 @@ loop-holds c =
       omega arith,
       lists-start (length (a .positions .now)) (a .positions .now) (a .active .now) (a .luma) (u .pre .0 .2) (u .pre .1 .1) (u .pre .1 .2),
       refl,
+      current-start _ _ _ refl,
+      current-start _ _ _ refl,
     )
 
 read-choices-requires : tie.Need-read-choices-requires Inv-loop μ-loop
@@ -120,15 +124,42 @@ returns c =
 enum-known-choice-2 : tie.Need-enum-known-choice-2 Inv-loop μ-loop
 enum-known-choice-2 c = search needs
 
+slice-aggregate-renew-lookup : tie.Need-slice-aggregate-renew-lookup Inv-loop μ-loop
+slice-aggregate-renew-lookup c = sym (c .before .before .before .before .before .before .loop .inv .10 .0)
+
+renew-lookup-requires : tie.Need-renew-lookup-requires Inv-loop μ-loop
+renew-lookup-requires c κs =
+    let u = c .before .before .before .before .before in
+    let l = u .before .loop in
+    let v = u .before .before .before .before .before .before .before in
+    (v .pre .0 .1, small c .0, current-chosen (v .args .nodes .now) (l .k) (ch u) (v .args .packet .now) (l .place) (are c) (λ x. x .luma) (l .luma-lookup) (l .inv .10))
+
+slice-aggregate-renew-lookup-2 : tie.Need-slice-aggregate-renew-lookup-2 Inv-loop μ-loop
+slice-aggregate-renew-lookup-2 c = sym (c .before .before .before .before .before .before .before .before .before .loop .inv .11 .0)
+
+renew-lookup-requires-2 : tie.Need-renew-lookup-requires-2 Inv-loop μ-loop
+renew-lookup-requires-2 c κs =
+    let d = c .before .before .before in
+    let u = d .before .before .before .before .before in
+    let l = u .before .loop in
+    let v = u .before .before .before .before .before .before .before in
+    (v .pre .0 .1, small d .1, current-chosen (v .args .nodes .now) (l .k) (ch u) (v .args .packet .now) (l .place) (are d) (λ x. x .chroma) (l .chroma-lookup) (l .inv .11))
+
+slice-aggregate-read-position : tie.Need-slice-aggregate-read-position Inv-loop μ-loop
+slice-aggregate-read-position c = sym (c .before .before .before .before .before .renew-lookup .ensures .size)
+
+slice-aggregate-read-position-2 : tie.Need-slice-aggregate-read-position-2 Inv-loop μ-loop
+slice-aggregate-read-position-2 c = sym (c .before .before .before .renew-lookup2 .ensures .size)
+
 read-position-requires : tie.Need-read-position-requires Inv-loop μ-loop
 read-position-requires c κs =
-    let u = c .before .before .before .before .before .before .before .before in
+    let u = c .before .before .before .before .before .before .before .before .before .before .before .before .before .before .before .before in
     let l = u .before .loop in
     let p = u .before .before .before .before .before .before .before .pre in
     let h = p .1 .0 in
     let n = length (u .before .before .before .before .before .before .before .args .positions .now) in
     let w = l .inv .8 in (
-      (p .0 .0, p .0 .1, small c .0, small c .1, u .loop-test .taken),
+      (p .0 .0, p .0 .1, small (c .before .before .before .before .before .before .before .before .before .before .before) .0, small (c .before .before .before .before .before .before .before .before .before .before .before) .1, u .loop-test .taken, c .before .before .before .before .before .before .before .before .before .before .renew-lookup .ensures, c .before .before .before .before .before .before .before .renew-lookup2 .ensures),
       (
         (
           w .within,
@@ -151,35 +182,35 @@ enum-told : tie.Need-enum-told Inv-loop μ-loop
 enum-told c = search needs
 
 same-length-5 : tie.Need-same-length-5 Inv-loop μ-loop
-same-length-5 c = search needs
+same-length-5 c = c .before .before .before .before .before .before .before .read-position .kept .1 .1 .1 .1 .1 .1 .1 .1 .1 .1 .1 .1 .1 .1 .0 ∙ c .before .before .before .before .before .before .before .before .before .before .before .before .before .before .before .before .before .before .before .before .before .before .before .before .before .loop .inv .1
 
 same-length-6 : tie.Need-same-length-6 Inv-loop μ-loop
-same-length-6 c = search needs
+same-length-6 c = c .before .before .before .before .before .before .before .read-position .kept .1 .1 .1 .1 .1 .1 .1 .1 .1 .1 .1 .1 .1 .1 .1 .0 ∙ c .before .before .before .before .before .before .before .before .before .before .before .before .before .before .before .before .before .before .before .before .before .before .before .before .before .loop .inv .2
 
 same-length-7 : tie.Need-same-length-7 Inv-loop μ-loop
-same-length-7 c = search needs
+same-length-7 c = c .before .before .before .before .before .before .before .read-position .kept .1 .1 .1 .1 .1 .1 .1 .1 .1 .1 .1 .1 .1 .1 .1 .1 .0 ∙ c .before .before .before .before .before .before .before .before .before .before .before .before .before .before .before .before .before .before .before .before .before .before .before .before .before .loop .inv .3
 
 same-length-8 : tie.Need-same-length-8 Inv-loop μ-loop
-same-length-8 c = search needs
+same-length-8 c = c .before .before .before .before .before .before .before .before .before .before .before .before .before .before .before .before .before .before .before .before .before .before .before .before .before .loop .inv .4
 
 returns-2 : tie.Need-returns-2 Inv-loop μ-loop
 returns-2 c =
     let d = c .before .before .before .before .before .before .before .before in
-    let u = c .before .before .before .before .before .before .before .before .before .before .before .before .before .before .before .before in
+    let u = c .before .before .before .before .before .before .before .before .before .before .before .before .before .before .before .before .before .before .before .before .before .before .before .before in
     let l = u .before .loop in
     let a = u .before .before .before .before .before .before .before .args in
     let g = visit-refused (o d) (c .before .before .before .before .before .before .before .read-position .ensures .0) (c .enum-told .given .1) in
     on-refused _ _ _ _ (c .enum-told .given .1)
-    (l .inv .9 ∙ positions-refused (trees u) (lumas u) (chromas u) (l .k) (ch u) (s u) (a .packet .now) (l .place) (u .loop-test .taken) (are d) (by-lists d ∙ g))
+    (l .inv .9 ∙ positions-refused (trees u) (lumas u) (chromas u) (l .k) (ch u) (s u) (a .packet .now) (l .place) (u .loop-test .taken) (are (d .before .before .before .before .before .before .before .before .before .before .before)) (by-lists d ∙ g))
 
 keep-active-requires : tie.Need-keep-active-requires Inv-loop μ-loop
 keep-active-requires c κs =
-    let u = c .before .before .before .before .before .before .before .before .before .before .before .before .before .before .before .before .before .before .before in
+    let u = c .before .before .before .before .before .before .before .before .before .before .before .before .before .before .before .before .before .before .before .before .before .before .before .before .before .before .before in
     let l = u .before .loop in
     let p = u .before .before .before .before .before .before .before .pre in
     let n = length (u .before .before .before .before .before .before .before .args .positions .now) in
     let w = l .inv .8 in
-    let e = c .before .before .before .before .before .before .before .before .before .before .read-position .kept .1 .1 .1 .1 .1 .1 .1 .1 .1 .1 .1 .1 .0 ∙ l .inv .1 in (
+    let e = c .before .before .before .before .before .before .before .before .before .before .read-position .kept .1 .1 .1 .1 .1 .1 .1 .1 .1 .1 .1 .1 .1 .1 .0 ∙ l .inv .1 in (
       (w .within, w .from, w .to),
       (
         rw e (luma-below n (l .positions) (l .active) (u .before .before .before .before .before .before .before .args .luma) (l .lumas) (l .end) (p .0 .2) w),
@@ -188,34 +219,37 @@ keep-active-requires c κs =
     )
 
 add-k : tie.Need-add-k Inv-loop μ-loop
-add-k c = search needs
+add-k c = record { fits = omega (arith, c .before .before .before .before .before .before .before .before .before .before .before .before .before .before .before .before .before .before .before .before .before .before .before .before .before .before .before .before .before .before .loop-test .taken) }
 
 loop-less : tie.Need-loop-less Inv-loop μ-loop
-loop-less c = search needs
+loop-less c = omega (arith, c .before .before .before .before .before .before .before .before .before .before .before .before .before .before .before .before .before .before .before .before .before .before .before .before .before .before .before .before .before .before .loop-test .taken)
 
 loop-again : tie.Need-loop-again Inv-loop μ-loop
 loop-again c =
     let d = c .before .before .before .before .before .before .before .before .before .before .before .before .before .before in
-    let u = c .before .before .before .before .before .before .before .before .before .before .before .before .before .before .before .before .before .before .before .before .before .before in
+    let e = d .before .before .before .before .before .before .before .before .before .before .before in
+    let u = c .before .before .before .before .before .before .before .before .before .before .before .before .before .before .before .before .before .before .before .before .before .before .before .before .before .before .before .before .before .before in
     let l = u .before .loop in
     let a = u .before .before .before .before .before .before .before .args in
     let p = u .before .before .before .before .before .before .before .pre in
     let n = length (a .positions .now) in
     let w = c .before .before .before .before .before .before .before .before .before .before .before .before .before .read-position in
     let v = c .before .before .keep-active in
-    let g = by-lists d ∙ visit-done (o d) (w .ensures .0) (w .last .1 .1 .1 .1 .1 .1 .1 .1 .1 .1 .1 .1 .0) (w .last .1 .1 .1 .1 .1 .1 .1 .1 .1 .1 .1 .1 .1 .0) (w .last .1 .1 .1 .1 .1 .1 .1 .1 .1 .1 .1 .1 .1 .1 .0) (w .ensures .1) (c .before .before .before .before .before .before .one .given .1) in
-    let r = position-goes (trees u) (lumas u) (chromas u) (l .k) (ch₂ d) (s u) (a .packet .now) (next d) (u .loop-test .taken) (ranks-below 0 (a .luma) (length (l .positions)) (omega (arith, l .inv .1, p .0 .2)))
+    let g = by-lists d ∙ visit-done (o d) (w .ensures .0) (w .last .1 .1 .1 .1 .1 .1 .1 .1 .1 .1 .1 .1 .1 .1 .0) (w .last .1 .1 .1 .1 .1 .1 .1 .1 .1 .1 .1 .1 .1 .1 .1 .0) (w .last .1 .1 .1 .1 .1 .1 .1 .1 .1 .1 .1 .1 .1 .1 .1 .1 .0) (w .ensures .1) (c .before .before .before .before .before .before .one .given .1) in
+    let r = position-goes (trees u) (lumas u) (chromas u) (l .k) (ch₂ e) (s u) (a .packet .now) (next e) (u .loop-test .taken) (ranks-below 0 (a .luma) (length (l .positions)) (omega (arith, l .inv .1, p .0 .2)))
     (ranks-below (a .luma) (n - a .luma) (length (l .positions)) (omega (arith, l .inv .1, p .0 .2))) g in (
       omega (arith, u .loop-test .taken),
-      w .kept .1 .1 .1 .1 .1 .1 .1 .1 .1 .1 .1 .1 .0 ∙ l .inv .1,
-      w .kept .1 .1 .1 .1 .1 .1 .1 .1 .1 .1 .1 .1 .1 .0 ∙ l .inv .2,
-      w .kept .1 .1 .1 .1 .1 .1 .1 .1 .1 .1 .1 .1 .1 .1 .0 ∙ l .inv .3,
+      w .kept .1 .1 .1 .1 .1 .1 .1 .1 .1 .1 .1 .1 .1 .1 .0 ∙ l .inv .1,
+      w .kept .1 .1 .1 .1 .1 .1 .1 .1 .1 .1 .1 .1 .1 .1 .1 .0 ∙ l .inv .2,
+      w .kept .1 .1 .1 .1 .1 .1 .1 .1 .1 .1 .1 .1 .1 .1 .1 .1 .0 ∙ l .inv .3,
       v .kept .1 .0 ∙ l .inv .4,
-      small d .0,
-      small d .1,
+      small e .0,
+      small e .1,
       le-trans (r .tokens) (l .inv .7),
-      lists-on n (l .positions) (l .active) (a .luma) (l .lumas) (l .end) (p .0 .2) (l .inv .8) (w .last .1 .1 .1 .1 .1 .1 .1 .1 .1 .1 .1 .1 .0) (v .last .1 .0) (v .result .0) (v .result .1) (r .later) (v .kept .1 .0) (v .ensures),
-      l .inv .9 ∙ positions-got (trees u) (lumas u) (chromas u) (l .k) (ch u) (s u) (a .packet .now) (l .place) (u .loop-test .taken) (are d) g,
+      lists-on n (l .positions) (l .active) (a .luma) (l .lumas) (l .end) (p .0 .2) (l .inv .8) (w .last .1 .1 .1 .1 .1 .1 .1 .1 .1 .1 .1 .1 .1 .1 .0) (v .last .1 .0) (v .result .0) (v .result .1) (r .later) (v .kept .1 .0) (v .ensures),
+      l .inv .9 ∙ positions-got (trees u) (lumas u) (chromas u) (l .k) (ch u) (s u) (a .packet .now) (l .place) (u .loop-test .taken) (are e) g,
+      current-on (a .nodes .now) (l .k) (ch₂ e .luma) _ (c .before .before .before .before .before .before .before .before .before .before .before .before .before .before .before .before .before .before .before .before .before .before .before .before .renew-lookup .ensures),
+      current-on (a .nodes .now) (l .k) (ch₂ e .chroma) _ (c .before .before .before .before .before .before .before .before .before .before .before .before .before .before .before .before .before .before .before .before .before .renew-lookup2 .ensures),
     )
 
 same-length-9 : tie.Need-same-length-9 Inv-loop μ-loop
@@ -252,6 +286,12 @@ read-positions-spec =
     same-length-4
     returns
     enum-known-choice-2
+    slice-aggregate-renew-lookup
+    renew-lookup-requires
+    slice-aggregate-renew-lookup-2
+    renew-lookup-requires-2
+    slice-aggregate-read-position
+    slice-aggregate-read-position-2
     read-position-requires
     enum-known-one
     enum-told

@@ -22,7 +22,7 @@ cast-if1 c = search needs
 
 returns : tie.Need-returns
 returns c =
-    let u = c .before .before .before .before .before .before in
+    let u = c .before .before .before .before .before .before .before .before in
     let a = u .args in
     on-state _ _ _ _ (visit-other (treeOf (a .nodes .now)) (a .k) (a .b) (s u) (a .packet .now) (a .at) (c .if1 .taken))
 
@@ -43,7 +43,7 @@ same-length-2 c = search needs
 
 returns-2 : tie.Need-returns-2
 returns-2 c =
-    let u = c .before .before .before .before .before .before .before in
+    let u = c .before .before .before .before .before .before .before .before .before in
     let a = u .args in
     let e = c .before .if1 .left in
     on-state _ _ _ _
@@ -65,7 +65,7 @@ same-length-5 c = search needs
 returns-3 : tie.Need-returns-3
 returns-3 c =
     let v = c .before .before .before .before .before in
-    let u = c .before .before .before .before .before .before .before .before .before .before .before .before .before .before .before .before in
+    let u = c .before .before .before .before .before .before .before .before .before .before .before .before .before .before .before .before .before .before in
     let a = u .args in
     on-same _ _ _ _ _ (visit-token (treeOf (a .nodes .now)) (a .k) (a .b) (s u) (a .packet .now) (a .at) (c .before .before .before .before .before .before .before .before .before .before .if1 .left) (c .before .before .before .before .before .before .before .before .before .if2 .left)) (v .read-for .ensures .0) (v .read-for .ensures .1)
 

@@ -11,6 +11,7 @@ use mir.Val.{toZ, ofZ}
 use Rattle.numeric.proofs.Known.{back, k-any}
 use Rattle.transform.specs.Residual.{zigZag, dequantized, tabulated, valueAt, values}
 use Rattle.transform.proofs.Sweep.{changed, turn, all-tabulated}
+use Rattle.transform.proofs.ZigZag.{position-lt}
 use Rattle.transform.proofs.dequantize.Statement.{statement}
 use Rattle.transform.proofs.dequantize.Tie as tie
 
@@ -19,11 +20,11 @@ abbrev step : List ℤ → ℕ → ℤ → ℕ → List ℕ → ℕ → ℤ → 
 step coefs at dc q matrix k x = valueAt coefs at dc q matrix k
 
 abbrev Inv-loop : tie.InvT-loop
-Inv-loop coefs at dc q matrix out₀ first i₀ out i =
+Inv-loop coefs at dc q matrix out₀ first order i₀ out i =
     (1 ≤ i) × (i ≤ 64) × (length out ≡ 64) × (length out₀ ≡ 64) × (out ≡ changed (step coefs at (toZ w16 dc) q matrix) 0 i out₀)
 
 abbrev μ-loop : tie.MeasureT-loop
-μ-loop coefs at dc q matrix out₀ first i₀ out i = 64 - i
+μ-loop coefs at dc q matrix out₀ first order i₀ out i = 64 - i
 
 -- the first store is the first turn
 first-turn : (f : ℕ → ℤ → ℤ) (xs : List ℤ) (v : ℤ) → 0 < length xs → v ≡ f 0 v → set xs 0 v ≡ changed f 0 1 (set xs 0 v)
@@ -54,17 +55,28 @@ loop-holds c =
           (back w16 (c .dequantized .result) (c .dequantized .ok) ∙ c .dequantized .ensures),
     )
 
-zig-zag-requires : tie.Need-zig-zag-requires Inv-loop μ-loop
-zig-zag-requires c κs = search needs
+-- the place that the table has
+place-lt : (c : tie.In-loop Inv-loop μ-loop) → getD zigZag (c .before .loop .i) 0 < 64
+place-lt c = position-lt (c .before .loop .i) (omega arith)
+
+array-read-place : tie.Need-array-read-place Inv-loop μ-loop
+array-read-place c = omega arith
+
+cast-place : tie.Need-cast-place Inv-loop μ-loop
+unfolding zigZag
+cast-place c = omega (arith, place-lt c)
 
 add-z : tie.Need-add-z Inv-loop μ-loop
-add-z c = omega arith
+unfolding zigZag
+add-z c = omega (arith, place-lt c)
 
 mul-dequantized : tie.Need-mul-dequantized Inv-loop μ-loop
-mul-dequantized c = omega arith
+unfolding zigZag
+mul-dequantized c = omega (arith, place-lt c)
 
 shared-slice-copy-out-dequantized : tie.Need-shared-slice-copy-out-dequantized Inv-loop μ-loop
-shared-slice-copy-out-dequantized c = omega arith
+unfolding zigZag
+shared-slice-copy-out-dequantized c = omega (arith, place-lt c)
 
 mul-dequantized-2 : tie.Need-mul-dequantized-2 Inv-loop μ-loop
 mul-dequantized-2 c = omega arith
@@ -88,10 +100,10 @@ loop-less : tie.Need-loop-less Inv-loop μ-loop
 loop-less c = omega arith
 
 loop-again : tie.Need-loop-again Inv-loop μ-loop
+unfolding zigZag
 loop-again c =
-    let l = c .before .before .before .before .before .loop in
-    let z = c .before .before .before .zig-zag in
-    let f = c .before .before .before .before .before .before in
+    let l = c .before .before .before .before .loop in
+    let f = c .before .before .before .before .before in
     let b = f .before .before .args in
     let dc = toZ w16 (ofZ w16 (b .dc)) in
     let i = l .i in
@@ -99,8 +111,7 @@ loop-again c =
     back w16 (c .dequantized2 .result) (c .dequantized2 .ok)
     ∙ c .dequantized2 .ensures
     ∙ ap (λ (x : ℤ). dequantized x (getD (b .matrix .now) i 0))
-    (back w16 (getD (b .coefs .now) (b .at + z .result) (pos 0)) (c .before .before .dequantized-arg .given)
-    ∙ ap (λ (k : ℕ). getD (b .coefs .now) (b .at + k) (pos 0)) (z .ensures .0))
+    (back w16 (getD (b .coefs .now) (b .at + getD zigZag i 0) (pos 0)) (c .before .before .dequantized-arg .given))
     ∙ value-is (b .coefs .now) (b .at) dc (b .q) (b .matrix .now) i (l .inv .0) in (
       omega arith,
       omega arith,
@@ -137,7 +148,8 @@ dequantize-spec =
     dequantized-requires
     slice-set-from-first
     loop-holds
-    zig-zag-requires
+    array-read-place
+    cast-place
     add-z
     mul-dequantized
     shared-slice-copy-out-dequantized

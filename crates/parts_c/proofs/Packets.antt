@@ -1,0 +1,152 @@
+-- The call that reads a frame packet, one law for each way that it goes. Assumes nothing.
+use Prim.Native.Nat.{ℕ, zero, suc, _*_, _≤_, _<_, _^_}
+use native.Mathlib.Omega.{arith}
+use mathlib.Core.Path.{_≡_, refl, sym, ap, _∙_}
+use mathlib.Core.List.{List, [], _∷_, _++_}
+use mathlib.Core.Bool.{Bool, true, false, _&&_}
+use lib.Dec.{ltb, lit<}
+use lib.IntN.{pos}
+use lib.ListN.{length, getD, replicate}
+use borrow.Author.Tests.{eqb-true, ltb-true}
+use Rattle.bitstream.specs.Reading.{Outcome, got, refused}
+use Rattle.geometry.specs.declared.PixelFormat.{PixelFormat}
+use Rattle.geometry.specs.Sizes.{blocksOf, superBlocksOf, macroBlocksOf}
+use Rattle.headers.specs.Sizes.{formatOf}
+use Rattle.headers.proofs.Fitting.{all-at, and-both}
+use Rattle.huffman.specs.Tree.{Tree, leaf, Proper, nodesOf}
+use Rattle.quantization.specs.Layout.{laid}
+use Rattle.setup.specs.Header.{Setup}
+use Rattle.setup.specs.Answer.{Loaded}
+use Rattle.setup.specs.Table.{heldSetup, asTable}
+use Rattle.setup.specs.declared.TableAnswer.{TableAnswer}
+use Rattle.setup.specs.declared.TableAnswer.the-variants.{Genuine, NotGenuine}
+use Rattle.setup.proofs.Steps.{proper-padded}
+use Rattle.tables.specs.Tables.{HoldsTrees}
+use Rattle.tables.proofs.Held.{holds-trees, held-reads}
+use Rattle.tokens.specs.Answer.{tablesOf, AllProper, Tables, treesOf}
+use Rattle.tokens.proofs.Tables.{trees-of}
+use Rattle.frame_packet.specs.declared.Read.{Read}
+use Rattle.frame_packet.specs.declared.Read.the-variants.{Whole, Refused}
+use Rattle.frame_packet.specs.declared.FrameRead.{FrameRead}
+use Rattle.frame_packet.specs.Frame.{Frame, framePacket}
+use Rattle.frame_packet.specs.Work.{Work, work, clear, workAfter, asFrame}
+use Rattle.parts_c.specs.Packet.{Returned, returned, kindNumber, numberOf, countsOf, numbersOf, zeroed, lengthsFit, byTrees, bySetup, readCall}
+
+-- ---- the trees of a table memory
+all-proper : (ts : List Tree) → ((k : ℕ) → k < length ts → Proper (getD ts k (leaf 0))) → AllProper ts
+all-proper [] h = tt
+all-proper (t ∷ ts) h = (h 0 (omega arith), all-proper ts (λ k l. h (suc k) (omega arith)))
+
+laid-tables : (ts : List Tree) → AllProper ts → laid nodesOf ts ≡ tablesOf ts
+unfolding laid tablesOf
+laid-tables [] h = refl
+laid-tables (t ∷ ts) h = let e = proper-padded (h .0) in let f = laid-tables ts (h .1) in λ i. e i ++ f i
+
+tables-held : (trees : List Tree) (nodes : List ℕ) → HoldsTrees trees nodes → Tables nodes
+tables-held trees nodes h =
+    let p = all-proper trees (λ k v. h .proper k (omega (arith, v, h .eighty))) in
+    record { trees = trees; count = h .eighty; proper = p; there = h .nodes-are ∙ laid-tables trees p }
+
+-- a table memory that is genuine: the slice holds its trees, and the packet is read by them
+pub genuine-trees : (t : List ℕ) {r : TableAnswer} {m : ℕ} → r ≡ asTable (heldSetup t) → r ≡ Genuine m → (limits ac dc sizes indices nodes : List ℕ) → Loaded (heldSetup t) limits ac dc sizes indices nodes
+    → Tables nodes × ((f : PixelFormat) (w h : ℕ) (references : Bool) (packet old : List ℕ) → byTrees f w h references packet (treesOf nodes) ≡ bySetup f w h references packet old (heldSetup t))
+unfolding tables-held
+genuine-trees t {r} {m} a g limits ac dc sizes indices nodes l = go (heldSetup t) refl a l
+  where
+    go : (o : Outcome Setup) → heldSetup t ≡ o → r ≡ asTable o → Loaded o limits ac dc sizes indices nodes
+        → Tables nodes × ((f : PixelFormat) (w h : ℕ) (references : Bool) (packet old : List ℕ) → byTrees f w h references packet (treesOf nodes) ≡ bySetup f w h references packet old o)
+    go (got s e) h b stored =
+        let k = tables-held (s .trees) nodes (holds-trees t (held-reads t h) limits ac dc sizes indices nodes stored) in
+        (k, λ f w h references packet old. ap (byTrees f w h references packet) (trees-of nodes k))
+    go (refused j e) h b stored =
+        let u : Genuine m ≡ NotGenuine = sym g ∙ b in
+        let z : _≡_ {A = ℕ} 0 1 = cc in
+        absurd (omega arith)
+
+-- one that is not
+pub other-table : (t : List ℕ) {r : TableAnswer} → r ≡ asTable (heldSetup t) → r ≡ NotGenuine → (f : PixelFormat) (w h : ℕ) (references : Bool) (packet old : List ℕ) {m : Work} → m ≡ clear f w h
+    → returned 8 old m ≡ bySetup f w h references packet old (heldSetup t)
+other-table t {r} a g f w h references packet old {m} c = go (heldSetup t) a
+  where
+    go : (o : Outcome Setup) → r ≡ asTable o → returned 8 old m ≡ bySetup f w h references packet old o
+    go (got s e) b =
+        let u : NotGenuine ≡ asTable (got s e) = sym g ∙ b in
+        let z : _≡_ {A = ℕ} 0 1 = cc in
+        absurd (omega arith)
+    go (refused j e) b = ap (returned 8 old) c
+
+-- ---- a packet that was read
+-- its numbers, by the two ways of reading it
+pub numbers-are : (r : FrameRead) {k : ℕ} {d : Read} → k ≡ kindNumber (r .header .kind) → r .read ≡ d
+    → (k ∷ r .header .count ∷ getD (r .header .qis) 0 0 ∷ getD (r .header .qis) 1 0 ∷ getD (r .header .qis) 2 0 ∷ countsOf d) ≡ numbersOf r
+numbers-are r {k} {d} e h =
+    let g = sym h in
+    λ i. e i ∷ r .header .count ∷ getD (r .header .qis) 0 0 ∷ getD (r .header .qis) 1 0 ∷ getD (r .header .qis) 2 0 ∷ countsOf (g i)
+
+pub numbers-long : (r : FrameRead) → length (numbersOf r) ≡ 8
+numbers-long r = go (r .read)
+  where
+    go : (d : Read) → length (kindNumber (r .header .kind) ∷ r .header .count ∷ getD (r .header .qis) 0 0 ∷ getD (r .header .qis) 1 0 ∷ getD (r .header .qis) 2 0 ∷ countsOf d) ≡ 8
+    go (Whole count tokens place) = refl
+    go (Refused k place) = refl
+
+pub by-trees : (f : PixelFormat) (w h : ℕ) (references : Bool) (packet : List ℕ) (trees : List Tree) {r : FrameRead} {m : Work} {k : ℕ} {answer numbers : List ℕ}
+    → r ≡ asFrame (framePacket f w h trees references packet) → m ≡ workAfter f w h (framePacket f w h trees references packet)
+    → numbers ≡ numbersOf r → answer ≡ numbers → k ≡ numberOf (r .read) → returned k answer m ≡ byTrees f w h references packet trees
+unfolding byTrees
+by-trees f w h references packet trees er em en ea ek =
+    let e = ea ∙ en ∙ ap numbersOf er in
+    let n = ek ∙ ap (λ (r : FrameRead). numberOf (r .read)) er in
+    λ i. returned (n i) (e i) (em i)
+
+-- ---- lengths that are right
+module _ (f : PixelFormat) (w h : ℕ) (packet table answer : List ℕ) (m : Work) (fit : lengthsFit f w h packet table answer m ≡ true) where
+  pub fit-packet : length packet ≤ 2 ^ 58
+  unfolding lengthsFit
+  fit-packet = let k = ltb-true (length packet) 288230376151711745 (all-at _ 0 fit (lit< tt)) in omega (arith, k)
+
+  pub fit-answer : length answer ≡ 8
+  unfolding lengthsFit
+  fit-answer = eqb-true _ _ (all-at _ 2 fit (lit< tt))
+
+  pub fit-ranks : length (m .active) ≡ length (m .bits)
+  unfolding lengthsFit
+  fit-ranks = eqb-true _ _ (all-at _ 11 fit (lit< tt)) ∙ sym (eqb-true _ _ (all-at _ 8 fit (lit< tt)))
+
+  pub fit-zeroed : zeroed m ≡ clear f w h
+  unfolding lengthsFit
+  fit-zeroed =
+      let records : length (m .records) ≡ blocksOf f w h = eqb-true _ _ (all-at _ 3 fit (lit< tt)) in
+      let coded : length (m .coded) ≡ blocksOf f w h = eqb-true _ _ (all-at _ 4 fit (lit< tt)) in
+      let coefs : length (m .coefs) ≡ 64 * blocksOf f w h = eqb-true _ _ (all-at _ 5 fit (lit< tt)) in
+      let lasts : length (m .lasts) ≡ blocksOf f w h = eqb-true _ _ (all-at _ 6 fit (lit< tt)) in
+      let flags : length (m .flags) ≡ blocksOf f w h = eqb-true _ _ (all-at _ 7 fit (lit< tt)) in
+      let bits : length (m .bits) ≡ blocksOf f w h = eqb-true _ _ (all-at _ 8 fit (lit< tt)) in
+      let supers : length (m .supers) ≡ 2 * superBlocksOf f w h = eqb-true _ _ (all-at _ 9 fit (lit< tt)) in
+      let modes : length (m .modes) ≡ macroBlocksOf w h = eqb-true _ _ (all-at _ 10 fit (lit< tt)) in
+      let active : length (m .active) ≡ blocksOf f w h = eqb-true _ _ (all-at _ 11 fit (lit< tt)) in
+      λ i. work (replicate (records i) 0) (replicate (coded i) 0) (replicate (coefs i) (pos 0)) (replicate (lasts i) 0) (replicate (flags i) 0)
+      (replicate (bits i) 0) (replicate (supers i) 0) (replicate (modes i) 0) (replicate (active i) 0)
+
+-- a frame that is not too large
+pub small-frame : (w h : ℕ) → (ltb w 65536 && ltb h 65536) ≡ true → (w ≤ 65535) × (h ≤ 65535)
+small-frame w h e =
+    let b = and-both (ltb w 65536) (ltb h 65536) e in
+    let x = ltb-true w 65536 (b .0) in
+    let y = ltb-true h 65536 (b .1) in
+    (omega (arith, x), omega (arith, y))
+
+-- ---- the ways of the call
+module _ (packet : List ℕ) (references : Bool) (table : List ℕ) (pf w h : ℕ) (m : Work) (old : List ℕ) where
+  pub call-8 : (ltb w 65536 && ltb h 65536) ≡ false → returned 8 old m ≡ readCall packet references table pf w h m old
+  unfolding readCall
+  call-8 s = rw s
+
+  module _ (small : (ltb w 65536 && ltb h 65536) ≡ true) {f : PixelFormat} (ef : f ≡ formatOf pf) where
+    pub call-1 : lengthsFit f w h packet table old m ≡ false → returned 1 old m ≡ readCall packet references table pf w h m old
+    unfolding readCall
+    call-1 l = rw (small, sym (ap (λ (f : PixelFormat). lengthsFit f w h packet table old m) ef) ∙ l)
+
+    pub call-read : lengthsFit f w h packet table old m ≡ true → {d : Returned} → d ≡ bySetup f w h references packet old (heldSetup table) → d ≡ readCall packet references table pf w h m old
+    unfolding readCall
+    call-read l {d} e = rw (small, sym (ap (λ (f : PixelFormat). lengthsFit f w h packet table old m) ef) ∙ l) (e ∙ ap (λ (f : PixelFormat). bySetup f w h references packet old (heldSetup table)) ef)

@@ -1,0 +1,48 @@
+-- Where groups of positions begin, and the lookups that change there. Assumes nothing.
+use Prim.Native.Nat.{ℕ, zero, suc, _+_, _-_, _≤_}
+use native.Mathlib.Omega.{arith}
+use mathlib.Core.Path.{_≡_, sym, _∙_}
+use mathlib.Core.List.{List}
+use mathlib.Core.Bool.{true, false, not}
+use lib.Dec.{eqb}
+use lib.ListN.{length}
+use borrow.Author.Tests.{eq-eqb, ne-eqb, eqb-true, not-false}
+use Rattle.bitstream.specs.Reading.{got}
+use Rattle.tokens.specs.Tokens.{group, Choices, choices}
+use Rattle.tokens.specs.Answer.{beginsGroup, Ready, Current}
+use Rattle.tokens.proofs.Positions.{choices-kept}
+
+module _ (k : ℕ) where
+  pub begins-first : k ≡ 0 → true ≡ beginsGroup k
+  unfolding beginsGroup
+  begins-first h = rw (eq-eqb k 0 h)
+
+  pub begins-later : (k ≡ 0 → ⊥) → not (eqb (group k) (group (k - 1))) ≡ beginsGroup k
+  unfolding beginsGroup
+  begins-later h = rw (ne-eqb k 0 h)
+
+-- the groups before position 2 have one position each
+inside : (k : ℕ) → beginsGroup k ≡ false → 2 ≤ k
+unfolding beginsGroup group
+inside zero h = let z : true ≡ false = h in absurd (let o : _≡_ {A = ℕ} 0 1 = cc in omega arith)
+inside (suc zero) h = let z : true ≡ false = h in absurd (let o : _≡_ {A = ℕ} 0 1 = cc in omega arith)
+inside (suc (suc k)) h = omega arith
+
+same-group : (k : ℕ) → beginsGroup (k + 1) ≡ false → group (k + 1) ≡ group k
+same-group k h =
+    let e : k + 1 - 1 ≡ k = omega arith in
+    rw e at (eqb-true (group (k + 1)) (group (k + 1 - 1)) (not-false _ (begins-later (k + 1) (λ z. omega (arith, z)) ∙ h)))
+
+-- ---- a lookup before the first position, after the choices were read, and at the next position
+module _ (nodes : List ℕ) where
+  pub current-start : (choice : ℕ) (lookup : List ℕ) → length lookup ≡ 128 → Current nodes 0 choice lookup
+  current-start choice lookup h = (h, λ b. absurd (omega (arith, inside 0 b)))
+
+  pub current-chosen : (k : ℕ) (ch : Choices) (p : List ℕ) (i : ℕ) {ch′ : Choices} {e : ℕ} → choices k ch p i ≡ got ch′ e → (of : Choices → ℕ) (lookup : List ℕ) → Current nodes k (of ch) lookup → Current nodes k (of ch′) lookup
+  current-chosen k ch p i {ch′} {e} h of lookup g = (g .0, λ b. let z : ch ≡ ch′ = same (sym (choices-kept k ch p i (inside k b)) ∙ h) in rw (← z) (g .1 b))
+    where
+      same : got ch i ≡ got ch′ e → ch ≡ ch′
+      same z = cc
+
+  pub current-on : (k choice : ℕ) (lookup : List ℕ) → Ready nodes k choice lookup → Current nodes (k + 1) choice lookup
+  current-on k choice lookup g = (g .size, λ b. rw (same-group k b) g)
