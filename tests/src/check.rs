@@ -162,6 +162,7 @@ fn run(call: Call, session: &[u64], output: &mut [u64]) -> u32 {
             column,
             row,
         } => lists::sample_offset(session, plane, x, y, column, row, output),
+        Call::WorkLengths => lists::work_lengths(session, output),
     }
 }
 
@@ -248,7 +249,7 @@ fn changes(memory: &[u64], output_length: usize) -> String {
 }
 
 /// Bytes in hex.
-fn hex(bytes: &[u8]) -> String {
+pub fn hex(bytes: &[u8]) -> String {
     bytes.iter().map(|byte| format!("{byte:02x}")).collect()
 }
 

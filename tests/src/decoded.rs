@@ -1,17 +1,23 @@
-//! Recordings decoded by the independent implementation alone: every frame
-//! must be what libtheora makes of it, and both ways must make the same.
+//! Recordings decoded by the independent implementation, in both ways, and by
+//! the library: every frame must be what libtheora and FFmpeg make of it.
 //!
 //! libtheora takes the last coded block's vector after a macro block with
 //! four, the rules of the base take D's. With libtheora's rule every frame must
-//! be libtheora's; with the base's only those that no other vector has reached.
+//! be libtheora's; with the base's, and so by the library, only those that no
+//! other vector has reached.
 
+use crate::call_lists::{self, Brought, State};
+use crate::frame_calls::{Caller, answer};
 use crate::frames::{self, Frame};
+use crate::generate::cases::buffer;
+use crate::library;
 use crate::random::Random;
-use crate::reference::decode::Decoder;
+use crate::reference::decode::{Accepted, Decoder};
 use crate::reference::frame::vectors::FourRule;
 use crate::reference::frame::{FramePacket, Kind};
 use crate::reference::identification::identification;
 use crate::reference::samples::ways::Way;
+use crate::reference::session::SESSION_NUMBERS;
 use crate::reference::setup::setup;
 use crate::streams::hash;
 use std::collections::BTreeMap;
@@ -20,6 +26,7 @@ use std::fs::{self, File};
 use std::io::BufReader;
 use std::ops::AddAssign;
 use std::path::Path;
+use std::vec::IntoIter;
 
 /// About how many blocks the damaged variants of a packet have together, at most.
 const BLOCKS_OF_VARIANTS: u64 = 1_000;
@@ -35,6 +42,9 @@ struct Counts {
     drifted: u64,
     /// Packets that libtheora refuses.
     refused: u64,
+    /// Frames of the library that are libtheora's, and that are FFmpeg's.
+    libtheoras: u64,
+    ffmpegs: u64,
 }
 
 impl AddAssign for Counts {
@@ -45,6 +55,8 @@ impl AddAssign for Counts {
         self.tokens += other.tokens;
         self.drifted += other.drifted;
         self.refused += other.refused;
+        self.libtheoras += other.libtheoras;
+        self.ffmpegs += other.ffmpegs;
     }
 }
 
@@ -52,13 +64,15 @@ impl fmt::Display for Counts {
     fn fmt(&self, f: &mut fmt::Formatter<'_>) -> fmt::Result {
         write!(
             f,
-            "{} frames ({} intra, {} inter, {} repeats), {} tokens; by the base's rule for four vectors {} differ",
+            "{} frames ({} intra, {} inter, {} repeats), {} tokens; by the base's rule for four vectors {} differ; of the library's {} are libtheora's, {} FFmpeg's",
             self.intra + self.inter + self.repeats,
             self.intra,
             self.inter,
             self.repeats,
             self.tokens,
-            self.drifted
+            self.drifted,
+            self.libtheoras,
+            self.ffmpegs
         )?;
         if self.refused > 0 {
             write!(f, "; {} packets that libtheora refuses", self.refused)?;
@@ -70,30 +84,67 @@ impl fmt::Display for Counts {
 /// Compares recordings and prints what was compared.
 pub fn compare(files: &[String]) -> Result<(), String> {
     let mut total = Counts::default();
-    let mut damage = Damage {
+    let mut run = Run {
         random: Random::new(1),
-        report: frames::Report::default(),
+        damaged: frames::Report::default(),
+        lists: call_lists::Report::default(),
     };
     for file in files {
-        let counts = recording(&mut damage, Path::new(file));
+        let counts = run.recording(Path::new(file));
         let counts = counts.map_err(|text| format!("{file}\n{text}"))?;
         println!("{file}: {counts}");
         total += counts;
     }
     println!("recordings: {}: {total}", files.len());
-    println!("damaged packets:\n{}", damage.report);
+    println!("damaged packets:\n{}", run.damaged);
+    println!("lists with other calls among the packets:\n{}", run.lists);
     Ok(())
 }
 
-/// Damaged packets of the recordings.
-struct Damage {
+/// What is compared beside the frames.
+struct Run {
     random: Random,
-    report: frames::Report,
+    /// Damaged packets.
+    damaged: frames::Report,
+    /// Lists of calls.
+    lists: call_lists::Report,
 }
 
-impl Damage {
+impl Run {
+    /// Decodes a recording.
+    fn recording(&mut self, path: &Path) -> Result<Counts, String> {
+        let file = File::open(path).map_err(|error| error.to_string())?;
+        let packets =
+            recording::packets(BufReader::new(file)).map_err(|fault| fault.to_string())?;
+        let mut said = Said::beside(path)?;
+        let [first, _, third, frames @ ..] = &packets[..] else {
+            return Err(format!("{} packets only", packets.len()));
+        };
+        let fields = identification(first).map_err(|fault| format!("{fault:?}"))?;
+        let setup = setup(third).map_err(|fault| format!("{fault:?}"))?;
+        let decoder = Decoder::new(&fields, &setup);
+        let caller = Caller::new(&fields, third)?;
+        let session = library::session(first)?;
+        let mut players = Players::new(&mut self.random, &decoder, &session);
+        let mut counts = Counts::default();
+        for (number, packet) in (3..).zip(frames) {
+            let libtheoras = said.libtheora.remove(&number);
+            let libtheoras = libtheoras.ok_or("libtheora has fewer frames")?;
+            if libtheoras.starts_with("refused") {
+                counts.refused += 1;
+                continue;
+            }
+            self.damaged(&players.base, &caller, packet)
+                .and_then(|()| players.feed(&mut self.random, &caller, packet))
+                .and_then(|frame| counts.compare(&frame, &libtheoras, &mut said.ffmpeg))
+                .map_err(|text| format!("frame {number}: {text}"))?;
+        }
+        self.lists.of_recording(&mut self.random, &caller, frames)?;
+        Ok(counts)
+    }
+
     /// Tries variants of a packet: the fewer the larger the frame.
-    fn packet(&mut self, player: &Player, packet: &[u8]) -> Result<(), String> {
+    fn damaged(&mut self, player: &Player, caller: &Caller, packet: &[u8]) -> Result<(), String> {
         let blocks = player.decoder.layout.sizes.nbs;
         let variants = self.random.below(2 + BLOCKS_OF_VARIANTS / blocks);
         let frame = Frame {
@@ -102,76 +153,153 @@ impl Damage {
             golden: &player.golden,
             previous: &player.previous,
         };
-        let report = &mut self.report;
-        report.of_recording(&mut self.random, &frame, packet, variants)
+        self.damaged
+            .of_recording(&mut self.random, &frame, caller, packet, variants)
     }
 }
 
-/// Decodes a recording.
-fn recording(damage: &mut Damage, path: &Path) -> Result<Counts, String> {
-    let file = File::open(path).map_err(|error| error.to_string())?;
-    let packets = recording::packets(BufReader::new(file)).map_err(|fault| fault.to_string())?;
-    let said = fs::read_to_string(path.with_extension("txt")).map_err(|error| error.to_string())?;
-    let said = frames_said(&said);
-    let [first, _, third, frames @ ..] = &packets[..] else {
-        return Err(format!("{} packets only", packets.len()));
-    };
-    let fields = identification(first).map_err(|fault| format!("{fault:?}"))?;
-    let setup = setup(third).map_err(|fault| format!("{fault:?}"))?;
-    let decoder = Decoder::new(&fields, &setup);
-    let mut base = Player::new(&decoder, FourRule::LastIsD);
-    let mut libtheora = Player::new(&decoder, FourRule::LastCoded);
-    let mut counts = Counts::default();
-    let mut may_drift = false;
-    for (number, packet) in (3..).zip(frames) {
-        let said = said.get(&number).ok_or("libtheora has fewer frames")?;
-        if said.starts_with("refused") {
-            counts.refused += 1;
-            continue;
-        }
-        let fault = |text: String| format!("frame {number}: {text}");
-        damage.packet(&base, packet).map_err(fault)?;
-        let ours = libtheora.feed(packet).map_err(fault)?;
-        let bases = base.feed(packet).map_err(fault)?;
-        may_drift = bases.kind != Kind::Intra && (may_drift || ours.records != bases.records);
-        if libtheora.line(&ours) != *said {
-            return Err(fault(format!(
-                "{} is libtheora's {said}",
-                libtheora.line(&ours)
-            )));
-        }
-        if base.line(&bases) != *said {
-            counts.drifted += 1;
-            if !may_drift {
-                return Err(fault("the base's rule gives another frame".to_string()));
-            }
-        }
-        counts.count(&ours);
+/// What is said of a recording's frames in the texts beside it.
+struct Said {
+    /// By libtheora, of each packet.
+    libtheora: BTreeMap<usize, String>,
+    /// FFmpeg's hashes of the frames that are no repeats, if there are any.
+    ffmpeg: Option<IntoIter<String>>,
+}
+
+impl Said {
+    fn beside(path: &Path) -> Result<Said, String> {
+        let text = fs::read_to_string(path.with_extension("txt"));
+        let text = text.map_err(|error| error.to_string())?;
+        let frames = text.lines().filter_map(|line| line.strip_prefix("frame "));
+        let hashes = fs::read_to_string(path.with_extension("ffmpeg.txt")).ok();
+        Ok(Said {
+            libtheora: frames
+                .filter_map(|frame| frame.split_once(' '))
+                .filter_map(|(number, said)| Some((number.parse().ok()?, said.to_string())))
+                .collect(),
+            ffmpeg: hashes.map(|text| {
+                let hashes: Vec<String> = text.lines().map(String::from).collect();
+                hashes.into_iter()
+            }),
+        })
     }
-    Ok(counts)
+}
+
+/// A frame, decoded by all.
+struct Decoded {
+    packet: FramePacket,
+    /// With libtheora's rule, in libtheora's words.
+    libtheora: String,
+    /// By the library, in libtheora's words.
+    library: String,
+    /// Whether another vector can have reached it by the base's rule.
+    may_drift: bool,
 }
 
 impl Counts {
-    fn count(&mut self, packet: &FramePacket) {
-        match packet.kind {
+    /// Compares a frame with what libtheora and FFmpeg say of it.
+    fn compare(
+        &mut self,
+        frame: &Decoded,
+        said: &str,
+        ffmpeg: &mut Option<IntoIter<String>>,
+    ) -> Result<(), String> {
+        match frame.packet.kind {
             Kind::Intra => self.intra += 1,
             Kind::Inter => self.inter += 1,
             Kind::Repeat => self.repeats += 1,
         }
-        self.tokens += packet.tokens;
+        self.tokens += frame.packet.tokens;
+        if frame.libtheora != said {
+            return Err(format!("{} is libtheora's {said}", frame.libtheora));
+        }
+        match frame.library == said {
+            true => self.libtheoras += 1,
+            false => self.drifted += 1,
+        }
+        let mut same = frame.library == said;
+        if let (Some(hashes), true) = (ffmpeg, frame.packet.kind != Kind::Repeat) {
+            let hash = hashes.next().ok_or("FFmpeg has fewer frames")?;
+            let ffmpegs = frame.library.ends_with(&hash);
+            self.ffmpegs += u64::from(ffmpegs);
+            same &= ffmpegs;
+        }
+        match same || frame.may_drift {
+            true => Ok(()),
+            false => Err(format!("the library's {} is {said}", frame.library)),
+        }
     }
 }
 
-/// What libtheora says of each packet's frame.
-fn frames_said(text: &str) -> BTreeMap<usize, &str> {
-    let frames = text.lines().filter_map(|line| line.strip_prefix("frame "));
-    frames
-        .filter_map(|frame| frame.split_once(' '))
-        .filter_map(|(number, said)| Some((number.parse().ok()?, said)))
-        .collect()
+/// All who decode a recording.
+struct Players<'a> {
+    base: Player<'a>,
+    libtheora: Player<'a>,
+    library: State,
+    may_drift: bool,
 }
 
-/// Decodes packet after packet.
+impl<'a> Players<'a> {
+    fn new(
+        random: &mut Random,
+        decoder: &'a Decoder<'a>,
+        session: &[u64; SESSION_NUMBERS],
+    ) -> Players<'a> {
+        let length = decoder.layout.sizes.buffer as usize;
+        Players {
+            base: Player::new(decoder, FourRule::LastIsD),
+            libtheora: Player::new(decoder, FourRule::LastCoded),
+            library: State::fresh(random, session, length),
+            may_drift: false,
+        }
+    }
+
+    /// Decodes a packet. The library must make the base's frame.
+    fn feed(
+        &mut self,
+        random: &mut Random,
+        caller: &Caller,
+        packet: &[u8],
+    ) -> Result<Decoded, String> {
+        let libtheoras = self.libtheora.feed(packet)?;
+        let bases = self.base.feed(packet)?;
+        let other = libtheoras.records != bases.records;
+        self.may_drift = bases.kind != Kind::Intra && (self.may_drift || other);
+        let brought = Brought {
+            packet,
+            table: &caller.table,
+            new: &buffer(random, self.base.previous.len()),
+            answer: &answer(random),
+        };
+        let lists = self.library.lists(caller, &brought);
+        let expected = lists.accepted(&Accepted::of(&bases), self.base.previous.clone());
+        let left = library::hold(random, &lists, &expected)?;
+        let frame = Decoded {
+            libtheora: line(&Accepted::of(&libtheoras).list(), &self.libtheora.previous),
+            library: line(&left.answer, &left.new),
+            packet: bases,
+            may_drift: self.may_drift,
+        };
+        self.library.hand_on(left);
+        Ok(frame)
+    }
+}
+
+/// A frame in libtheora's words, given its answer.
+fn line(answer: &[u64], frame: &[u8]) -> String {
+    let kind = ["intra", "inter", "repeat"][answer[0] as usize];
+    let qis: Vec<String> = answer[2..][..answer[1] as usize]
+        .iter()
+        .map(u64::to_string)
+        .collect();
+    let qis = match qis.is_empty() {
+        true => "-".to_string(),
+        false => qis.join(","),
+    };
+    format!("{kind} {qis} {:016x}", hash(frame))
+}
+
+/// Decodes packet after packet by the independent implementation.
 struct Player<'a> {
     decoder: &'a Decoder<'a>,
     rule: FourRule,
@@ -212,20 +340,5 @@ impl<'a> Player<'a> {
             self.references = true;
         }
         Ok(read)
-    }
-
-    /// The last frame in libtheora's words.
-    fn line(&self, packet: &FramePacket) -> String {
-        let kind = match packet.kind {
-            Kind::Intra => "intra",
-            Kind::Inter => "inter",
-            Kind::Repeat => "repeat",
-        };
-        let qis: Vec<String> = packet.qis.iter().map(usize::to_string).collect();
-        let qis = match packet.kind {
-            Kind::Repeat => "-".to_string(),
-            _ => qis.join(","),
-        };
-        format!("{kind} {qis} {:016x}", hash(&self.previous))
     }
 }

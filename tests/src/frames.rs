@@ -4,8 +4,8 @@
 //! Each is given to the independent implementation, and what must hold of any
 //! decoder is tried on it: bytes behind the place reached change nothing, a
 //! packet that ends before it is refused by 4, a refusal by another number
-//! stands when bytes are appended, both ways make the same frame, a refused
-//! call writes nothing.
+//! stands when bytes are appended, both ways make the same frame. Then it is
+//! given to the library, which must answer and leave the same.
 
 use crate::frame_calls::Caller;
 use crate::generate::cases::Case;
@@ -35,8 +35,6 @@ pub struct Report {
     /// Blocks that are DC-only, and others.
     blocks: [u64; 2],
     tokens: u64,
-    /// Calls with a wrong session, length or table, by their answer.
-    wrong_calls: BTreeMap<u32, u64>,
 }
 
 /// What a packet is decoded with.
@@ -49,6 +47,14 @@ pub struct Frame<'a> {
     pub golden: &'a [u8],
     /// The previous frame.
     pub previous: &'a [u8],
+}
+
+/// What an accepted packet says, and its frame.
+pub struct Made {
+    /// What it says.
+    pub packet: FramePacket,
+    /// The frame.
+    pub new: Vec<u8>,
 }
 
 /// Tries so many random packets, and some of frames with very long runs.
@@ -70,7 +76,7 @@ impl Report {
     /// Tries so many packets of one session and setup.
     fn of_case(&mut self, random: &mut Random, case: &Case, packets: u64) -> Result<(), String> {
         let decoder = Decoder::new(&case.fields, &case.setup);
-        let caller = Caller::new(case);
+        let caller = Caller::new(&case.fields, &case.header)?;
         let mut new = vec![0; case.golden.len()];
         for _ in 0..packets {
             let references = !random.once_in(8);
@@ -81,12 +87,7 @@ impl Report {
                 golden: &case.golden,
                 previous: &case.previous,
             };
-            let read = self.of_packet(&frame, made.bytes())?;
-            caller.right(&frame, made.bytes(), read, &mut new)?;
-            if random.once_in(16) {
-                let number = caller.wrong(random, &frame, made.bytes(), &mut new)?;
-                *self.wrong_calls.entry(number).or_default() += 1;
-            }
+            self.of_packet(random, &frame, &caller, made.bytes(), &mut new)?;
         }
         Ok(())
     }
@@ -94,17 +95,19 @@ impl Report {
     /// Tries packets until some of them had a run of 4129.
     fn longest_runs(&mut self, random: &mut Random, case: &Case, kind: Kind) -> Result<(), String> {
         let decoder = Decoder::new(&case.fields, &case.setup);
+        let caller = Caller::new(&case.fields, &case.header)?;
         let frame = Frame {
             decoder: &decoder,
             references: true,
             golden: &case.golden,
             previous: &case.previous,
         };
+        let mut new = vec![0; case.golden.len()];
         let mut tried = 0;
         for _ in 0..100 {
             let Encoded { written, sent } = encoded(random, &decoder, kind);
             if sent.is_some_and(|sent| sent.longest_runs > 0) {
-                drop(self.of_packet(&frame, written.bytes())?);
+                self.of_packet(random, &frame, &caller, written.bytes(), &mut new)?;
                 tried += 1;
             }
             if tried == 3 {
@@ -119,31 +122,38 @@ impl Report {
         &mut self,
         random: &mut Random,
         frame: &Frame,
+        caller: &Caller,
         packet: &[u8],
         variants: u64,
     ) -> Result<(), String> {
+        let mut new = vec![random.byte(); frame.previous.len()];
         for _ in 0..variants {
-            drop(self.of_packet(frame, variant(random, packet).bytes())?);
+            let other = variant(random, packet);
+            self.of_packet(random, frame, caller, other.bytes(), &mut new)?;
         }
         Ok(())
     }
 
-    /// Tries one packet.
+    /// Tries one packet. `new` is as before the call, then as after it.
     fn of_packet(
         &mut self,
+        random: &mut Random,
         frame: &Frame,
+        caller: &Caller,
         packet: &[u8],
-    ) -> Result<Result<FramePacket, FrameFault>, String> {
+        new: &mut Vec<u8>,
+    ) -> Result<(), String> {
         let read = frame.read(packet);
         self.count(&read);
-        let held = match &read {
-            Ok(read) => frame.accepted(packet, read),
-            Err(fault) => frame.refused(packet, *fault),
+        let made = match read {
+            Ok(read) => frame.accepted(packet, read).map(Ok),
+            Err(fault) => frame.refused(packet, fault).then_some(Err(fault)),
         };
-        match held {
-            true => Ok(read),
-            false => Err(format!("packet {packet:02x?}\nread {read:?}")),
-        }
+        let made = made.ok_or_else(|| {
+            let read = frame.read(packet);
+            format!("packet {packet:02x?}\nread {read:?}")
+        })?;
+        caller.right(random, frame, packet, &made, new)
     }
 
     /// Counts what a packet says, or its fault.
@@ -185,25 +195,31 @@ impl Frame<'_> {
     }
 
     /// Makes the frame of a packet.
-    pub fn make(&self, way: Way, read: &FramePacket, new: &mut [u8]) {
+    fn make(&self, way: Way, read: &FramePacket, new: &mut [u8]) {
         self.decoder
             .make(way, read, self.golden, self.previous, new);
     }
 
-    /// What must hold of an accepted packet.
-    fn accepted(&self, packet: &[u8], read: &FramePacket) -> bool {
+    /// The frame of an accepted packet, if all holds that must hold of one.
+    fn accepted(&self, packet: &[u8], read: FramePacket) -> Option<Made> {
         let [mut first, mut second] = [0, 255].map(|byte| vec![byte; self.previous.len()]);
-        self.make(Way::First, read, &mut first);
-        self.make(Way::Second, read, &mut second);
-        if packet.is_empty() {
-            return first == second;
-        }
+        self.make(Way::First, &read, &mut first);
+        self.make(Way::Second, &read, &mut second);
+        let holds = first == second && (packet.is_empty() || self.ends_there(packet, &read));
+        holds.then_some(Made {
+            packet: read,
+            new: first,
+        })
+    }
+
+    /// Whether an accepted packet needs the bytes up to the place reached, and
+    /// no others.
+    fn ends_there(&self, packet: &[u8], read: &FramePacket) -> bool {
         let needed = read.bits.div_ceil(8) as usize;
         let longer = [packet, &[0x5A; 9]].concat();
         let cut = &packet[..(read.bits as usize - 1) / 8];
         let number = self.read(cut).map_err(|fault| fault.fault.number);
-        first == second
-            && read.tokens <= 64 * read.coded.len() as u64
+        read.tokens <= 64 * read.coded.len() as u64
             && self.read(&packet[..needed]).as_ref() == Ok(read)
             && self.read(&longer).as_ref() == Ok(read)
             && (cut.is_empty() || number == Err(4))
@@ -276,10 +292,6 @@ impl fmt::Display for Report {
         for ((field, number), count) in &self.faults {
             writeln!(f, "    {:20} {number}: {count}", format!("{field:?}"))?;
         }
-        writeln!(
-            f,
-            "  calls with a wrong session, length or table: {:?}",
-            self.wrong_calls
-        )
+        Ok(())
     }
 }

@@ -4,6 +4,7 @@
 //! shows it, and with status 2 if it is used wrongly.
 
 mod bit_writer;
+mod call_lists;
 mod check;
 mod damage;
 mod decoded;
@@ -11,6 +12,7 @@ mod fields;
 mod frame_calls;
 mod frames;
 mod generate;
+mod library;
 mod orders;
 mod packets;
 mod random;
@@ -22,6 +24,7 @@ mod streams;
 mod tables;
 mod wild;
 mod written;
+mod wrong_calls;
 
 use check::Difference;
 use random::Random;
@@ -30,7 +33,8 @@ use std::time::Instant;
 
 const USAGE: &str = "\
 usage: compare [--packets N] [--sessions N] [--orders MAX] [--setups N]
-               [--tables N] [--matrices N] [--frames N] [--seed S]
+               [--tables N] [--matrices N] [--frames N] [--calls N]
+               [--lists N] [--seed S]
                [--stream FILE.. | --decode FILE.. | --wild FILE..]
 
   --packets N   identification headers: valid, faulty, damaged, cut, extended (1000000)
@@ -39,21 +43,26 @@ usage: compare [--packets N] [--sessions N] [--orders MAX] [--setups N]
   --setups N    setup headers: valid, damaged, cut, extended (20000)
   --tables N    table memories: genuine, changed, random (12000)
   --matrices N  table memories of which every limit and matrix is compared (10)
-  --frames N    frame packets of small frames, by the independent implementation
-                alone: valid, damaged, cut, extended (20000)
+  --frames N    frame packets of small frames: valid, damaged, cut, extended (20000)
+  --calls N     frame calls with any session, table memory and lengths (20000)
+  --lists N     lists of frame calls, each of which gets what the one before
+                handed on (500)
   --seed S      where the random numbers start (1)
   --stream FILE..
                 nothing but recordings: their headers, and what the texts beside
                 them (tests/streams/README.md) say; comes last
   --decode FILE..
                 nothing but recordings, decoded by the independent implementation
-                alone: every frame must be libtheora's; damaged packets; comes last
+                and the library: every frame must be libtheora's; damaged packets;
+                lists of calls; comes last
   --wild FILE.. compares nothing: writes packet files of random frames, for
                 libtheora to decode; comes last
 ";
 
-/// With fewer packets it is no fault if some refusal was not met.
+/// With fewer packets or calls, or fewer lists of calls, it is no fault if some
+/// refusal was not met.
 const ENOUGH_PACKETS: u64 = 20_000;
+const ENOUGH_LISTS: u64 = 500;
 
 /// How much is compared.
 struct Options {
@@ -64,6 +73,8 @@ struct Options {
     tables: u64,
     matrices: u64,
     frames: u64,
+    calls: u64,
+    lists: u64,
     seed: u64,
     /// What is done in place of all else.
     instead: Option<Instead>,
@@ -90,6 +101,8 @@ impl Default for Options {
             tables: 12_000,
             matrices: 10,
             frames: 20_000,
+            calls: 20_000,
+            lists: 500,
             seed: 1,
             instead: None,
         }
@@ -147,6 +160,8 @@ fn options(words: &[String]) -> Result<Options, String> {
             "--tables" => options.tables = value,
             "--matrices" => options.matrices = value,
             "--frames" => options.frames = value,
+            "--calls" => options.calls = value,
+            "--lists" => options.lists = value,
             "--seed" => options.seed = value,
             _ => return Err(format!("{name}: no such option")),
         }
@@ -180,10 +195,10 @@ fn text(difference: Difference) -> String {
     difference.to_string()
 }
 
-/// Fails if something was not tried by so many packets.
-fn all_tried(missed: &[String], packets: u64) -> Result<(), String> {
-    if packets >= ENOUGH_PACKETS && !missed.is_empty() {
-        return Err(format!("the packets do not try all: {}", missed.join(", ")));
+/// Fails if something was not tried, though there were enough packets or calls.
+fn all_tried(missed: &[String], enough: bool) -> Result<(), String> {
+    if enough && !missed.is_empty() {
+        return Err(format!("not all was tried: {}", missed.join(", ")));
     }
     Ok(())
 }
@@ -194,7 +209,7 @@ fn compare_packets(random: &mut Random, options: &Options) -> Result<(), String>
     let report = packets::compare(random, options.packets).map_err(text)?;
     heading("packets", start);
     println!("{report}");
-    all_tried(&report.missed(), options.packets)
+    all_tried(&report.missed(), options.packets >= ENOUGH_PACKETS)
 }
 
 /// Sessions and block orders.
@@ -224,7 +239,7 @@ fn compare_setups(random: &mut Random, options: &Options) -> Result<(), String> 
     let report = setups::compare(random, options.setups).map_err(text)?;
     heading("setup packets", start);
     println!("{report}");
-    all_tried(&report.missed(), options.setups)?;
+    all_tried(&report.missed(), options.setups >= ENOUGH_PACKETS)?;
 
     let start = Instant::now();
     let tally = tables::compare(random, options.tables, options.matrices).map_err(text)?;
@@ -233,13 +248,25 @@ fn compare_setups(random: &mut Random, options: &Options) -> Result<(), String> 
     Ok(())
 }
 
-/// Frame packets.
+/// Frame packets and frame calls.
 fn compare_frames(random: &mut Random, options: &Options) -> Result<(), String> {
     let start = Instant::now();
     let report = frames::compare(random, options.frames)?;
     heading("frame packets", start);
     println!("{report}");
-    all_tried(&report.missed(), options.frames)
+    all_tried(&report.missed(), options.frames >= ENOUGH_PACKETS)?;
+
+    let start = Instant::now();
+    let report = wrong_calls::compare(random, options.calls)?;
+    heading("frame calls with wrong or arbitrary lists", start);
+    println!("{report}");
+    all_tried(&report.missed(), options.calls >= ENOUGH_PACKETS)?;
+
+    let start = Instant::now();
+    let report = call_lists::compare(random, options.lists)?;
+    heading("lists of frame calls", start);
+    println!("{report}");
+    all_tried(&report.missed(), options.lists >= ENOUGH_LISTS)
 }
 
 #[cfg(test)]
@@ -280,6 +307,8 @@ mod tests {
             tables: 800,
             matrices: 1,
             frames: 500,
+            calls: 500,
+            lists: 20,
             seed: 11,
             ..Options::default()
         };

@@ -4,7 +4,7 @@
 use crate::check::{Difference, Tally};
 use crate::fields;
 use crate::random::Random;
-use crate::reference::face::{Call, answer};
+use crate::reference::face::{Call, KINDS, answer};
 use crate::reference::members::Block;
 use crate::reference::order::Place;
 use crate::reference::session::{Fields, SESSION_NUMBERS, WIDTHS};
@@ -17,7 +17,7 @@ pub fn compare(random: &mut Random, sessions: u64) -> Result<Tally, Difference> 
         let list = session(random);
         let fields = Fields::of_session(&list);
         let frame = fields.sound().then(|| sizes(&fields));
-        for kind in 1..8 {
+        for kind in 1..KINDS.len() {
             let call = call(random, kind, &fields, frame.as_ref());
             let (lent, output_length) = lengths(random, &list, call.output_length());
             let expected = answer(call, &lent, output_length);
@@ -27,8 +27,8 @@ pub fn compare(random: &mut Random, sessions: u64) -> Result<Tally, Difference> 
     Ok(tally)
 }
 
-/// A session's list.
-fn session(random: &mut Random) -> [u64; SESSION_NUMBERS] {
+/// A session's list: sound, changed, or arbitrary.
+pub fn session(random: &mut Random) -> [u64; SESSION_NUMBERS] {
     let references = match random.below(3) {
         0 => 0,
         1 => 1,
@@ -55,7 +55,7 @@ fn session(random: &mut Random) -> [u64; SESSION_NUMBERS] {
 
 /// Changes one field to a number near one of its limits, or to one that is
 /// equal to the old in its low bits.
-fn change(random: &mut Random, list: &mut [u64; SESSION_NUMBERS]) {
+pub fn change(random: &mut Random, list: &mut [u64; SESSION_NUMBERS]) {
     let index = random.index(16);
     let old = list[index];
     let end = 1 << WIDTHS[index];
@@ -112,11 +112,12 @@ fn call(random: &mut Random, kind: usize, fields: &Fields, frame: Option<&Sizes>
         6 => Call::MacroBlockOf {
             block: block(random, frame),
         },
-        _ => Call::SampleOffset {
+        7 => Call::SampleOffset {
             block: block(random, frame),
             column: sample(random),
             row: sample(random),
         },
+        _ => Call::WorkLengths,
     }
 }
 

@@ -20,10 +20,11 @@ pub fn compare(random: &mut Random, tables: u64, samples: u64) -> Result<Tally, 
         let small = random.once_in(4);
         let packet = accepted(random, small);
         let bits = packet.length() as usize;
-        let mut table = left_by(packet.bytes(), &setup(packet.bytes()));
+        let table = left_by(packet.bytes(), &setup(packet.bytes()));
         compare_one(random, &mut tally, &table)?;
         for _ in 1..TABLES_OF_A_HEADER {
-            changed(random, &mut tally, &mut table, bits)?;
+            let other = changed(random, &table, bits);
+            compare_one(random, &mut tally, &other)?;
         }
         if number < samples {
             whole(&mut tally, &table)?;
@@ -47,41 +48,27 @@ pub fn whole(tally: &mut Tally, bytes: &[u8]) -> Result<(), Difference> {
     Ok(())
 }
 
-/// Compares a changed table memory; a genuine one is restored afterwards.
-fn changed(
-    random: &mut Random,
-    tally: &mut Tally,
-    table: &mut [u8],
-    bits: usize,
-) -> Result<(), Difference> {
+/// Another table memory than a genuine one, of which so many bits were read:
+/// with a bit or a byte changed, of another length, or made anew.
+pub fn changed(random: &mut Random, table: &[u8], bits: usize) -> Vec<u8> {
+    let mut other = table.to_vec();
     match random.below(16) {
         0..12 => {
             let bit = bit(random, bits);
-            let old = table[bit / 8];
-            table[bit / 8] = if random.once_in(4) {
+            other[bit / 8] = if random.once_in(4) {
                 random.byte()
             } else {
-                old ^ 0x80 >> (bit % 8)
+                other[bit / 8] ^ 0x80 >> (bit % 8)
             };
-            compare_one(random, tally, table)?;
-            table[bit / 8] = old;
-            Ok(())
         }
-        12 => {
-            let other = refused_header(random);
-            compare_one(random, tally, &other)
-        }
+        12 => other = refused_header(random),
         13 => {
             let length = random.pick(&[0, 1, TABLE_BYTES - 1, TABLE_BYTES + 1, 2 * TABLE_BYTES]);
-            let mut other = table.to_vec();
             other.resize(length, 0);
-            compare_one(random, tally, &other)
         }
-        _ => {
-            let other = arbitrary(random, table);
-            compare_one(random, tally, &other)
-        }
+        _ => other = arbitrary(random, table),
     }
+    other
 }
 
 /// A bit of table memory: one that was read, one just behind, or any.
@@ -95,7 +82,7 @@ fn bit(random: &mut Random, bits: usize) -> usize {
 }
 
 /// The bits of a header that is refused.
-fn refused_header(random: &mut Random) -> Vec<u8> {
+pub fn refused_header(random: &mut Random) -> Vec<u8> {
     let mut table = with_bad_tree(random).bytes().to_vec();
     table.resize(TABLE_BYTES, 0);
     table

@@ -6,7 +6,6 @@ use crate::random::Random;
 use crate::reference::session::Fields;
 use crate::reference::setup::{Setup, setup};
 use crate::reference::sizes::sizes;
-use crate::reference::table_memory::left_by;
 use crate::setup_header::{Trees, accepted_with};
 
 /// A case.
@@ -50,11 +49,6 @@ impl Case {
             golden: buffer(random, length),
             previous: buffer(random, length),
         }
-    }
-
-    /// The table memory that the setup packet leaves.
-    pub fn table(&self) -> Vec<u8> {
-        left_by(&self.header, &Ok(self.setup.clone()))
     }
 }
 

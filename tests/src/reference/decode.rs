@@ -11,6 +11,7 @@ use super::session::Fields;
 use super::setup::Setup;
 use super::sizes::{Sizes, sizes};
 use super::table_face::Table;
+use super::work_memory::{self, SLICES};
 
 /// "The session record holds the identification fields and whether references exist"
 #[derive(Clone, Debug, PartialEq, Eq)]
@@ -52,16 +53,13 @@ pub struct Outcome {
     pub work: Work,
 }
 
-/// The lengths of the slices of work memory, as multiples of NBS, NMBS and NSBS.
-pub type WorkFormula = [(u64, u64, u64)];
-
 /// What a caller lends to a frame call, but new.
 #[derive(Clone, Copy)]
 pub struct Lent<'a> {
     /// Table memory, looked at once.
     pub table: &'a Table,
     /// The lengths of work memory's slices.
-    pub work: &'a [u64],
+    pub work: [u64; SLICES],
     /// The golden frame.
     pub golden: &'a [u8],
     /// The previous frame.
@@ -69,13 +67,12 @@ pub struct Lent<'a> {
 }
 
 /// The frame call: "identification part of 8, then 1, the rest of 8, then the
-/// packet". Writes new if the packet is accepted.
+/// packet". Writes new, made in one of the two ways, if the packet is accepted.
 pub fn frame_call(
     session: &Session,
     packet: &[u8],
     lent: Lent,
-    formula: &WorkFormula,
-    rule: FourRule,
+    way: Way,
     new: &mut [u8],
 ) -> Outcome {
     let outcome = |answer, work| Outcome {
@@ -87,39 +84,36 @@ pub fn frame_call(
     if !session.fields.sound() {
         return outcome(refused(8), Work::Untouched);
     }
-    if !lengths_are_right(&sizes(&session.fields), lent, formula, new.len()) {
+    if !lengths_are_right(&sizes(&session.fields), lent, new.len()) {
         return outcome(refused(1), Work::Untouched);
     }
     let Table::Genuine(setup) = lent.table else {
         return outcome(refused(8), Work::Zero);
     };
     let decoder = Decoder::new(&session.fields, setup);
-    let read = match decoder.read(session.references, rule, packet) {
+    let read = match decoder.read(session.references, FourRule::LastIsD, packet) {
         Ok(read) => read,
         Err(fault) => return outcome(Err(fault.fault), Work::Zero),
     };
-    decoder.make(Way::Second, &read, lent.golden, lent.previous, new);
+    decoder.make(way, &read, lent.golden, lent.previous, new);
     Outcome {
         session: session.after(read.kind),
-        ..outcome(Ok(Accepted::of(read)), Work::Zero)
+        ..outcome(Ok(Accepted::of(&read)), Work::Zero)
     }
 }
 
 /// Whether every lent length is the published one.
-fn lengths_are_right(sizes: &Sizes, lent: Lent, formula: &WorkFormula, new: usize) -> bool {
-    let published = formula.iter().map(|(blocks, macro_blocks, super_blocks)| {
-        blocks * sizes.nbs + macro_blocks * sizes.nmbs + super_blocks * sizes.nsbs
-    });
+fn lengths_are_right(sizes: &Sizes, lent: Lent, new: usize) -> bool {
     let planes = [lent.golden.len(), lent.previous.len(), new];
     !matches!(lent.table, Table::OtherLength)
-        && published.eq(lent.work.iter().copied())
+        && lent.work == work_memory::lengths(sizes)
         && planes.iter().all(|length| *length as u64 == sizes.buffer)
 }
 
 impl Session {
     /// "Accepted inter and empty packets leave the session as it was; an intra
     /// one sets its reference flag."
-    fn after(&self, kind: Kind) -> Session {
+    pub fn after(&self, kind: Kind) -> Session {
         Session {
             fields: self.fields.clone(),
             references: self.references || kind == Kind::Intra,
@@ -129,10 +123,10 @@ impl Session {
 
 impl Accepted {
     /// The answer to a packet that was read.
-    fn of(read: FramePacket) -> Accepted {
+    pub fn of(read: &FramePacket) -> Accepted {
         Accepted {
             kind: read.kind,
-            qis: read.qis,
+            qis: read.qis.clone(),
             tokens: read.tokens,
         }
     }
@@ -196,9 +190,6 @@ mod tests {
     use crate::bit_writer::BitWriter;
     use crate::reference::setup::setup;
 
-    /// A slice for each block, one for each macro block, two for each super block.
-    const FORMULA: [(u64, u64, u64); 3] = [(1, 0, 0), (0, 1, 0), (0, 0, 2)];
-
     /// One macro block in 4:2:0.
     fn session(references: bool) -> Session {
         let fields = Fields {
@@ -230,7 +221,7 @@ mod tests {
     struct Given {
         session: Session,
         table: Table,
-        work: Vec<u64>,
+        work: [u64; SLICES],
         lengths: [usize; 3],
     }
 
@@ -238,7 +229,7 @@ mod tests {
         Given {
             session: session(references),
             table: genuine(),
-            work: vec![6, 1, 6],
+            work: [6, 6, 384, 6, 6, 6, 6, 6, 1, 6],
             lengths: [384; 3],
         }
     }
@@ -250,12 +241,14 @@ mod tests {
         let mut new = vec![7; given.lengths[2]];
         let lent = Lent {
             table: &given.table,
-            work: &given.work,
+            work: given.work,
             golden: &golden,
             previous: &previous,
         };
-        let rule = FourRule::LastIsD;
-        let outcome = frame_call(&given.session, packet, lent, &FORMULA, rule, &mut new);
+        let mut other = new.clone();
+        let outcome = frame_call(&given.session, packet, lent, Way::First, &mut new);
+        let second = frame_call(&given.session, packet, lent, Way::Second, &mut other);
+        assert_eq!((&second, &other), (&outcome, &new));
         (outcome, new)
     }
 
@@ -329,6 +322,8 @@ mod tests {
             short.table = zeros();
             short.lengths[index] -= 1;
             assert_refused(&short, &bad_packet, 1, 0, Work::Untouched);
+        }
+        for index in 0..SLICES {
             let mut long = given(true);
             long.table = zeros();
             long.work[index] += 1;

@@ -9,6 +9,7 @@ use super::order::{Grid, Place};
 use super::samples::sample_offset;
 use super::session::{Fields, SESSION_NUMBERS};
 use super::sizes::{Plane, Sizes, sizes};
+use super::work_memory;
 
 /// A call without its lists of numbers.
 #[derive(Clone, Copy, Debug)]
@@ -54,10 +55,12 @@ pub enum Call<'a> {
         /// From the bottom, 0 to 7.
         row: u64,
     },
+    /// `wedgepetal_work_lengths`
+    WorkLengths,
 }
 
 /// The calls' names, in the order of `Call::kind`.
-pub const KINDS: [&str; 8] = [
+pub const KINDS: [&str; 9] = [
     "identification",
     "sizes",
     "block_at",
@@ -66,6 +69,7 @@ pub const KINDS: [&str; 8] = [
     "macro_block_number",
     "macro_block_of",
     "sample_offset",
+    "work_lengths",
 ];
 
 impl Call<'_> {
@@ -80,6 +84,7 @@ impl Call<'_> {
             Call::MacroBlockNumber { .. } => 5,
             Call::MacroBlockOf { .. } => 6,
             Call::SampleOffset { .. } => 7,
+            Call::WorkLengths => 8,
         }
     }
 
@@ -93,6 +98,7 @@ impl Call<'_> {
             Call::BlockNumber { .. }
             | Call::MacroBlockNumber { .. }
             | Call::SampleOffset { .. } => 1,
+            Call::WorkLengths => work_memory::SLICES + 1,
         }
     }
 }
@@ -171,6 +177,11 @@ fn answer_for(call: Call, fields: &Fields) -> Option<Answer> {
                 return None;
             }
             Answer::accepted(&[sample_offset(&frame, block, column, row)])
+        }
+        Call::WorkLengths => {
+            let mut list = work_memory::lengths(&frame).to_vec();
+            list.push(work_memory::bytes(&frame));
+            Answer::Accepted(list)
         }
     };
     Some(answer)

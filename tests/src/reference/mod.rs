@@ -11,6 +11,7 @@ pub mod bits;
 pub mod decode;
 pub mod face;
 pub mod frame;
+pub mod frame_face;
 pub mod identification;
 pub mod layout;
 pub mod matrices;
@@ -25,6 +26,7 @@ pub mod sizes;
 pub mod table_face;
 pub mod table_memory;
 pub mod trees;
+pub mod work_memory;
 
 #[cfg(test)]
 mod table;
