@@ -2,6 +2,10 @@
  * What libtheora makes of a recording, as text (see README.md):
  *
  *   decode RECORDING.ogv
+ *
+ * or its packets in hex, one in a line, for tests/streams/store:
+ *
+ *   decode --packets RECORDING.ogv
  */
 #include "hash.h"
 
@@ -9,6 +13,7 @@
 #include <ogg/ogg.h>
 #include <stdio.h>
 #include <stdlib.h>
+#include <string.h>
 #include <theora/theoradec.h>
 
 static ogg_sync_state sync_state;
@@ -19,6 +24,7 @@ static th_comment comment;
 static th_setup_info *setup = NULL;
 static th_dec_ctx *decoder = NULL;
 static long packets = 0;
+static int only_packets = 0;
 
 static void fail(const char *what)
 {
@@ -83,8 +89,16 @@ static void print_frame(ogg_packet *packet)
     printf(" %016" PRIx64 "\n", hash_frame(planes));
 }
 
+static void print_packet(const ogg_packet *packet)
+{
+    for (long i = 0; i < packet->bytes; i++) {
+        printf("%02x", packet->packet[i]);
+    }
+    printf("\n");
+}
+
 /* A packet of the Theora stream. */
-static void take_packet(ogg_packet *packet)
+static void decode_packet(ogg_packet *packet)
 {
     printf("packet %ld %ld %016" PRIx64 "\n", packets, packet->bytes,
            hash_bytes(HASH_START, packet->packet, (size_t)packet->bytes));
@@ -102,7 +116,6 @@ static void take_packet(ogg_packet *packet)
     } else {
         print_frame(packet);
     }
-    packets++;
 }
 
 /* Whether a stream's first page holds an identification header. */
@@ -124,7 +137,12 @@ static void take_page(ogg_page *page)
         return;
     }
     while (ogg_stream_packetout(&stream, &packet) == 1) {
-        take_packet(&packet);
+        if (only_packets) {
+            print_packet(&packet);
+        } else {
+            decode_packet(&packet);
+        }
+        packets++;
     }
 }
 
@@ -133,12 +151,13 @@ int main(int count, char **words)
     FILE *in;
     ogg_page page;
     size_t got;
-    if (count != 2) {
-        fail("usage: decode RECORDING.ogv");
+    only_packets = count == 3 && strcmp(words[1], "--packets") == 0;
+    if (count != 2 + only_packets) {
+        fail("usage: decode [--packets] RECORDING.ogv");
     }
-    in = fopen(words[1], "rb");
+    in = fopen(words[count - 1], "rb");
     if (in == NULL) {
-        fail(words[1]);
+        fail(words[count - 1]);
     }
     ogg_sync_init(&sync_state);
     th_info_init(&info);
