@@ -1,22 +1,22 @@
 -- What each function has to show, over plain lists and outcomes. Assumes nothing.
-use Prim.Native.Nat.{ℕ, zero, suc, _+_, _-_, _*_, _≤_, _^_}
+use Prim.Native.Nat.{ℕ, zero, _-_, _*_, _≤_, _^_}
 use native.Mathlib.Omega.{arith}
 use mathlib.Core.Path.{_≡_, refl, sym, ap, _∙_, subst}
 use mathlib.Core.List.{List, [], _∷_, _++_, map}
-use mathlib.Core.Bool.{Bool, true, false}
+use mathlib.Core.Bool.{false}
 use mathlib.Core.Logic.{⊎-elim}
 use lib.IntN.{ℤ, pos}
 use lib.ListN.{length, take, drop, replicate, length-append, length-replicate, take-append-drop}
 use lib.Seq.{take-at, length-take-le}
 use denote.Enum.Declared.{tagOf}
 use types.Run.{OneOf}
-use Rattle.bitstream.specs.Reading.{Outcome, got, refused, after, bind, pure}
+use Rattle.bitstream.specs.Reading.{Outcome, got, refused, after, bind}
 use Rattle.bitstream.proofs.Laws.{bind-step}
 use Rattle.huffman.specs.Tree.{Tree}
 use Rattle.buffer.proofs.Laws.{cleared, cleared-all, cleared-front, take-cleared, drop-cleared}
 use Rattle.geometry.specs.declared.PixelFormat.{PixelFormat}
 use Rattle.geometry.specs.declared.PixelFormat.the-variants.{Chroma420, Chroma422, Chroma444}
-use Rattle.geometry.specs.Sizes.{blocksOf, macroBlocksOf, blocksEach}
+use Rattle.geometry.specs.Sizes.{blocksOf, superBlocksOf, macroBlocksOf}
 use Rattle.geometry.proofs.SizeLaws.{blocks-each, sizes-small}
 use Rattle.runs.specs.declared.Done.{Done}
 use Rattle.runs.specs.declared.Done.the-variants as done
@@ -25,7 +25,7 @@ use Rattle.runs.specs.Lists.{AllBelow, Once}
 use Rattle.block_record.specs.declared.BlockRecord.{BlockRecord}
 use Rattle.block_record.specs.Packed.{packed}
 use Rattle.block_record.specs.Memory.{AllPacked, recordsOf}
-use Rattle.block_record.proofs.MemoryLaws.{AllInRange, all-packed, records-packed, records-in-range}
+use Rattle.block_record.proofs.MemoryLaws.{AllInRange, all-packed, records-packed}
 use Rattle.frame_header.specs.declared.Kind.{Kind}
 use Rattle.frame_header.specs.declared.Kind.the-variants.{Intra, Inter, Repeat}
 use Rattle.frame_header.proofs.Kind as kind
@@ -33,7 +33,7 @@ use Rattle.coded_flags.specs.declared.Listed.{Listed}
 use Rattle.coded_flags.specs.Flags.{interFlags, intraFlags}
 use Rattle.coded_flags.specs.Coded.{codedBlocks, codedLuma, codedRecords}
 use Rattle.coded_flags.specs.Answer.{listedOf}
-use Rattle.coded_flags.proofs.CodedLaws.{coded-once, coded-below, coded-in-range}
+use Rattle.coded_flags.proofs.CodedLaws.{coded-once, coded-below, luma-most, coded-in-range}
 use Rattle.modes.specs.Modes.{macroModes}
 use Rattle.vectors.specs.Vectors.{vectors}
 use Rattle.block_qi.specs.BlockQi.{blockQi}
@@ -43,11 +43,38 @@ use Rattle.tokens.specs.declared.Counted.the-variants as counted
 use Rattle.tokens.specs.Answer as tokens
 use Rattle.frame_packet.specs.declared.CodedRead.{CodedRead}
 use Rattle.frame_packet.specs.declared.CodedRead.the-variants as answer
-use Rattle.frame_packet.specs.declared.Read.{Read}
 use Rattle.frame_packet.specs.declared.Read.the-variants as read
 use Rattle.frame_packet.specs.Frame.{Body, isIntra, flagsOf, predictions, body}
-use Rattle.frame_packet.specs.Work.{Work, work, padded, LeftBy, Left, asCoded, StoredCoded, StoredTokens, asRead}
-use Rattle.frame_packet.proofs.Temp.{made, predictions-keep, luma-most}
+use Rattle.frame_packet.specs.Work.{Work, work, padded, clear, LeftBy, Left, asCoded, StoredCoded, StoredTokens, asRead}
+use Rattle.frame_packet.proofs.Laws.{made}
+use Rattle.frame_packet.proofs.Fits.{predictions-keep}
+
+-- ---- the published lengths
+pub record Sized (f : PixelFormat) (w h : ℕ) (m : Work) : Type 0 where
+  pub records : length (m .records) ≡ blocksOf f w h
+  pub coded : length (m .coded) ≡ blocksOf f w h
+  pub coefs : length (m .coefs) ≡ 64 * blocksOf f w h
+  pub lasts : length (m .lasts) ≡ blocksOf f w h
+  pub flags : length (m .flags) ≡ blocksOf f w h
+  pub bits : length (m .bits) ≡ blocksOf f w h
+  pub supers : length (m .supers) ≡ 2 * superBlocksOf f w h
+  pub modes : length (m .modes) ≡ macroBlocksOf w h
+  pub active : length (m .active) ≡ blocksOf f w h
+
+pub sized : (f : PixelFormat) (w h : ℕ) (m : Work) → m ≡ clear f w h → Sized f w h m
+sized f w h m e =
+    let n = length-replicate {A = ℕ} (blocksOf f w h) 0 in
+    rw e (record {
+      records = n;
+      coded = n;
+      coefs = length-replicate (64 * blocksOf f w h) (pos 0);
+      lasts = n;
+      flags = n;
+      bits = n;
+      supers = length-replicate (2 * superBlocksOf f w h) 0;
+      modes = length-replicate (macroBlocksOf w h) 0;
+      active = n;
+    })
 
 -- ---- kinds
 -- the second and the third variant are not the first

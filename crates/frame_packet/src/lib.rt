@@ -250,7 +250,7 @@ fn read_body(
 }
 
 // The slices that hold what was read.
-fn clear_read(records: &mut [u32], coded: &mut [u64], coefs: &mut [i16], lasts: &mut [u8])
+pub fn clear_read(records: &mut [u32], coded: &mut [u64], coefs: &mut [i16], lasts: &mut [u8])
     ensures { λ _. ⌜ (now (records .exit) ≡ replicate (length (now (records .entry))) 0) × (now (coded .exit) ≡ replicate (length (now (coded .entry))) 0) × (now (coefs .exit) ≡ replicate (length (now (coefs .entry))) (pos 0)) × (now (lasts .exit) ≡ replicate (length (now (lasts .entry))) 0) ⌝ }
 {
     let blocks = records.len();
@@ -264,7 +264,7 @@ fn clear_read(records: &mut [u32], coded: &mut [u64], coefs: &mut [i16], lasts: 
 }
 
 // The other slices. Behind the first `count` of `bits` and of `active` there is nothing to clear.
-fn clear_scratch(
+pub fn clear_scratch(
     count: usize,
     flags: &mut [u8],
     bits: &mut [u8],
@@ -313,4 +313,75 @@ fn read_empty(references: bool, format: PixelFormat, w: u64, h: u64) -> FrameRea
         };
     }
     refusal(9, 0)
+}
+
+// A frame packet, read to its end.
+pub fn read_frame(
+    packet: &[u8],
+    references: bool,
+    nodes: &[u8],
+    format: PixelFormat,
+    w: u64,
+    h: u64,
+    records: &mut [u32],
+    coded: &mut [u64],
+    coefs: &mut [i16],
+    lasts: &mut [u8],
+    flags: &mut [u8],
+    bits: &mut [u8],
+    supers: &mut [u8],
+    modes: &mut [u8],
+    active: &mut [u64],
+) -> FrameRead
+    requires { ⌜ (length (now packet) ≤ 2 ^ 58) × (w ≤ 65535) × (h ≤ 65535) × Tables (now nodes) × (work (now records) (now coded) (now coefs) (now lasts) (now flags) (now bits) (now supers) (now modes) (now active) ≡ clear format w h) ⌝ }
+    ensures { λ r. ⌜ r ≡ asFrame (framePacket format w h (treesOf (now (nodes .entry))) references (now (packet .entry))) ⌝ }
+    ensures { λ r. ⌜ work (now (records .exit)) (now (coded .exit)) (now (coefs .exit)) (now (lasts .exit)) (now (flags .exit)) (now (bits .exit)) (now (supers .exit)) (now (modes .exit)) (now (active .exit)) ≡ workAfter format w h (framePacket format w h (treesOf (now (nodes .entry))) references (now (packet .entry))) ⌝ }
+{
+    if packet.len() == 0 {
+        return read_empty(references, format, w, h);
+    }
+    let head = frame_header::read_header(packet, references);
+    let done = head.done;
+    match done {
+        Done::Refused(k, e) => refusal(k, e),
+        Done::At(at) => {
+            let header = head.header;
+            let kind = header.kind;
+            let qis = header.count;
+            let read = read_body(
+                packet,
+                at,
+                kind,
+                qis as u32,
+                nodes,
+                format,
+                w,
+                h,
+                records,
+                coded,
+                coefs,
+                lasts,
+                flags,
+                bits,
+                supers,
+                modes,
+                active,
+            );
+            match read {
+                Read::Refused(k, e) => {
+                    clear_read(records, coded, coefs, lasts);
+                    let all = bits.len();
+                    clear_scratch(all, flags, bits, supers, modes, active);
+                    refusal(k, e)
+                }
+                Read::Whole(count, _, _) => {
+                    clear_scratch(count, flags, bits, supers, modes, active);
+                    FrameRead {
+                        read: read,
+                        header: header,
+                    }
+                }
+            }
+        }
+    }
 }

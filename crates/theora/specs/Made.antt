@@ -8,6 +8,8 @@ use Rattle.geometry.specs.declared.PixelFormat.{PixelFormat}
 use Rattle.quantization.specs.Parameters.{Quantization}
 use Rattle.quantization.specs.Sound.{Holds}
 use Rattle.matrices.specs.Matrix.{matrixOf}
+use Rattle.setup.specs.Header.{Setup}
+use Rattle.tables.specs.Tables.{HoldsTrees}
 use Rattle.block_record.specs.Record.{uncoded}
 use Rattle.block_record.specs.Packed.{unpacked}
 use Rattle.ways.specs.Loops.{_∈_}
@@ -22,6 +24,17 @@ AllQi qis count = (index : ℕ) → index < count → getD qis index 0 < 64
 -- "3-bit width, 64 loop limits of that width"
 abbrev pub AllLimits : List ℕ → Type 0
 AllLimits limits = (length limits ≡ 64) × ((qi : ℕ) → qi < 64 → getD limits qi 0 ≤ 127)
+
+-- a setup that was read from p lies in slices
+pub record HoldsSetup (setup : Setup) (p : List ℕ) (place : ℕ) (limits ac dc sizes indices nodes : List ℕ) : Type 0 where
+  pub parameters : Holds (setup .parameters) p place ac dc sizes indices
+  pub limits-are : limits ≡ setup .limits
+  pub limits-few : AllLimits limits
+  pub trees : HoldsTrees (setup .trees) nodes
+
+-- the slices hold some setup that was read
+abbrev pub SetupHeld : (p : List ℕ) (place : ℕ) (limits ac dc sizes indices nodes : List ℕ) → Type 0
+SetupHeld p place limits ac dc sizes indices nodes = (setup : Setup) × HoldsSetup setup p place limits ac dc sizes indices nodes
 
 -- what was read of the blocks of a frame with so many qi lies in slices, zeros behind it
 pub record BlocksLent (f : PixelFormat) (w h : ℕ) (records coded : List ℕ) (count : ℕ) (coefs : List ℤ) (lasts : List ℕ) (qis : ℕ) : Type 0 where

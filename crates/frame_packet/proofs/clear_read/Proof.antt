@@ -1,14 +1,9 @@
+-- `frame_packet::clear_read` meets its contract. Assumes nothing.
 use lib.IntN.{pos}
 use Rattle.frame_packet.proofs.Steps.{clear-whole}
 use borrow.Author.Needs.{needs}
 use Rattle.frame_packet.proofs.clear_read.Statement.{statement}
 use Rattle.frame_packet.proofs.clear_read.Tie as tie
-use Rattle.frame_packet.proofs.clear_read.Reads as reads
-use Rattle.frame_packet.proofs.clear_read.Lts as lts
-use Rattle.buffer.proofs.clear_bytes.Reads as clear-bytes-reads
-use Rattle.buffer.proofs.clear_longs.Reads as clear-longs-reads
-use Rattle.buffer.proofs.clear_shorts.Reads as clear-shorts-reads
-use Rattle.buffer.proofs.clear_words.Reads as clear-words-reads
 
 clear-words-requires : tie.Need-clear-words-requires
 clear-words-requires c κs = search needs

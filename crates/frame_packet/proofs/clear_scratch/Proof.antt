@@ -1,11 +1,8 @@
+-- `frame_packet::clear_scratch` meets its contract. Behind the front that is cleared there is nothing but zeros. Assumes nothing.
 use Rattle.frame_packet.proofs.Steps.{clear-whole, clear-front}
 use borrow.Author.Needs.{needs}
 use Rattle.frame_packet.proofs.clear_scratch.Statement.{statement}
 use Rattle.frame_packet.proofs.clear_scratch.Tie as tie
-use Rattle.frame_packet.proofs.clear_scratch.Reads as reads
-use Rattle.frame_packet.proofs.clear_scratch.Lts as lts
-use Rattle.buffer.proofs.clear_bytes.Reads as clear-bytes-reads
-use Rattle.buffer.proofs.clear_longs.Reads as clear-longs-reads
 
 clear-bytes-requires : tie.Need-clear-bytes-requires
 clear-bytes-requires c κs = search needs

@@ -1,27 +1,23 @@
+-- `frame_packet::read_body` meets its contract. The flags are read, then the records, then the tokens; each gets what the part before it left. Assumes nothing.
 use Prim.Native.Nat.{ℕ, _*_, _≤_}
 use mathlib.Core.Path.{_≡_, sym, ap, _∙_}
 use mathlib.Core.List.{List, map}
 use lib.IntN.{pos}
-use lib.ListN.{length, take, replicate, length-replicate}
+use lib.ListN.{length, replicate}
 use lib.Seq.{length-take-le}
 use Rattle.bitstream.specs.Reading.{Outcome, got}
-use Rattle.geometry.specs.Sizes.{blocksOf, macroBlocksOf}
+use Rattle.geometry.specs.Sizes.{blocksOf}
 use Rattle.runs.proofs.Strings.{done-refused, done-at-as}
 use Rattle.block_record.specs.declared.BlockRecord.{BlockRecord}
 use Rattle.block_record.specs.Packed.{packed}
-use Rattle.tokens.specs.Tokens.{Tokens, readTokens}
+use Rattle.tokens.specs.Tokens.{readTokens}
 use Rattle.tokens.specs.Answer.{treesOf}
 use Rattle.frame_packet.specs.Frame.{flagsOf, body}
-use Rattle.frame_packet.specs.Work.{Work}
-use Rattle.frame_packet.proofs.Steps.{Listing, coded-refused, coded-listed, body-flags, listed-fits, listed-room, listed-part, listed-once, listed-below, listed-packed, listed-luma, indexed, body-index, body-tokens, body-whole, left-by, blocks-few, counted-refused, counted-done, on-no-body, on-body}
+use Rattle.frame_packet.specs.Work.{Work, work}
+use Rattle.frame_packet.proofs.Steps.{Sized, sized, Listing, coded-refused, coded-listed, body-flags, listed-fits, listed-room, listed-part, listed-once, listed-below, listed-packed, listed-luma, indexed, body-index, body-tokens, body-whole, left-by, blocks-few, counted-refused, counted-done, on-no-body, on-body}
 use borrow.Author.Needs.{needs}
 use Rattle.frame_packet.proofs.read_body.Statement.{statement}
 use Rattle.frame_packet.proofs.read_body.Tie as tie
-use Rattle.frame_packet.proofs.read_body.Reads as reads
-use Rattle.frame_packet.proofs.read_body.Lts as lts
-use Rattle.frame_packet.proofs.read_coded.Reads as read-coded-reads
-use Rattle.frame_packet.proofs.read_coefs.Reads as read-coefs-reads
-use Rattle.frame_packet.proofs.read_records.Reads as read-records-reads
 
 module _ (c : tie.Start) where
   abbrev flagged : Outcome (List ℕ)
@@ -30,17 +26,8 @@ module _ (c : tie.Start) where
   abbrev all : ℕ
   all = blocksOf (c .args .format) (c .args .w) (c .args .h)
 
-  bits-all : length (c .args .bits .now) ≡ all
-  bits-all = ap length (ap (λ (m : Work). m .bits) (c .pre .5)) ∙ length-replicate all 0
-
-  coded-all : length (c .args .coded .now) ≡ all
-  coded-all = ap length (ap (λ (m : Work). m .coded) (c .pre .5)) ∙ length-replicate all 0
-
-  flags-all : length (c .args .flags .now) ≡ all
-  flags-all = ap length (ap (λ (m : Work). m .flags) (c .pre .5)) ∙ length-replicate all 0
-
-  records-all : length (c .args .records .now) ≡ all
-  records-all = ap length (ap (λ (m : Work). m .records) (c .pre .5)) ∙ length-replicate all 0
+  long : let a = c .args in Sized (a .format) (a .w) (a .h) (work (a .records .now) (a .coded .now) (a .coefs .now) (a .lasts .now) (a .flags .now) (a .bits .now) (a .supers .now) (a .modes .now) (a .active .now))
+  long = sized (c .args .format) (c .args .w) (c .args .h) _ (c .pre .5)
 
 -- behind the flags
 module _ (c : tie.After-known-told2) where
@@ -82,14 +69,14 @@ module _ (c : tie.After-known-told4) where
       done-at-as (map packed) (indexed (a .format) (a .w) (a .h) (treesOf (a .nodes .now)) (a .kind) (a .qis) (a .packet .now) (a .at) (flags (c .before .before .before .before .before .before .before .before .before .before .before .before .before .before .before)) (records (c .before .before .before .before .before .before .before .before .before .before .before .before .before .before .before)) (coded (c .before .before .before .before .before .before .before .before .before .before .before .before .before .before .before)) (count (c .before .before .before .before .before .before .before .before .before .before .before .before .before .before .before)) (luma (c .before .before .before .before .before .before .before .before .before .before .before .before .before .before .before)) (place (c .before .before .before .before .before .before .before .before .before .before .before .before .before .before .before)) (listed (c .before .before .before .before .before .before .before .before .before .before .before .before .before .before .before))) _ (w .ensures .0) (w .ensures .1) (c .before .done2 .given .1)
 
   bits-then : length (c .before .before .before .before .before .before .before .before .before .read-records .last .1 .1 .1 .1 .1 .1 .1 .1 .1 .0) ≡ all (s (c .before .before .before .before .before .before .before .before .before .before .before .before .before .before .before))
-  bits-then = c .before .before .before .before .before .before .before .before .before .read-records .kept .1 .1 .1 .1 .1 .1 .1 .1 .1 .0 ∙ c .before .before .before .before .before .before .before .before .before .before .before .before .before .before .before .before .before .before .before .before .before .before .before .before .before .before .before .before .read-coded .kept .1 .1 .1 .1 .1 .1 .1 .0 ∙ bits-all (s (c .before .before .before .before .before .before .before .before .before .before .before .before .before .before .before))
+  bits-then = c .before .before .before .before .before .before .before .before .before .read-records .kept .1 .1 .1 .1 .1 .1 .1 .1 .1 .0 ∙ c .before .before .before .before .before .before .before .before .before .before .before .before .before .before .before .before .before .before .before .before .before .before .before .before .before .before .before .before .read-coded .kept .1 .1 .1 .1 .1 .1 .1 .0 ∙ long (s (c .before .before .before .before .before .before .before .before .before .before .before .before .before .before .before)) .bits
 
 read-coded-requires : tie.Need-read-coded-requires
 read-coded-requires c κs =
     let a = c .before .before .before .before .before .before .before .before .before .before .before .before .before .before .before .args in
     let p = c .before .before .before .before .before .before .before .before .before .before .before .before .before .before .before .pre in
     let z = p .5 in (
-      (p .0, p .1, p .2, ap length (ap (λ (m : Work). m .supers) z) ∙ length-replicate _ 0, bits-all (c .before .before .before .before .before .before .before .before .before .before .before .before .before .before .before), flags-all (c .before .before .before .before .before .before .before .before .before .before .before .before .before .before .before)),
+      (p .0, p .1, p .2, long (c .before .before .before .before .before .before .before .before .before .before .before .before .before .before .before) .supers, long (c .before .before .before .before .before .before .before .before .before .before .before .before .before .before .before) .bits, long (c .before .before .before .before .before .before .before .before .before .before .before .before .before .before .before) .flags),
       (ap (λ (m : Work). m .records) z, ap (λ (m : Work). m .coded) z),
     )
 
@@ -115,16 +102,16 @@ read-records-requires c κs =
         p .0,
         p .1,
         p .2,
-        k .1 .1 .1 .1 .1 .1 .1 .1 .0 ∙ flags-all (c .before .before .before .before .before .before .before .before .before .before .before .before .before .before .before .before .before .before .before .before .before .before .before .before .before .before .before .before .before .before .before .before .before .before),
-        ap length (ap (λ (m : Work). m .modes) (p .5)) ∙ length-replicate _ 0,
-        k .1 .1 .1 .1 .1 .1 .1 .1 .1 .0 ∙ records-all (c .before .before .before .before .before .before .before .before .before .before .before .before .before .before .before .before .before .before .before .before .before .before .before .before .before .before .before .before .before .before .before .before .before .before),
+        k .1 .1 .1 .1 .1 .1 .1 .1 .0 ∙ long (c .before .before .before .before .before .before .before .before .before .before .before .before .before .before .before .before .before .before .before .before .before .before .before .before .before .before .before .before .before .before .before .before .before .before) .flags,
+        long (c .before .before .before .before .before .before .before .before .before .before .before .before .before .before .before .before .before .before .before .before .before .before .before .before .before .before .before .before .before .before .before .before .before .before) .modes,
+        k .1 .1 .1 .1 .1 .1 .1 .1 .1 .0 ∙ long (c .before .before .before .before .before .before .before .before .before .before .before .before .before .before .before .before .before .before .before .before .before .before .before .before .before .before .before .before .before .before .before .before .before .before) .records,
         listed-packed (a .format) (a .w) (a .h) (treesOf (a .nodes .now)) (a .kind) (a .qis) (a .packet .now) (a .at) _ _ _ _ _ _ (listed d),
       ),
       (
         p .3,
         listed-once (a .format) (a .w) (a .h) (treesOf (a .nodes .now)) (a .kind) (a .qis) (a .packet .now) (a .at) _ _ _ _ _ _ (listed d),
         listed-below (a .format) (a .w) (a .h) (treesOf (a .nodes .now)) (a .kind) (a .qis) (a .packet .now) (a .at) _ _ _ _ _ _ (listed d),
-        listed-part (a .format) (a .w) (a .h) (treesOf (a .nodes .now)) (a .kind) (a .qis) (a .packet .now) (a .at) _ _ _ _ _ _ (listed d) _ (k .1 .1 .1 .1 .1 .1 .1 .1 .1 .1 .0 ∙ coded-all (c .before .before .before .before .before .before .before .before .before .before .before .before .before .before .before .before .before .before .before .before .before .before .before .before .before .before .before .before .before .before .before .before .before .before)) (k .1 .1 .1 .1 .1 .1 .1 .0 ∙ bits-all (c .before .before .before .before .before .before .before .before .before .before .before .before .before .before .before .before .before .before .before .before .before .before .before .before .before .before .before .before .before .before .before .before .before .before)),
+        listed-part (a .format) (a .w) (a .h) (treesOf (a .nodes .now)) (a .kind) (a .qis) (a .packet .now) (a .at) _ _ _ _ _ _ (listed d) _ (k .1 .1 .1 .1 .1 .1 .1 .1 .1 .1 .0 ∙ long (c .before .before .before .before .before .before .before .before .before .before .before .before .before .before .before .before .before .before .before .before .before .before .before .before .before .before .before .before .before .before .before .before .before .before) .coded) (k .1 .1 .1 .1 .1 .1 .1 .0 ∙ long (c .before .before .before .before .before .before .before .before .before .before .before .before .before .before .before .before .before .before .before .before .before .before .before .before .before .before .before .before .before .before .before .before .before .before) .bits),
       ),
     )
 
@@ -141,7 +128,7 @@ read-coefs-requires c κs =
     let d = c .before .before .before .before .before .before .before .before .before .before .before .before .before .before .before .before .before .before .before in
     let k = c .before .before .before .before .before .before .before .before .before .before .before .before .before .before .before .before .before .before .before .before .before .before .before .before .before .before .before .before .before .before .before .before .read-coded .kept in
     let e = bits-then (c .before .before .before .before) in (
-      (p .0, p .4, listed-luma (a .format) (a .w) (a .h) (treesOf (a .nodes .now)) (a .kind) (a .qis) (a .packet .now) (a .at) (flags d) (records d) (coded d) (count d) (luma d) (place d) (listed d) (k .1 .1 .1 .1 .1 .1 .1 .1 .0 ∙ flags-all (c .before .before .before .before .before .before .before .before .before .before .before .before .before .before .before .before .before .before .before .before .before .before .before .before .before .before .before .before .before .before .before .before .before .before .before .before .before .before .before .before .before .before .before .before .before .before .before .before)), listed-room (a .format) (a .w) (a .h) (treesOf (a .nodes .now)) (a .kind) (a .qis) (a .packet .now) (a .at) (flags d) (records d) (coded d) (count d) (luma d) (place d) (listed d) _ (k .1 .1 .1 .1 .1 .1 .1 .1 .1 .1 .0 ∙ coded-all (c .before .before .before .before .before .before .before .before .before .before .before .before .before .before .before .before .before .before .before .before .before .before .before .before .before .before .before .before .before .before .before .before .before .before .before .before .before .before .before .before .before .before .before .before .before .before .before .before)) e, blocks-few (a .format) (a .w) (a .h) _ (p .1) (p .2) e),
+      (p .0, p .4, listed-luma (a .format) (a .w) (a .h) (treesOf (a .nodes .now)) (a .kind) (a .qis) (a .packet .now) (a .at) (flags d) (records d) (coded d) (count d) (luma d) (place d) (listed d) (k .1 .1 .1 .1 .1 .1 .1 .1 .0 ∙ long (c .before .before .before .before .before .before .before .before .before .before .before .before .before .before .before .before .before .before .before .before .before .before .before .before .before .before .before .before .before .before .before .before .before .before .before .before .before .before .before .before .before .before .before .before .before .before .before .before) .flags), listed-room (a .format) (a .w) (a .h) (treesOf (a .nodes .now)) (a .kind) (a .qis) (a .packet .now) (a .at) (flags d) (records d) (coded d) (count d) (luma d) (place d) (listed d) _ (k .1 .1 .1 .1 .1 .1 .1 .1 .1 .1 .0 ∙ long (c .before .before .before .before .before .before .before .before .before .before .before .before .before .before .before .before .before .before .before .before .before .before .before .before .before .before .before .before .before .before .before .before .before .before .before .before .before .before .before .before .before .before .before .before .before .before .before .before) .coded) e, blocks-few (a .format) (a .w) (a .h) _ (p .1) (p .2) e),
       (
         ap (λ (m : Work). m .coefs) (p .5) ∙ ap (λ (n : ℕ). replicate (64 * n) (pos 0)) (sym e),
         ap (λ (m : Work). m .lasts) (p .5) ∙ ap (λ (n : ℕ). replicate n 0) (sym e),

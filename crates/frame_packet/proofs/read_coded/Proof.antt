@@ -1,16 +1,12 @@
-use mathlib.Core.Path.{_≡_, ap, _∙_}
+-- `frame_packet::read_coded` meets its contract. The rest of the list of the coded blocks is zero, as it was. Assumes nothing.
+use mathlib.Core.Path.{ap, _∙_}
 use lib.ListN.{length, length-replicate}
-use Rattle.bitstream.specs.Reading.{got}
 use Rattle.runs.proofs.Strings.{done-refused, done-at}
 use Rattle.frame_packet.specs.Frame.{flagsOf}
 use Rattle.frame_packet.proofs.Steps.{on-no-flags, on-coded}
 use borrow.Author.Needs.{needs}
 use Rattle.frame_packet.proofs.read_coded.Statement.{statement}
 use Rattle.frame_packet.proofs.read_coded.Tie as tie
-use Rattle.frame_packet.proofs.read_coded.Reads as reads
-use Rattle.frame_packet.proofs.read_coded.Lts as lts
-use Rattle.coded_flags.proofs.list_coded.Reads as list-coded-reads
-use Rattle.frame_packet.proofs.read_flags.Reads as read-flags-reads
 
 read-flags-requires : tie.Need-read-flags-requires
 read-flags-requires c κs = search needs

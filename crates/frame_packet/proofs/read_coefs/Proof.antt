@@ -1,3 +1,4 @@
+-- `frame_packet::read_coefs` meets its contract. What is cleared before is as the tokens ask it. Assumes nothing.
 use lib.ListN.{length}
 use Rattle.tokens.specs.Tokens.{readTokens}
 use Rattle.tokens.specs.Answer.{treesOf}
@@ -5,10 +6,6 @@ use Rattle.frame_packet.proofs.Steps.{clear-whole, all-cleared, tokens-
 use borrow.Author.Needs.{needs}
 use Rattle.frame_packet.proofs.read_coefs.Statement.{statement}
 use Rattle.frame_packet.proofs.read_coefs.Tie as tie
-use Rattle.frame_packet.proofs.read_coefs.Reads as reads
-use Rattle.frame_packet.proofs.read_coefs.Lts as lts
-use Rattle.buffer.proofs.clear_bytes.Reads as clear-bytes-reads
-use Rattle.tokens.proofs.read_tokens.Reads as read-tokens-reads
 
 clear-bytes-requires : tie.Need-clear-bytes-requires
 clear-bytes-requires c κs = search needs

@@ -1,10 +1,8 @@
+-- `frame_packet::read_empty` meets its contract. Assumes nothing.
 use mathlib.Core.Path.{refl}
 use borrow.Author.Needs.{needs}
 use Rattle.frame_packet.proofs.read_empty.Statement.{statement}
 use Rattle.frame_packet.proofs.read_empty.Tie as tie
-use Rattle.frame_packet.proofs.read_empty.Reads as reads
-use Rattle.frame_packet.proofs.read_empty.Lts as lts
-use Rattle.frame_packet.proofs.refusal.Reads as refusal-reads
 
 returns : tie.Need-returns
 returns c = rw (c .if1 .taken) refl

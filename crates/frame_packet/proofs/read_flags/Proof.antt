@@ -1,12 +1,9 @@
+-- `frame_packet::read_flags` meets its contract. Assumes nothing.
 use lib.ListN.{length}
 use Rattle.frame_packet.proofs.Steps.{not-intra, flags-intra, flags-inter}
 use borrow.Author.Needs.{needs}
 use Rattle.frame_packet.proofs.read_flags.Statement.{statement}
 use Rattle.frame_packet.proofs.read_flags.Tie as tie
-use Rattle.frame_packet.proofs.read_flags.Reads as reads
-use Rattle.frame_packet.proofs.read_flags.Lts as lts
-use Rattle.coded_flags.proofs.flag_all.Reads as flag-all-reads
-use Rattle.coded_flags.proofs.read_flags.Reads as read-flags-reads
 
 enum-told : tie.Need-enum-told
 enum-told c = search needs

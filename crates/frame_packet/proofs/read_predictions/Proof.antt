@@ -1,10 +1,9 @@
+-- `frame_packet::read_predictions` meets its contract. Assumes nothing.
 use native.Mathlib.Omega.{arith}
-use mathlib.Core.Path.{_≡_, sym, ap, _∙_}
+use mathlib.Core.Path.{sym, ap, _∙_}
 use mathlib.Core.List.{map}
 use Prim.Native.Nat.{ℕ}
 use lib.ListN.{length}
-use Rattle.bitstream.specs.Reading.{got}
-use Rattle.geometry.specs.Sizes.{macroBlocksOf}
 use Rattle.block_record.specs.Packed.{packed}
 use Rattle.block_record.specs.Memory.{recordsOf}
 use Rattle.runs.proofs.Facts.{on-refusal-as}
@@ -16,10 +15,6 @@ use Rattle.frame_packet.proofs.Steps.{not-intra, same-stored, macro-blo
 use borrow.Author.Needs.{needs}
 use Rattle.frame_packet.proofs.read_predictions.Statement.{statement}
 use Rattle.frame_packet.proofs.read_predictions.Tie as tie
-use Rattle.frame_packet.proofs.read_predictions.Reads as reads
-use Rattle.frame_packet.proofs.read_predictions.Lts as lts
-use Rattle.modes.proofs.read_modes.Reads as read-modes-reads
-use Rattle.vectors.proofs.read_vectors.Reads as read-vectors-reads
 
 enum-told : tie.Need-enum-told
 enum-told c = search needs

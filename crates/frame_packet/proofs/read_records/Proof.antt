@@ -1,3 +1,4 @@
+-- `frame_packet::read_records` meets its contract. The predictions leave records in their range, of which packing loses nothing. Assumes nothing.
 use Prim.Native.Nat.{ℕ}
 use mathlib.Core.Path.{_≡_, sym, _∙_, subst}
 use mathlib.Core.List.{List, map}
@@ -16,10 +17,6 @@ use Rattle.frame_packet.proofs.Steps.{same-stored, predicted-packed, pr
 use borrow.Author.Needs.{needs}
 use Rattle.frame_packet.proofs.read_records.Statement.{statement}
 use Rattle.frame_packet.proofs.read_records.Tie as tie
-use Rattle.frame_packet.proofs.read_records.Reads as reads
-use Rattle.frame_packet.proofs.read_records.Lts as lts
-use Rattle.block_qi.proofs.read_block_qi.Reads as read-block-qi-reads
-use Rattle.frame_packet.proofs.read_predictions.Reads as read-predictions-reads
 
 module _ (c : tie.Start) where
   abbrev outcome : Outcome (List BlockRecord)
