@@ -3,6 +3,10 @@
  *
  *   decode RECORDING.ogv
  *   decode FILE.packets
+ *
+ * or its packets in hex, one in a line, for tests/streams/store:
+ *
+ *   decode --packets RECORDING.ogv
  */
 #include "hash.h"
 
@@ -21,6 +25,7 @@ static th_comment comment;
 static th_setup_info *setup = NULL;
 static th_dec_ctx *decoder = NULL;
 static long packets = 0;
+static int only_packets = 0;
 
 static void fail(const char *what)
 {
@@ -85,8 +90,16 @@ static void print_frame(ogg_packet *packet)
     printf(" %016" PRIx64 "\n", hash_frame(planes));
 }
 
+static void print_packet(const ogg_packet *packet)
+{
+    for (long i = 0; i < packet->bytes; i++) {
+        printf("%02x", packet->packet[i]);
+    }
+    printf("\n");
+}
+
 /* A packet of the Theora stream. */
-static void take_packet(ogg_packet *packet)
+static void decode_packet(ogg_packet *packet)
 {
     printf("packet %ld %ld %016" PRIx64 "\n", packets, packet->bytes,
            hash_bytes(HASH_START, packet->packet, (size_t)packet->bytes));
@@ -104,7 +117,6 @@ static void take_packet(ogg_packet *packet)
     } else {
         print_frame(packet);
     }
-    packets++;
 }
 
 /* Whether a stream's first page holds an identification header. */
@@ -126,7 +138,12 @@ static void take_page(ogg_page *page)
         return;
     }
     while (ogg_stream_packetout(&stream, &packet) == 1) {
-        take_packet(&packet);
+        if (only_packets) {
+            print_packet(&packet);
+        } else {
+            decode_packet(&packet);
+        }
+        packets++;
     }
 }
 
@@ -173,16 +190,17 @@ int main(int count, char **words)
 {
     FILE *in;
     const char *ending;
-    if (count != 2) {
-        fail("usage: decode RECORDING.ogv | FILE.packets");
+    only_packets = count == 3 && strcmp(words[1], "--packets") == 0;
+    if (count != 2 + only_packets) {
+        fail("usage: decode [--packets] RECORDING.ogv | decode FILE.packets");
     }
-    in = fopen(words[1], "rb");
+    in = fopen(words[count - 1], "rb");
     if (in == NULL) {
-        fail(words[1]);
+        fail(words[count - 1]);
     }
     th_info_init(&info);
     th_comment_init(&comment);
-    ending = strrchr(words[1], '.');
+    ending = strrchr(words[count - 1], '.');
     if (ending != NULL && strcmp(ending, ".packets") == 0) {
         take_packet_file(in);
     } else {

@@ -1,0 +1,81 @@
+// What is printed: answers, and the hashes of frames.
+use frame_header::Header;
+use frame_header::Kind;
+use libc::STDOUT_FILENO;
+ghost use mathlib.Core.Path.{_≡_};
+ghost use Rattle.play.specs.Hash.{hashByte, hashOf};
+
+pub fn print(text: &[u8]) {
+    io::write_all(STDOUT_FILENO, text);
+}
+
+fn print_number(n: u64) {
+    io::print_decimal(STDOUT_FILENO, n);
+}
+
+pub fn print_refused(k: u32) {
+    print(b"refused ");
+    print_number(k as u64);
+    print(b"\n");
+}
+
+// The hash of one byte more. The prime is 2^40 + 435.
+fn hash_byte(hash: u64, byte: u8) -> u64
+    ensures { λ r. ⌜ r ≡ hashByte hash byte ⌝ }
+{
+    let mixed = hash ^ (byte as u64);
+    let high = mixed / 4294967296 * 435 % 4294967296 * 4294967296;
+    let low = mixed % 4294967296 * 435;
+    let sum = std::num::wrapping_add_u64(high, low);
+    std::num::wrapping_add_u64(sum, mixed % 16777216 * 1099511627776)
+}
+
+fn hash(bytes: &[u8]) -> u64
+    ensures { λ r. ⌜ r ≡ hashOf (now (bytes .entry)) ⌝ }
+{
+    let mut hash: u64 = 14695981039346656037;
+    let mut i: usize = 0;
+    while i < bytes.len() {
+        hash = hash_byte(hash, bytes[i]);
+        i += 1;
+    }
+    hash
+}
+
+fn print_kind(kind: Kind) {
+    match kind {
+        Kind::Intra => print(b"intra "),
+        Kind::Inter => print(b"inter "),
+        Kind::Repeat => print(b"repeat -"),
+    }
+}
+
+fn print_qis(qis: [u8; 3], count: u8) {
+    if 0 < count {
+        print_number(qis[0] as u64);
+    }
+    if 1 < count {
+        print(b",");
+        print_number(qis[1] as u64);
+    }
+    if 2 < count {
+        print(b",");
+        print_number(qis[2] as u64);
+    }
+}
+
+pub fn print_frame_number(n: u64) {
+    print(b"frame ");
+    print_number(n);
+    print(b" ");
+}
+
+pub fn print_frame(header: Header, new: &[u8]) {
+    let kind = header.kind;
+    let qis = header.qis;
+    print_kind(kind);
+    print_qis(qis, header.count);
+    print(b" ");
+    io::print_hex(STDOUT_FILENO, hash(new), 16);
+    print(b"\n");
+}
