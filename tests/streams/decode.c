@@ -119,6 +119,16 @@ static void decode_packet(ogg_packet *packet)
     }
 }
 
+static void take_packet(ogg_packet *packet)
+{
+    if (only_packets) {
+        print_packet(packet);
+    } else {
+        decode_packet(packet);
+    }
+    packets++;
+}
+
 /* Whether a stream's first page holds an identification header. */
 static int is_theora(ogg_page *page)
 {
@@ -138,12 +148,7 @@ static void take_page(ogg_page *page)
         return;
     }
     while (ogg_stream_packetout(&stream, &packet) == 1) {
-        if (only_packets) {
-            print_packet(&packet);
-        } else {
-            decode_packet(&packet);
-        }
-        packets++;
+        take_packet(&packet);
     }
 }
 
