@@ -5,12 +5,14 @@
 //! decoder is tried on it: bytes behind the place reached change nothing, a
 //! packet that ends before it is refused by 4, a refusal by another number
 //! stands when bytes are appended, both ways make the same frame. Then it is
-//! given to the library, which must answer and leave the same.
+//! given to the library, which must read all that the independent
+//! implementation reads, and answer and leave the same.
 
 use crate::frame_calls::Caller;
 use crate::generate::cases::Case;
 use crate::generate::encoder::{Encoded, encoded};
 use crate::generate::frame_packets::{packet, variant};
+use crate::parts;
 use crate::random::Random;
 use crate::reference::decode::Decoder;
 use crate::reference::frame::reader::{Bits, Field, FrameFault};
@@ -145,6 +147,15 @@ impl Report {
     ) -> Result<(), String> {
         let read = frame.read(packet);
         self.count(&read);
+        let Caller { fields, table, .. } = caller;
+        parts::packet::check(
+            random,
+            fields,
+            &table.bytes,
+            frame.references,
+            packet,
+            &read,
+        )?;
         let made = match read {
             Ok(read) => frame.accepted(packet, read).map(Ok),
             Err(fault) => frame.refused(packet, fault).then_some(Err(fault)),

@@ -15,6 +15,7 @@ mod generate;
 mod library;
 mod orders;
 mod packets;
+mod parts;
 mod random;
 mod reference;
 mod sessions;
@@ -34,8 +35,8 @@ use std::time::Instant;
 const USAGE: &str = "\
 usage: compare [--packets N] [--sessions N] [--orders MAX] [--setups N]
                [--tables N] [--matrices N] [--frames N] [--calls N]
-               [--lists N] [--seed S]
-               [--stream FILE.. | --decode FILE.. | --wild FILE..]
+               [--lists N] [--parts N] [--seed S]
+               [--stream FILE.. | --decode FILE.. | --wild FILE.. | --time]
 
   --packets N   identification headers: valid, faulty, damaged, cut, extended (1000000)
   --sessions N  sessions, sound and not, each with every call on a session (500000)
@@ -47,6 +48,8 @@ usage: compare [--packets N] [--sessions N] [--orders MAX] [--setups N]
   --calls N     frame calls with any session, table memory and lengths (20000)
   --lists N     lists of frame calls, each of which gets what the one before
                 handed on (500)
+  --parts N     frames made of random block data, and the parts of making one
+                on their extremes and on random values (2000)
   --seed S      where the random numbers start (1)
   --stream FILE..
                 nothing but recordings: their headers, and what the texts beside
@@ -57,6 +60,7 @@ usage: compare [--packets N] [--sessions N] [--orders MAX] [--setups N]
                 lists of calls; comes last
   --wild FILE.. compares nothing: writes packet files of random frames, for
                 libtheora to decode; comes last
+  --time        compares nothing: prints how long each part of making a frame takes
 ";
 
 /// With fewer packets or calls, or fewer lists of calls, it is no fault if some
@@ -75,12 +79,13 @@ struct Options {
     frames: u64,
     calls: u64,
     lists: u64,
+    parts: u64,
     seed: u64,
     /// What is done in place of all else.
     instead: Option<Instead>,
 }
 
-/// What is done with recordings.
+/// What is done with recordings, or without.
 #[derive(Debug, PartialEq, Eq)]
 enum Instead {
     /// Their headers are compared.
@@ -89,6 +94,8 @@ enum Instead {
     Decode(Vec<String>),
     /// They are written.
     Wild(Vec<String>),
+    /// The parts of making a frame are timed.
+    Time,
 }
 
 impl Default for Options {
@@ -103,6 +110,7 @@ impl Default for Options {
             frames: 20_000,
             calls: 20_000,
             lists: 500,
+            parts: 2_000,
             seed: 1,
             instead: None,
         }
@@ -149,6 +157,10 @@ fn options(words: &[String]) -> Result<Options, String> {
             options.instead = Some(instead(files));
             break;
         }
+        if name == "--time" {
+            options.instead = Some(Instead::Time);
+            continue;
+        }
         let value = words.next().and_then(|word| word.parse().ok());
         let value = value.ok_or_else(|| format!("{name}: a number must follow"))?;
         match name.as_str() {
@@ -162,6 +174,7 @@ fn options(words: &[String]) -> Result<Options, String> {
             "--frames" => options.frames = value,
             "--calls" => options.calls = value,
             "--lists" => options.lists = value,
+            "--parts" => options.parts = value,
             "--seed" => options.seed = value,
             _ => return Err(format!("{name}: no such option")),
         }
@@ -175,6 +188,10 @@ fn compare(options: &Options) -> Result<(), String> {
         Some(Instead::Headers(files)) => return streams::compare(files),
         Some(Instead::Decode(files)) => return decoded::compare(files),
         Some(Instead::Wild(files)) => return wild::write(files, options.seed),
+        Some(Instead::Time) => {
+            parts::time::time(&mut Random::new(options.seed));
+            return Ok(());
+        }
         None => {}
     }
     println!("seed {}", options.seed);
@@ -182,7 +199,8 @@ fn compare(options: &Options) -> Result<(), String> {
     compare_packets(&mut random, options)?;
     compare_sessions(&mut random, options)?;
     compare_setups(&mut random, options)?;
-    compare_frames(&mut random, options)
+    compare_frames(&mut random, options)?;
+    compare_parts(&mut random, options)
 }
 
 /// Prints a heading with the time that was taken.
@@ -269,6 +287,15 @@ fn compare_frames(random: &mut Random, options: &Options) -> Result<(), String> 
     all_tried(&report.missed(), options.lists >= ENOUGH_LISTS)
 }
 
+/// The parts of making a frame.
+fn compare_parts(random: &mut Random, options: &Options) -> Result<(), String> {
+    let start = Instant::now();
+    let report = parts::compare(random, options.parts).map_err(text)?;
+    heading("parts of making a frame", start);
+    println!("{report}");
+    all_tried(&report.missed(), 50 * options.parts >= ENOUGH_PACKETS)
+}
+
 #[cfg(test)]
 mod tests {
     use super::*;
@@ -295,6 +322,7 @@ mod tests {
         assert_eq!(instead("--seed 2 --stream a b"), Some(headers));
         assert_eq!(instead("--decode a"), Some(Instead::Decode(words("a"))));
         assert_eq!(instead("--wild a"), Some(Instead::Wild(words("a"))));
+        assert_eq!(instead("--time --seed 3"), Some(Instead::Time));
     }
 
     #[test]
@@ -309,6 +337,7 @@ mod tests {
             frames: 500,
             calls: 500,
             lists: 20,
+            parts: 20,
             seed: 11,
             ..Options::default()
         };
