@@ -71,6 +71,8 @@ pub fn compare(random: &mut Random, packets: u64) -> Result<Report, String> {
         let case = Case::of_size(random, fmbw, fmbh);
         report.longest_runs(random, &case, kind)?;
     }
+    let case = Case::of_size(random, 3, 2);
+    report.long_packets(random, &case)?;
     Ok(report)
 }
 
@@ -82,13 +84,8 @@ impl Report {
         let mut new = vec![0; case.golden.len()];
         for _ in 0..packets {
             let references = !random.once_in(8);
+            let frame = Frame::of(case, &decoder, references);
             let made = packet(random, &decoder, references);
-            let frame = Frame {
-                decoder: &decoder,
-                references,
-                golden: &case.golden,
-                previous: &case.previous,
-            };
             self.of_packet(random, &frame, &caller, made.bytes(), &mut new)?;
         }
         Ok(())
@@ -98,12 +95,7 @@ impl Report {
     fn longest_runs(&mut self, random: &mut Random, case: &Case, kind: Kind) -> Result<(), String> {
         let decoder = Decoder::new(&case.fields, &case.setup);
         let caller = Caller::new(&case.fields, &case.header)?;
-        let frame = Frame {
-            decoder: &decoder,
-            references: true,
-            golden: &case.golden,
-            previous: &case.previous,
-        };
+        let frame = Frame::of(case, &decoder, true);
         let mut new = vec![0; case.golden.len()];
         let mut tried = 0;
         for _ in 0..100 {
@@ -117,6 +109,25 @@ impl Report {
             }
         }
         Err("no packets with a run of 4129".to_string())
+    }
+
+    /// Tries packets with zeros behind them, so many that the number of bits
+    /// passes 32 bits. They take no memory as long as nobody looks at them.
+    fn long_packets(&mut self, random: &mut Random, case: &Case) -> Result<(), String> {
+        let decoder = Decoder::new(&case.fields, &case.setup);
+        let caller = Caller::new(&case.fields, &case.header)?;
+        let frame = Frame::of(case, &decoder, true);
+        let mut new = vec![0; case.golden.len()];
+        for kind in [Kind::Intra, Kind::Inter] {
+            let Encoded { written, .. } = encoded(random, &decoder, kind);
+            let mut packet = vec![0; (1 << 29) + 5];
+            packet[..written.bytes().len()].copy_from_slice(written.bytes());
+            let read = frame.read(&packet);
+            self.count(&read);
+            let made = read.map(|read| frame.made(read, Way::First));
+            caller.right(random, &frame, &packet, &made, &mut new)?;
+        }
+        Ok(())
     }
 
     /// Tries so many variants of a recording's packet.
@@ -198,29 +209,41 @@ impl Report {
     }
 }
 
-impl Frame<'_> {
+impl<'a> Frame<'a> {
+    /// Of a case.
+    fn of(case: &'a Case, decoder: &'a Decoder<'a>, references: bool) -> Frame<'a> {
+        Frame {
+            decoder,
+            references,
+            golden: &case.golden,
+            previous: &case.previous,
+        }
+    }
+
     /// Reads a packet.
     fn read(&self, packet: &[u8]) -> Result<FramePacket, FrameFault> {
         self.decoder
             .read(self.references, FourRule::LastIsD, packet)
     }
 
-    /// Makes the frame of a packet.
-    fn make(&self, way: Way, read: &FramePacket, new: &mut [u8]) {
-        self.decoder
-            .make(way, read, self.golden, self.previous, new);
+    /// Makes the frame of a packet, over other samples in each way.
+    fn made(&self, packet: FramePacket, way: Way) -> Made {
+        let before = match way {
+            Way::First => 0,
+            Way::Second => 255,
+        };
+        let mut new = vec![before; self.previous.len()];
+        let (golden, previous) = (self.golden, self.previous);
+        self.decoder.make(way, &packet, golden, previous, &mut new);
+        Made { packet, new }
     }
 
     /// The frame of an accepted packet, if all holds that must hold of one.
     fn accepted(&self, packet: &[u8], read: FramePacket) -> Option<Made> {
-        let [mut first, mut second] = [0, 255].map(|byte| vec![byte; self.previous.len()]);
-        self.make(Way::First, &read, &mut first);
-        self.make(Way::Second, &read, &mut second);
-        let holds = first == second && (packet.is_empty() || self.ends_there(packet, &read));
-        holds.then_some(Made {
-            packet: read,
-            new: first,
-        })
+        let ends = packet.is_empty() || self.ends_there(packet, &read);
+        let Made { packet, new } = self.made(read, Way::First);
+        let second = self.made(packet, Way::Second);
+        (ends && second.new == new).then_some(second)
     }
 
     /// Whether an accepted packet needs the bytes up to the place reached, and

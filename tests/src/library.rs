@@ -322,12 +322,7 @@ fn describe(lists: &Lists) -> String {
     for (name, value) in NAMES.iter().zip(session) {
         let _ = writeln!(text, "          {name} = {value}");
     }
-    let _ = writeln!(
-        text,
-        "packet:   {} bytes: {}",
-        lists.packet.len(),
-        hex(lists.packet)
-    );
+    let _ = writeln!(text, "packet:   {}", long_hex(lists.packet));
     let _ = writeln!(text, "table:    {}", long_hex(&lists.table.bytes));
     let work: Vec<String> = work_memory::NAMES
         .iter()
