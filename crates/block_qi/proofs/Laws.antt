@@ -2,17 +2,16 @@
 use Prim.Native.Nat.{ℕ, zero, suc, _+_, _-_, _*_, _≤_, _<_}
 use native.Mathlib.Omega.{arith}
 use native.Mathlib.Nat.{zero-mul, suc-mul}
-use mathlib.Core.Path.{_≡_, refl, sym, ap, _∙_, subst}
+use mathlib.Core.Path.{_≡_, refl, ap, _∙_, subst}
 use mathlib.Core.List.{List, [], _∷_}
 use mathlib.Core.Bool.{Bool, true, false}
-use lib.Dec.{eqb, ltb}
+use lib.Dec.{eqb}
 use lib.ListN.{length, getD, drop, set, length-set}
-use lib.Seq.{getD-set-same, getD-set-other, set-out}
-use borrow.Author.Tests.{eqb-true, eqb-false, ltb-true, ltb-false}
 use Rattle.bitstream.specs.Reading.{got, pure, choose}
 use Rattle.bitstream.proofs.Laws.{Lawful, pure-lawful, bind-lawful, bind-got}
 use Rattle.bitstream.proofs.Spends.{Spends, spends-more, pure-spends, bind-spends}
 use Rattle.runs.specs.Lists.{none, one, AllBelow}
+use Rattle.runs.proofs.ListLaws.{set-cases}
 use Rattle.runs.specs.Runs.{bitString}
 use Rattle.runs.specs.declared.RunCode.the-variants.{Long}
 use Rattle.runs.proofs.Laws.{bitString-lawful, bitString-spends}
@@ -97,16 +96,9 @@ module _ (P : List BlockRecord → Type 0) (coded : List ℕ) where
 
 -- another index, and a block's record with its index left out
 set-but : (rs : List BlockRecord) (b k n : ℕ) → withQiIndex 0 (getD (set rs b (withQiIndex k (getD rs b uncoded))) n uncoded) ≡ withQiIndex 0 (getD rs n uncoded)
-set-but rs b k n = go (eqb n b) refl (ltb b (length rs)) refl
-  where
-    go : (t : Bool) → eqb n b ≡ t → (s : Bool) → ltb b (length rs) ≡ s → withQiIndex 0 (getD (set rs b (withQiIndex k (getD rs b uncoded))) n uncoded) ≡ withQiIndex 0 (getD rs n uncoded)
-    go true t true s =
-        let z : n ≡ b = eqb-true n b t in
-        ap (λ (m : ℕ). withQiIndex 0 (getD (set rs b (withQiIndex k (getD rs b uncoded))) m uncoded)) z
-        ∙ ap (withQiIndex 0) (getD-set-same rs b (withQiIndex k (getD rs b uncoded)) uncoded (ltb-true b (length rs) s))
-        ∙ ap (λ (m : ℕ). withQiIndex 0 (getD rs m uncoded)) (sym z)
-    go true t false s = ap (λ (l : List BlockRecord). withQiIndex 0 (getD l n uncoded)) (set-out rs b (withQiIndex k (getD rs b uncoded)) (ltb-false b (length rs) s))
-    go false t s e = ap (withQiIndex 0) (getD-set-other rs b n (withQiIndex k (getD rs b uncoded)) uncoded (eqb-false n b t))
+set-but rs b k n =
+    set-cases (λ r. withQiIndex 0 r ≡ withQiIndex 0 (getD rs n uncoded)) rs b n (withQiIndex k (getD rs b uncoded)) uncoded
+    (λ z. ap (λ (m : ℕ). withQiIndex 0 (getD rs m uncoded)) z) refl
 
 module _ (n : ℕ) (few : n ≤ 3) (coded : List ℕ) (rs : List BlockRecord) (p : List ℕ) (i : ℕ) (rs′ : List BlockRecord) (e : ℕ) (g : blockQi n coded rs p i ≡ got rs′ e) where
   pub qi-in-range : AllInRange rs → AllInRange rs′
@@ -121,3 +113,25 @@ module _ (n : ℕ) (few : n ≤ 3) (coded : List ℕ) (rs : List BlockRecord) (p
   -- nothing but the index changes
   pub qi-but : (m : ℕ) → withQiIndex 0 (getD rs′ m uncoded) ≡ withQiIndex 0 (getD rs m uncoded)
   qi-but m = qi-keeps (λ s. withQiIndex 0 (getD s m uncoded) ≡ withQiIndex 0 (getD rs m uncoded)) coded (λ q l s b bit k a. set-but s b (q + bit) m ∙ a) n few rs p i rs′ e refl g
+
+-- ---- the index is one of the n: each step raises it once at most
+module _ (coded : List ℕ) where
+  abbrev Most : ℕ → List BlockRecord → Type 0
+  Most q rs = (m : ℕ) → indexAt rs m ≤ q
+
+  most-set : (q : ℕ) (rs : List BlockRecord) (b bit : ℕ) → bit < 2 → Most (q + 1) rs → Most (q + 1) (set rs b (withQiIndex (q + bit) (getD rs b uncoded)))
+  most-set q rs b bit l a m = set-cases (λ r. r .«qi_index» ≤ q + 1) rs b m (withQiIndex (q + bit) (getD rs b uncoded)) uncoded (λ _. omega arith) (a m)
+
+  steps-most : (n q : ℕ) (rs : List BlockRecord) (p : List ℕ) (i : ℕ) (rs′ : List BlockRecord) (e : ℕ) → Most q rs → steps n q coded rs p i ≡ got rs′ e → Most (q + n) rs′
+  unfolding steps oneStep
+  steps-most zero q rs p i rs′ e a g m = let z : rs ≡ rs′ = cc in omega (arith, a m, ap (λ (s : List BlockRecord). indexAt s m) z)
+  steps-most (suc n) q rs p i rs′ e a g m =
+      let u = bind-got (oneStep q coded rs) (steps n (q + 1) coded) p i g in
+      let v = bind-got (bitString Long (atStep q coded rs)) (λ bits. pure (raised q coded bits rs)) p i (u .2) in
+      let z : raised q coded (v .0) rs ≡ u .0 = cc in
+      let k = raised-keeps (Most (q + 1)) q (most-set q) coded (v .0) rs (string-bits Long (atStep q coded rs) p i (v .2)) (λ m. omega (arith, a m)) in
+      omega (arith, steps-most n (q + 1) (u .0) p (u .1) rs′ e (subst (Most (q + 1)) z k) (u .3) m)
+
+  pub qi-most : (n : ℕ) (rs : List BlockRecord) (p : List ℕ) (i : ℕ) (rs′ : List BlockRecord) (e : ℕ) → Most 0 rs → blockQi n coded rs p i ≡ got rs′ e → Most (n - 1) rs′
+  unfolding blockQi
+  qi-most n rs p i rs′ e a g m = omega (arith, steps-most (n - 1) 0 rs p i rs′ e a g m)

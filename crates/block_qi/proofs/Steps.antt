@@ -3,7 +3,7 @@ use Prim.Native.Nat.{ℕ, suc, _+_, _-_, _≤_, _<_}
 use native.Mathlib.Omega.{arith}
 use native.Mathlib.Nat.{add-zero}
 use mathlib.Core.Path.{_≡_, refl, sym, ap, _∙_}
-use mathlib.Core.List.{List}
+use mathlib.Core.List.{List, map}
 use mathlib.Core.Bool.{Bool, true, false}
 use lib.Dec.{eqb}
 use lib.ListN.{length, getD, drop, set, drop-of-length-le}
@@ -11,7 +11,7 @@ use lib.Seq.{getD-set-other, getD-drop, drop-drop}
 use borrow.Author.Tests.{eq-eqb, eqb-true}
 use Rattle.bitstream.specs.Reading.{Outcome, got, refused, choose}
 use Rattle.runs.specs.Lists.{All, none, one, AllBelow, Other, Once}
-use Rattle.runs.specs.Runs.{bitString, asDone}
+use Rattle.runs.specs.Runs.{bitString, asDone, StoredAs}
 use Rattle.runs.specs.declared.RunCode.the-variants.{Long}
 use Rattle.runs.specs.declared.Done.{Done}
 use Rattle.runs.specs.declared.Done.the-variants.{At, Refused}
@@ -23,7 +23,7 @@ use Rattle.block_record.specs.Memory.{AllPacked, recordsOf}
 use Rattle.block_record.proofs.Laws.{unpacked-packed}
 use Rattle.block_record.proofs.MemoryLaws.{is-packed, packed-at, packed-set, packed-records, record-at, records-set}
 use Rattle.block_qi.specs.BlockQi.{indexAt, atStep, raised, oneStep, steps, blockQi}
-use Rattle.block_qi.specs.Answer.{KeptRecords, StoredRecords}
+use Rattle.block_qi.specs.Answer.{KeptRecords}
 
 -- ---- how many are at the step
 -- the index in a packed record
@@ -158,10 +158,7 @@ module _ (out : List ℕ) (o : Outcome (List BlockRecord)) where
   pub on-records : {rs : List BlockRecord} {e : ℕ} → o ≡ got rs e → (recordsOf out ≡ rs) × AllPacked out → (At e ≡ asDone o) × KeptRecords out o
   on-records h a = rw h (refl, a)
 
-  pub on-stopped : {k e : ℕ} → o ≡ refused k e → (Refused k e ≡ asDone o) × StoredRecords out o
-  on-stopped h = rw h (refl, tt)
-
-  pub on-all : {e : ℕ} → o ≡ got (recordsOf out) e → AllPacked out → (At e ≡ asDone o) × StoredRecords out o
+  pub on-all : {e : ℕ} → o ≡ got (recordsOf out) e → AllPacked out → (At e ≡ asDone o) × StoredAs (map packed) out o
   on-all h a = rw h (refl, packed-records out a)
 
 pub records-at : (o : Outcome (List BlockRecord)) (out : List ℕ) {r : Done} {e : ℕ} → r ≡ asDone o → KeptRecords out o → r ≡ At e → (o ≡ got (recordsOf out) e) × AllPacked out

@@ -2,17 +2,18 @@
 use runs::Done;
 use runs::RunCode;
 ghost use mathlib.Core.Path.{_≡_};
+ghost use mathlib.Core.List.{map};
 ghost use Prim.Native.Nat.{ℕ, _+_, _≤_, _<_, _^_};
 ghost use lib.Dec.{eqb};
 ghost use lib.ListN.{length, getD, set};
 ghost use Rattle.bitstream.specs.Reading.{choose};
-ghost use Rattle.runs.specs.Runs.{asDone};
+ghost use Rattle.runs.specs.Runs.{asDone, StoredAs};
 ghost use Rattle.runs.specs.Lists.{AllBelow, Once};
 ghost use Rattle.block_record.specs.Record.{withQiIndex};
 ghost use Rattle.block_record.specs.Packed.{packed, unpacked};
 ghost use Rattle.block_record.specs.Memory.{AllPacked, recordsOf};
 ghost use Rattle.block_qi.specs.BlockQi.{atStep, raised, oneStep, blockQi};
-ghost use Rattle.block_qi.specs.Answer.{KeptRecords, StoredRecords};
+ghost use Rattle.block_qi.specs.Answer.{KeptRecords};
 
 // Whether a packed record has the index q, as a number.
 fn is_at(n: u32, q: u32) -> usize
@@ -103,7 +104,7 @@ pub fn read_block_qi(
 ) -> Done
     requires { ⌜ (length (now packet) ≤ 2 ^ 58) × (qis ≤ 3) × Once (now coded) × AllBelow (length (now records)) (now coded) × (length (now coded) ≤ length (now bits)) × AllPacked (now records) ⌝ }
     ensures { λ r. ⌜ r ≡ asDone (blockQi qis (now (coded .entry)) (recordsOf (now (records .entry))) (now (packet .entry)) at) ⌝ }
-    ensures { λ r. ⌜ StoredRecords (now (records .exit)) (blockQi qis (now (coded .entry)) (recordsOf (now (records .entry))) (now (packet .entry)) at) ⌝ }
+    ensures { λ r. ⌜ StoredAs (map packed) (now (records .exit)) (blockQi qis (now (coded .entry)) (recordsOf (now (records .entry))) (now (packet .entry)) at) ⌝ }
 {
     let mut q: u32 = 0;
     let mut place = at;

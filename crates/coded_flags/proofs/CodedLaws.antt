@@ -4,7 +4,7 @@ use native.Mathlib.Omega.{arith}
 use native.Mathlib.Nat.{le-of-suc-le-suc, not-suc-le-zero}
 use mathlib.Core.Path.{_≡_, refl, sym, ap, _∙_, subst}
 use mathlib.Core.List.{List, [], _∷_, _++_}
-use mathlib.Core.Bool.{Bool, true, false}
+use mathlib.Core.Bool.{Bool, true, false, true≢false}
 use mathlib.Core.Logic.{_⊎_, inl, inr, ⊎-elim}
 use lib.Dec.{eqb}
 use lib.ListN.{length, getD, take, drop, set, replicate, length-append, length-drop, length-set, length-replicate, getD-replicate, List·getD-append}
@@ -12,7 +12,7 @@ use lib.Seq.{getD-set-same, getD-set-other, getD-append-add, getD-take, getD-dro
 use borrow.Author.Tests.{eq-eqb, ne-eqb, eqb-true, eqb-false}
 use Rattle.bitstream.specs.Reading.{choose}
 use Rattle.runs.specs.Lists.{All, none, one, AllBelow, Other, Once, empty, more}
-use Rattle.runs.proofs.ListLaws.{all-at, all-of, once-of}
+use Rattle.runs.proofs.ListLaws.{set-cases, all-at, all-of, once-of}
 use Rattle.geometry.specs.declared.PixelFormat.{PixelFormat}
 use Rattle.geometry.specs.declared.Block.{Block}
 use Rattle.geometry.specs.Sizes.{across, up, planeBlocks, blocksBefore, blocksOf}
@@ -29,7 +29,8 @@ use Rattle.block_record.proofs.MemoryLaws.{AllInRange, in-range-set, in-range-r
 use Rattle.geometry.specs.Raster.{rasterNumber}
 use Rattle.coded_flags.specs.Flags.{ones}
 use Rattle.coded_flags.specs.Coded.{order, flagged, codedBlocks, codedLuma, nowCoded, setAt, codedRecords}
-use Rattle.coded_flags.proofs.Listing.{order-length, order-at, order-small}
+use Rattle.coded_flags.proofs.Listing.{order-length, order-at, order-small, set-at-length}
+use Rattle.coded_flags.proofs.Spread.{ones-most}
 
 -- ---- those that are flagged
 kept-all : {P : ℕ → Type 0} (x : ℕ) (l : List ℕ) (t : Bool) → P x → All P l → All P (choose t (x ∷ l) l)
@@ -75,25 +76,31 @@ flagged-misses (g ∷ flags) (suc i) (more {x} {l} a o) hb e =
 
 -- ---- a value set at some places of a list
 module _ {A : Type 0} (v d : A) where
-  set-at-keeps : (ns : List ℕ) (l : List A) (n : ℕ) → n < length l → getD l n d ≡ v → getD (setAt v ns l) n d ≡ v
+  set-at-all : (P : A → Type 0) (ns : List ℕ) (l : List A) (n : ℕ) → P v → P (getD l n d) → P (getD (setAt v ns l) n d)
   unfolding setAt
-  set-at-keeps [] l n h e = e
-  set-at-keeps (m ∷ ns) l n h e = set-at-keeps ns (set l m v) n (rw length-set h) (go (eqb m n) refl)
-    where
-      go : (t : Bool) → eqb m n ≡ t → getD (set l m v) n d ≡ v
-      go true q = let z : m ≡ n = eqb-true m n q in ap (λ (k : ℕ). getD (set l k v) n d) z ∙ getD-set-same l n v d h
-      go false q = getD-set-other l m n v d (λ z. eqb-false m n q (sym z)) ∙ e
+  set-at-all P [] l n new old = old
+  set-at-all P (m ∷ ns) l n new old = set-at-all P ns (set l m v) n new (set-cases P l m n v d (λ _. new) old)
 
   set-at-hit : (ns : List ℕ) (l : List A) (k : ℕ) → k < length ns → getD ns k 0 < length l → getD (setAt v ns l) (getD ns k 0) d ≡ v
   unfolding setAt
   set-at-hit [] l k h r = absurd (not-suc-le-zero h)
-  set-at-hit (n ∷ ns) l zero h r = set-at-keeps ns (set l n v) n (rw length-set r) (getD-set-same l n v d r)
+  set-at-hit (n ∷ ns) l zero h r = set-at-all (λ x. x ≡ v) ns (set l n v) n refl (getD-set-same l n v d r)
   set-at-hit (n ∷ ns) l (suc k) h r = set-at-hit ns (set l n v) k (le-of-suc-le-suc h) (rw length-set r)
 
   set-at-miss : {ns : List ℕ} (l : List A) (n : ℕ) → All (Other n) ns → getD (setAt v ns l) n d ≡ getD l n d
   unfolding setAt
   set-at-miss l n none = refl
   set-at-miss l n (one {x} h a) = set-at-miss (set l x v) n a ∙ getD-set-other l x n v d h
+
+-- a number stands in a list, or every number there is another
+stands : (n : ℕ) (l : List ℕ) → ((k : ℕ) × (k < length l) × (getD l k 0 ≡ n)) ⊎ All (Other n) l
+stands n [] = inr none
+stands n (x ∷ l) = go (eqb n x) refl (stands n l)
+  where
+    go : (t : Bool) → eqb n x ≡ t → ((k : ℕ) × (k < length l) × (getD l k 0 ≡ n)) ⊎ All (Other n) l → ((k : ℕ) × (k < suc (length l)) × (getD (x ∷ l) k 0 ≡ n)) ⊎ All (Other n) (x ∷ l)
+    go true t r = inl (0, omega arith, sym (eqb-true n x t))
+    go false t (inl r) = inl (suc (r .0), omega (arith, r .1), r .2)
+    go false t (inr a) = inr (one (eqb-false n x t) a)
 
 -- ---- the flagged of two parts
 flagged-split : (n : ℕ) (bs flags : List ℕ) → flagged bs flags ≡ flagged (take n bs) (take n flags) ++ flagged (drop n bs) (drop n flags)
@@ -181,10 +188,42 @@ module _ (f : PixelFormat) (w h : ℕ) where
     unfolding codedBlocks
     coded-below = flagged-all flags (all-of (order f w h) (λ i l. order-small f w h i (omega (arith, order-length f w h))))
 
+    -- the record of a coded block says so, and a block whose record says so is one of them
+    pub coded-is : (k : ℕ) → k < length (codedBlocks f w h flags) → getD (codedRecords f w h flags) (getD (codedBlocks f w h flags) k 0) uncoded ≡ nowCoded
+    unfolding codedRecords
+    coded-is k l = set-at-hit nowCoded uncoded (codedBlocks f w h flags) (replicate (blocksOf f w h) uncoded) k l (omega (arith, length-replicate (blocksOf f w h) uncoded, all-at k coded-below l))
+
+    pub coded-every : (n : ℕ) → n < blocksOf f w h → getD (codedRecords f w h flags) n uncoded .coded ≡ true
+        → (k : ℕ) × (k < length (codedBlocks f w h flags)) × (getD (codedBlocks f w h flags) k 0 ≡ n)
+    unfolding codedRecords
+    coded-every n l c = ⊎-elim (λ there. there) (λ other. absurd (go other)) (stands n (codedBlocks f w h flags))
+      where
+        go : All (Other n) (codedBlocks f w h flags) → ⊥
+        go other =
+            let z = set-at-miss nowCoded uncoded (replicate (blocksOf f w h) uncoded) n other ∙ getD-replicate (blocksOf f w h) n uncoded uncoded l in
+            true≢false (sym c ∙ ap (λ (r : BlockRecord). r .coded) z)
+
+    -- nothing else is known yet of any block
+    pub records-all : (P : BlockRecord → Type 0) → P nowCoded → P uncoded → (n : ℕ) → P (getD (codedRecords f w h flags) n uncoded)
+    unfolding codedRecords
+    records-all P new old n = set-at-all nowCoded uncoded P (codedBlocks f w h flags) (replicate (blocksOf f w h) uncoded) n new (go (blocksOf f w h) n)
+      where
+        go : (k n : ℕ) → P (getD (replicate k uncoded) n uncoded)
+        go zero n = old
+        go (suc k) zero = old
+        go (suc k) (suc n) = go k n
+
+    pub records-length : length (codedRecords f w h flags) ≡ blocksOf f w h
+    unfolding codedRecords
+    records-length = set-at-length nowCoded (codedBlocks f w h flags) (replicate (blocksOf f w h) uncoded) ∙ length-replicate (blocksOf f w h) uncoded
+
     module _ (full : length flags ≡ blocksOf f w h) where
       pub coded-length : length (codedBlocks f w h flags) ≡ ones flags
       unfolding codedBlocks
       coded-length = flagged-length (order f w h) flags (omega (arith, order-length f w h))
+
+      pub coded-most : length (codedBlocks f w h flags) ≤ blocksOf f w h
+      coded-most = omega (arith, coded-length, ones-most flags)
 
       -- a block's record says what its flag says
       pub record-of : (i : ℕ) → i < blocksOf f w h → getD (codedRecords f w h flags) (getD (order f w h) i 0) uncoded ≡ choose (eqb (getD flags i 0) 1) nowCoded uncoded
@@ -233,6 +272,9 @@ module _ (f : PixelFormat) (w h : ℕ) where
       split : codedBlocks f w h flags ≡ first ++ others
       unfolding codedBlocks
       split = flagged-split lumaBlocks (order f w h) flags
+
+      pub luma-most : codedLuma f w h flags ≤ length (codedBlocks f w h flags)
+      luma-most = omega (arith, first-length, ap length split, length-append first others)
 
       pub luma-first : (k : ℕ) → k < codedLuma f w h flags → getD (codedBlocks f w h flags) k 0 < lumaBlocks
       luma-first k l = rw (split, List·getD-append first others 0 k (omega (arith, first-length))) (all-at k first-luma (omega (arith, first-length)))

@@ -37,7 +37,7 @@ map-set g [] i v = refl
 map-set g (x ∷ l) zero v = refl
 map-set g (x ∷ l) (suc i) v = ap (λ (m : List ℕ). g x ∷ m) (map-set g l i v)
 
-map-replicate : {A : Type 0} (g : A → ℕ) (n : ℕ) (v : A) → map g (replicate n v) ≡ replicate n (g v)
+pub map-replicate : {A : Type 0} (g : A → ℕ) (n : ℕ) (v : A) → map g (replicate n v) ≡ replicate n (g v)
 map-replicate g zero v = refl
 map-replicate g (suc n) v = ap (λ (m : List ℕ). g v ∷ m) (map-replicate g n v)
 

@@ -1,22 +1,25 @@
 // A frame packet, read to its end into work memory. Work memory is all zero before; afterwards it holds what was read, or, after a refusal, is all zero.
-use coded_flags::Listed;
 use frame_header::Header;
 use frame_header::Kind;
 use geometry::PixelFormat;
 use runs::Done;
 use tokens::Counted;
 ghost use mathlib.Core.Path.{_≡_};
-ghost use mathlib.Core.List.{_++_, map};
-ghost use Prim.Native.Nat.{ℕ, _+_, _-_, _*_, _≤_, _<_, _^_};
+ghost use mathlib.Core.List.{map};
+ghost use Prim.Native.Nat.{_-_, _*_, _≤_, _^_};
 ghost use lib.IntN.{pos};
-ghost use lib.ListN.{length, take, drop, replicate};
-ghost use Rattle.bitstream.specs.Reading.{choose};
+ghost use lib.ListN.{length, drop, replicate};
+ghost use Rattle.bitstream.specs.Reading.{bind, got, refused, choose};
 ghost use Rattle.geometry.specs.Sizes.{blocksOf, superBlocksOf, macroBlocksOf};
+ghost use Rattle.runs.specs.Lists.{AllBelow, Once};
+ghost use Rattle.runs.specs.Runs.{asDone, StoredAs, Stored};
+ghost use Rattle.block_record.specs.Packed.{packed};
 ghost use Rattle.block_record.specs.Memory.{AllPacked, recordsOf};
-ghost use Rattle.runs.specs.Runs.{asDone, Stored};
-ghost use Rattle.tokens.specs.Answer.{Tables, treesOf};
-ghost use Rattle.frame_packet.specs.Frame.{flagsOf, predictions, body, framePacket};
-ghost use Rattle.frame_packet.specs.Work.{Work, clear, workAfter, asFrame};
+ghost use Rattle.block_qi.specs.BlockQi.{blockQi};
+ghost use Rattle.tokens.specs.Tokens.{readTokens};
+ghost use Rattle.tokens.specs.Answer.{Tables, treesOf, asCounted};
+ghost use Rattle.frame_packet.specs.Frame.{flagsOf, predictions, body, repeated, framePacket};
+ghost use Rattle.frame_packet.specs.Work.{work, clear, asCoded, StoredCoded, StoredTokens, Left, asRead, asFrame, workAfter};
 
 // The numbers of coded blocks and of tokens, and the place behind the packet; or the refusal.
 pub enum Read {
@@ -28,6 +31,12 @@ pub enum Read {
 pub struct FrameRead {
     pub read: Read,
     pub header: Header,
+}
+
+// The numbers of coded blocks and of coded luma blocks, and the place behind the flags; or the refusal.
+enum CodedRead {
+    Listed(usize, usize, usize),
+    Refused(u32, usize),
 }
 
 // The coded flags of a frame, in coded order. `supers` and `bits` are scratch.
@@ -55,6 +64,35 @@ fn read_flags(
     }
 }
 
+// The flags, and from them the list of the coded blocks and the records of all.
+fn read_coded(
+    packet: &[u8],
+    at: usize,
+    kind: Kind,
+    format: PixelFormat,
+    w: u64,
+    h: u64,
+    supers: &mut [u8],
+    bits: &mut [u8],
+    flags: &mut [u8],
+    records: &mut [u32],
+    coded: &mut [u64],
+) -> CodedRead
+    requires { ⌜ (length (now packet) ≤ 2 ^ 58) × (w ≤ 65535) × (h ≤ 65535) × (length (now supers) ≡ 2 * superBlocksOf format w h) × (length (now bits) ≡ blocksOf format w h) × (length (now flags) ≡ blocksOf format w h) ⌝ }
+    requires { ⌜ (now records ≡ replicate (blocksOf format w h) 0) × (now coded ≡ replicate (blocksOf format w h) 0) ⌝ }
+    ensures { λ r. ⌜ r ≡ asCoded format w h (flagsOf format w h kind (now (packet .entry)) at) ⌝ }
+    ensures { λ r. ⌜ StoredCoded format w h (now (flags .exit)) (now (records .exit)) (now (coded .exit)) (flagsOf format w h kind (now (packet .entry)) at) ⌝ }
+{
+    let done = read_flags(packet, at, kind, format, w, h, supers, bits, flags);
+    match done {
+        Done::Refused(k, e) => CodedRead::Refused(k, e),
+        Done::At(place) => {
+            let listed = coded_flags::list_coded(format, w, h, flags, records, coded);
+            CodedRead::Listed(listed.count, listed.luma, place)
+        }
+    }
+}
+
 // The predictions of a frame's coded blocks, into their records. `modes` is scratch.
 fn read_predictions(
     packet: &[u8],
@@ -69,7 +107,7 @@ fn read_predictions(
 ) -> Done
     requires { ⌜ (length (now packet) ≤ 2 ^ 58) × (w ≤ 65535) × (h ≤ 65535) × (length (now flags) ≡ blocksOf format w h) × (length (now modes) ≡ macroBlocksOf w h) × (length (now records) ≡ blocksOf format w h) × AllPacked (now records) ⌝ }
     ensures { λ r. ⌜ r ≡ asDone (predictions format w h kind (now (flags .entry)) (recordsOf (now (records .entry))) (now (packet .entry)) at) ⌝ }
-    ensures { λ r. ⌜ StoredRecords (now (records .exit)) (predictions format w h kind (now (flags .entry)) (recordsOf (now (records .entry))) (now (packet .entry)) at) ⌝ }
+    ensures { λ r. ⌜ StoredAs (map packed) (now (records .exit)) (predictions format w h kind (now (flags .entry)) (recordsOf (now (records .entry))) (now (packet .entry)) at) ⌝ }
 {
     match kind {
         Kind::Intra => Done::At(at),
@@ -81,6 +119,55 @@ fn read_predictions(
             }
         }
     }
+}
+
+// The predictions, and then the qi indices, of the coded blocks. `bits` and `modes` are scratch.
+fn read_records(
+    packet: &[u8],
+    at: usize,
+    kind: Kind,
+    qis: u32,
+    format: PixelFormat,
+    w: u64,
+    h: u64,
+    flags: &[u8],
+    coded: &[u64],
+    bits: &mut [u8],
+    modes: &mut [u8],
+    records: &mut [u32],
+) -> Done
+    requires { ⌜ (length (now packet) ≤ 2 ^ 58) × (w ≤ 65535) × (h ≤ 65535) × (length (now flags) ≡ blocksOf format w h) × (length (now modes) ≡ macroBlocksOf w h) × (length (now records) ≡ blocksOf format w h) × AllPacked (now records) ⌝ }
+    requires { ⌜ (qis ≤ 3) × Once (now coded) × AllBelow (blocksOf format w h) (now coded) × (length (now coded) ≤ length (now bits)) ⌝ }
+    ensures { λ r. ⌜ r ≡ asDone (bind (predictions format w h kind (now (flags .entry)) (recordsOf (now (records .entry)))) (blockQi qis (now (coded .entry))) (now (packet .entry)) at) ⌝ }
+    ensures { λ r. ⌜ StoredAs (map packed) (now (records .exit)) (bind (predictions format w h kind (now (flags .entry)) (recordsOf (now (records .entry)))) (blockQi qis (now (coded .entry))) (now (packet .entry)) at) ⌝ }
+{
+    let done = read_predictions(packet, at, kind, format, w, h, flags, modes, records);
+    match done {
+        Done::Refused(k, e) => Done::Refused(k, e),
+        Done::At(next) => block_qi::read_block_qi(packet, next, qis, coded, bits, records),
+    }
+}
+
+// The coefficients and the last visits of the coded blocks. `bits`, which may hold anything, serves for the blocks' positions.
+fn read_coefs(
+    packet: &[u8],
+    at: usize,
+    nodes: &[u8],
+    luma: usize,
+    count: usize,
+    coefs: &mut [i16],
+    lasts: &mut [u8],
+    bits: &mut [u8],
+    active: &mut [u64],
+) -> Counted
+    requires { ⌜ (length (now packet) ≤ 2 ^ 58) × Tables (now nodes) × (luma ≤ count) × (count ≤ length (now bits)) × (length (now bits) ≤ 2 ^ 36) ⌝ }
+    requires { ⌜ (now coefs ≡ replicate (64 * length (now bits)) (pos 0)) × (now lasts ≡ replicate (length (now bits)) 0) × (now active ≡ replicate (length (now bits)) 0) ⌝ }
+    ensures { λ r. ⌜ r ≡ asCounted (readTokens (treesOf (now (nodes .entry))) luma count (now (packet .entry)) at) ⌝ }
+    ensures { λ r. ⌜ StoredTokens (length (now (bits .entry))) count (now (coefs .exit)) (now (lasts .exit)) (now (bits .exit)) (now (active .exit)) (readTokens (treesOf (now (nodes .entry))) luma count (now (packet .entry)) at) ⌝ }
+{
+    let all = bits.len();
+    buffer::clear_bytes(bits, all);
+    tokens::read_tokens(packet, at, nodes, luma, count, bits, lasts, coefs, active)
 }
 
 // What stands behind the header. After a refusal the slices may hold anything; else what was read, and the scratch may hold anything but for zeros
@@ -106,32 +193,126 @@ fn read_body(
 ) -> Read
     requires { ⌜ (length (now packet) ≤ 2 ^ 58) × (w ≤ 65535) × (h ≤ 65535) × (qis ≤ 3) × Tables (now nodes) × (work (now records) (now coded) (now coefs) (now lasts) (now flags) (now bits) (now supers) (now modes) (now active) ≡ clear format w h) ⌝ }
     ensures { λ r. ⌜ r ≡ asRead (body format w h (treesOf (now (nodes .entry))) kind qis (now (packet .entry)) at) ⌝ }
+    ensures { λ r. ⌜ Left format w h (work (now (records .exit)) (now (coded .exit)) (now (coefs .exit)) (now (lasts .exit)) (now (flags .exit)) (now (bits .exit)) (now (supers .exit)) (now (modes .exit)) (now (active .exit))) (body format w h (treesOf (now (nodes .entry))) kind qis (now (packet .entry)) at) ⌝ }
 {
-    let flagged = read_flags(packet, at, kind, format, w, h, supers, bits, flags);
-    let a = match flagged {
-        Done::Refused(k, e) => return Read::Refused(k, e),
-        Done::At(place) => place,
-    };
-    let listed = coded_flags::list_coded(format, w, h, flags, records, coded);
-    let count = listed.count;
-    let predicted = read_predictions(packet, a, kind, format, w, h, flags, modes, records);
-    let b = match predicted {
-        Done::Refused(k, e) => return Read::Refused(k, e),
-        Done::At(place) => place,
-    };
-    let indexed = block_qi::read_block_qi(packet, b, qis, &coded[..count], bits, records);
-    let c = match indexed {
-        Done::Refused(k, e) => return Read::Refused(k, e),
-        Done::At(place) => place,
-    };
-    // from here on `bits` holds the positions of the coded blocks
-    let all = bits.len();
-    buffer::clear_bytes(bits, all);
-    let given = tokens::read_tokens(packet, c, nodes, listed.luma, count, bits, lasts, coefs, active);
-    match given {
-        Counted::Refused(k, e) => Read::Refused(k, e),
-        Counted::Done(end, number) => Read::Whole(count, number, end),
+    let first = read_coded(
+        packet,
+        at,
+        kind,
+        format,
+        w,
+        h,
+        supers,
+        bits,
+        flags,
+        records,
+        coded,
+    );
+    match first {
+        CodedRead::Refused(k, e) => Read::Refused(k, e),
+        CodedRead::Listed(count, luma, place) => {
+            let done = read_records(
+                packet,
+                place,
+                kind,
+                qis,
+                format,
+                w,
+                h,
+                flags,
+                &coded[..count],
+                bits,
+                modes,
+                records,
+            );
+            match done {
+                Done::Refused(k, e) => Read::Refused(k, e),
+                Done::At(next) => {
+                    let given = read_coefs(
+                        packet,
+                        next,
+                        nodes,
+                        luma,
+                        count,
+                        coefs,
+                        lasts,
+                        bits,
+                        active,
+                    );
+                    match given {
+                        Counted::Refused(k, e) => Read::Refused(k, e),
+                        Counted::Done(end, number) => Read::Whole(count, number, end),
+                    }
+                }
+            }
+        }
     }
+}
+
+// The slices that hold what was read.
+pub fn clear_read(records: &mut [u32], coded: &mut [u64], coefs: &mut [i16], lasts: &mut [u8])
+    ensures { λ _. ⌜ (now (records .exit) ≡ replicate (length (now (records .entry))) 0) × (now (coded .exit) ≡ replicate (length (now (coded .entry))) 0) × (now (coefs .exit) ≡ replicate (length (now (coefs .entry))) (pos 0)) × (now (lasts .exit) ≡ replicate (length (now (lasts .entry))) 0) ⌝ }
+{
+    let blocks = records.len();
+    buffer::clear_words(records, blocks);
+    let numbers = coded.len();
+    buffer::clear_longs(coded, numbers);
+    let values = coefs.len();
+    buffer::clear_shorts(coefs, values);
+    let visits = lasts.len();
+    buffer::clear_bytes(lasts, visits);
+}
+
+// The other slices. Behind the first `count` of `bits` and of `active` there is nothing to clear.
+pub fn clear_scratch(
+    count: usize,
+    flags: &mut [u8],
+    bits: &mut [u8],
+    supers: &mut [u8],
+    modes: &mut [u8],
+    active: &mut [u64],
+)
+    requires { ⌜ (count ≤ length (now bits)) × (drop count (now bits) ≡ replicate (length (now bits) - count) 0) × (count ≤ length (now active)) × (drop count (now active) ≡ replicate (length (now active) - count) 0) ⌝ }
+    ensures { λ _. ⌜ (now (flags .exit) ≡ replicate (length (now (flags .entry))) 0) × (now (bits .exit) ≡ replicate (length (now (bits .entry))) 0) × (now (supers .exit) ≡ replicate (length (now (supers .entry))) 0) × (now (modes .exit) ≡ replicate (length (now (modes .entry))) 0) × (now (active .exit) ≡ replicate (length (now (active .entry))) 0) ⌝ }
+{
+    let blocks = flags.len();
+    buffer::clear_bytes(flags, blocks);
+    buffer::clear_bytes(bits, count);
+    let strings = supers.len();
+    buffer::clear_bytes(supers, strings);
+    let macros = modes.len();
+    buffer::clear_bytes(modes, macros);
+    buffer::clear_longs(active, count);
+}
+
+fn refusal(k: u32, e: usize) -> FrameRead
+    ensures { λ r. ⌜ r ≡ asFrame (refused k e) ⌝ }
+{
+    FrameRead {
+        read: Read::Refused(k, e),
+        header: Header {
+            kind: Kind::Repeat,
+            qis: [0, 0, 0],
+            count: 0,
+        },
+    }
+}
+
+// An empty packet.
+fn read_empty(references: bool, format: PixelFormat, w: u64, h: u64) -> FrameRead
+    ensures { λ r. ⌜ r ≡ asFrame (choose references (got (repeated format w h) 0) (refused 9 0)) ⌝ }
+{
+    if references {
+        return FrameRead {
+            read: Read::Whole(0, 0, 0),
+            header: Header {
+                kind: Kind::Repeat,
+                qis: [0, 0, 0],
+                count: 0,
+            },
+        };
+    }
+    refusal(9, 0)
 }
 
 // A frame packet, read to its end.
@@ -157,8 +338,50 @@ pub fn read_frame(
     ensures { λ r. ⌜ work (now (records .exit)) (now (coded .exit)) (now (coefs .exit)) (now (lasts .exit)) (now (flags .exit)) (now (bits .exit)) (now (supers .exit)) (now (modes .exit)) (now (active .exit)) ≡ workAfter format w h (framePacket format w h (treesOf (now (nodes .entry))) references (now (packet .entry))) ⌝ }
 {
     if packet.len() == 0 {
-        return read_empty(references);
+        return read_empty(references, format, w, h);
     }
     let head = frame_header::read_header(packet, references);
-    ..
+    let done = head.done;
+    match done {
+        Done::Refused(k, e) => refusal(k, e),
+        Done::At(at) => {
+            let header = head.header;
+            let kind = header.kind;
+            let qis = header.count;
+            let read = read_body(
+                packet,
+                at,
+                kind,
+                qis as u32,
+                nodes,
+                format,
+                w,
+                h,
+                records,
+                coded,
+                coefs,
+                lasts,
+                flags,
+                bits,
+                supers,
+                modes,
+                active,
+            );
+            match read {
+                Read::Refused(k, e) => {
+                    clear_read(records, coded, coefs, lasts);
+                    let all = bits.len();
+                    clear_scratch(all, flags, bits, supers, modes, active);
+                    refusal(k, e)
+                }
+                Read::Whole(count, _, _) => {
+                    clear_scratch(count, flags, bits, supers, modes, active);
+                    FrameRead {
+                        read: read,
+                        header: header,
+                    }
+                }
+            }
+        }
+    }
 }

@@ -37,10 +37,6 @@ pub minus-ok : (z : ℤ) → ltZ z (pos 0) ≡ true → T (nonNeg (pos 0 -ℤ z)
 minus-ok (pos n) e = absurd (let h = ltb-true n 0 e in omega arith)
 minus-ok (negsuc n) e = tt
 
-pub plus-ok : (z : ℤ) → ltZ z (pos 0) ≡ false → T (nonNeg z)
-plus-ok (pos n) e = tt
-plus-ok (negsuc n) e = absurd (subst T e tt)
-
 pub minus-abs : (z : ℤ) → natAbs (pos 0 -ℤ z) ≡ natAbs z
 minus-abs z = ap natAbs (+ℤ-idl (negℤ z)) ∙ abs-neg z
 

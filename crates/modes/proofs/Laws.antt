@@ -1,11 +1,13 @@
--- The modes keep the reading algebra's laws. Assumes nothing.
+-- The modes keep the reading algebra's laws, and there is one for each macro block. Assumes nothing.
 use Prim.Native.Nat.{ℕ, zero, suc, _+_, _*_}
 use native.Mathlib.Omega.{arith}
 use native.Mathlib.Nat.{zero-mul, suc-mul}
+use mathlib.Core.Path.{_≡_, ap}
 use mathlib.Core.List.{List, [], _∷_, _++_}
 use lib.Dec.{eqb}
-use lib.ListN.{set, replicate}
-use Rattle.bitstream.proofs.Laws.{Lawful, pure-lawful, pick-lawful, bind-lawful, field-lawful, whole-lawful}
+use lib.ListN.{length, set, replicate, length-append}
+use Rattle.bitstream.specs.Reading.{got, bind, field}
+use Rattle.bitstream.proofs.Laws.{Lawful, pure-lawful, pick-lawful, bind-lawful, field-lawful, whole-lawful, bind-got}
 use Rattle.bitstream.proofs.Spends.{Spends, spends-more, pure-spends, field-spends, bind-spends, pick-spends, whole-spends}
 use Rattle.runs.proofs.Laws.{rank-lawful, rank-spends}
 use Rattle.modes.specs.Modes.{ranksFrom, sentAlphabet, mode, lumaCoded, modeOf, modesFrom, macroModes}
@@ -60,3 +62,18 @@ pub macroModes-spends : (flags : List ℕ) (n : ℕ) → Spends (27 + n * 7) (ma
 unfolding macroModes
 macroModes-spends flags n =
     spends-more (omega arith) (bind-spends (field-spends 3) (λ s. bind-spends (sent-spends s) (λ alphabet. modes-spends s alphabet flags n 0 [])))
+
+-- ---- a mode for each macro block
+from-length : (scheme : ℕ) (alphabet flags : List ℕ) (n m : ℕ) (done p : List ℕ) (i : ℕ) {modes : List ℕ} {e : ℕ} → modesFrom scheme alphabet flags n m done p i ≡ got modes e → length modes ≡ length done + n
+unfolding modesFrom
+from-length scheme alphabet flags zero m done p i {modes} g = let z : done ≡ modes = cc in omega (arith, ap length z)
+from-length scheme alphabet flags (suc n) m done p i g =
+    let u = bind-got (modeOf scheme alphabet flags m) (λ v. modesFrom scheme alphabet flags n (m + 1) (done ++ v ∷ [])) p i g in
+    omega (arith, from-length scheme alphabet flags n (m + 1) (done ++ u .0 ∷ []) p (u .1) (u .3), length-append done (u .0 ∷ []))
+
+pub macroModes-length : (flags : List ℕ) (n : ℕ) (p : List ℕ) (i : ℕ) {modes : List ℕ} {e : ℕ} → macroModes flags n p i ≡ got modes e → length modes ≡ n
+unfolding macroModes
+macroModes-length flags n p i g =
+    let u = bind-got (field 3) (λ s. bind (sentAlphabet s) (λ alphabet. modesFrom s alphabet flags n 0 [])) p i g in
+    let v = bind-got (sentAlphabet (u .0)) (λ alphabet. modesFrom (u .0) alphabet flags n 0 []) p (u .1) (u .3) in
+    omega (arith, from-length (u .0) (v .0) flags n 0 [] p (v .1) (v .3))

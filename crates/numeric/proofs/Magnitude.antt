@@ -8,7 +8,7 @@ use native.Mathlib.Omega.{arith}
 use borrow.Author.Tests.{lt-ltb, le-ltb, ltb-true}
 use lib.Dec.{T, ltb, leb, ltb→lt, leb→le, nltb→le}
 use lib.IntN.{ℤ, pos, negsuc, _+ℤ_, _-ℤ_, _*ℤ_, negℤ, natAbs, subℕ}
-use lib.Signed.{mag, quotZ, shrZ, ltZ}
+use lib.Signed.{mag, quotZ, shrZ, ltZ, nonNeg}
 use mir.Syntax.{Width}
 use mir.Val.{hbits, SFits}
 
@@ -37,6 +37,10 @@ neg-yes (negsuc n) e = (n, refl)
 pub neg-no : (z : ℤ) → ltZ z (pos 0) ≡ false → (n : ℕ) × (z ≡ pos n)
 neg-no (pos n) e = (n, refl)
 neg-no (negsuc n) e = absurd (subst T e tt)
+
+pub plus-ok : (z : ℤ) → ltZ z (pos 0) ≡ false → T (nonNeg z)
+plus-ok (pos n) e = tt
+plus-ok (negsuc n) e = absurd (subst T e tt)
 
 -- ---- the magnitude of a result
 

@@ -12,7 +12,7 @@ use lib.Dec.{T, leb}
 use lib.IntN.{ℤ, pos, negsuc, negℤ, natAbs, _+ℤ_, _-ℤ_}
 use lib.ListN.{length, getD, set, replicate, getD-replicate}
 use lib.Seq.{getD-set-same, getD-set-other}
-use lib.Signed.{ltZ, quotZ, nonNeg}
+use lib.Signed.{ltZ, quotZ}
 use Rattle.numeric.proofs.Linear.{parts-add, ext}
 use Rattle.numeric.proofs.Magnitude.{neg-yes, neg-no}
 use Rattle.geometry.specs.declared.PixelFormat.{PixelFormat}
@@ -54,9 +54,6 @@ quot-up-minus d k (pos n) e t = absurd (let h = ltb-true n 0 t in omega arith)
 quot-up-minus d k (negsuc n) e t = let h : suc (suc (n + k)) ≡ suc n + (d - 1) = omega arith in ap (λ (m : ℕ). negℤ (pos (m / d))) h
 
 -- ---- a number brought into a plane
-pub plus-ok : (z : ℤ) → ltZ z (pos 0) ≡ false → T (nonNeg z)
-plus-ok z e = subst (λ (v : ℤ). T (nonNeg v)) (sym (neg-no z e .1)) tt
-
 module _ (size : ℕ) (z : ℤ) where
   pub inside-below : ltZ z (pos 0) ≡ true → 0 ≡ inside size z
   unfolding inside

@@ -1,48 +1,26 @@
 -- The calls on a table memory, one law for each way that they go. Assumes nothing.
 use Prim.Native.Nat.{ℕ, _≤_, _<_}
-use native.Mathlib.Omega.{arith}
-use mathlib.Core.Path.{_≡_, refl, sym, ap, _∙_, subst}
+use mathlib.Core.Path.{_≡_, refl, sym, ap, _∙_}
 use mathlib.Core.List.{List}
-use mathlib.Core.Bool.{Bool, true, false, _&&_}
-use lib.Dec.{eqb, ltb}
+use mathlib.Core.Bool.{true, false, _&&_}
+use lib.Dec.{ltb}
 use lib.ListN.{length}
 use borrow.Author.Tests.{eq-eqb, ne-eqb, lt-ltb, le-ltb, ltb-true}
-use Rattle.bitstream.specs.Reading.{Outcome, got, refused, choose}
+use Rattle.bitstream.specs.Reading.{got}
 use Rattle.headers.proofs.Fitting.{and-both}
 use Rattle.matrices.specs.Matrix.{MatrixIs}
-use Rattle.quantization.specs.Sound.{Holds}
-use Rattle.setup.specs.Header.{Setup, setupHeader}
-use Rattle.setup.specs.Answer.{Stored, Loaded}
+use Rattle.setup.specs.Header.{Setup}
+use Rattle.setup.specs.Answer.{Loaded}
 use Rattle.setup.specs.Table.{tableBytes, heldSetup, asTable}
 use Rattle.setup.specs.declared.TableAnswer.{TableAnswer}
 use Rattle.setup.specs.declared.TableAnswer.the-variants.{Genuine, NotGenuine}
-use Rattle.table_memory.specs.Kept.{clearFrom}
-use Rattle.table_memory.specs.Genuine.{endsClear, genuine}
 use Rattle.tables.specs.Tables.{LimitIs}
-use Rattle.tables.proofs.Held.{holds-parameters, held-reads}
+use Rattle.tables.proofs.Held.{held-8, genuine-setup, genuine-held, genuine-stored, genuine-holds}
 use Rattle.queries.specs.Found as found
 use Rattle.queries.specs.Found.{Found, is, absent}
 use Rattle.queries.specs.Setup.{onTable, tableLimit, hasMatrix, tableMatrix, matrixInto, asMatrix, leaving}
 
--- ---- what the loader's answer says
-pub held-setup : (o : Outcome Setup) {r : TableAnswer} {m : ℕ} → r ≡ asTable o → r ≡ Genuine m → (s : Setup) × (e : ℕ) × (o ≡ got s e) × (s .parameters .matricesAt ≡ m)
-held-setup (got s d) a h = (s, d, refl, cc)
-held-setup (refused k d) a h = let z : _≡_ {A = ℕ} 0 1 = cc in absurd (omega arith)
-
--- a memory that is not genuine is refused by 8 alone
-held-8 : (t : List ℕ) → NotGenuine ≡ asTable (heldSetup t) → heldSetup t ≡ refused 8 0
-unfolding heldSetup genuine
-held-8 t a = go (eqb (length t) tableBytes) (setupHeader t 0) a
-  where
-    ends : (b : Bool) (s : Setup) (e : ℕ) → NotGenuine ≡ asTable (choose b (got s e) (refused 8 0)) → choose b (got s e) (refused 8 0) ≡ refused 8 0
-    ends true s e h = let z : _≡_ {A = ℕ} 0 1 = cc in absurd (omega arith)
-    ends false s e h = refl
-
-    go : (b : Bool) (o : Outcome Setup) → NotGenuine ≡ asTable (choose (b && endsClear t o) o (refused 8 0)) → choose (b && endsClear t o) o (refused 8 0) ≡ refused 8 0
-    go false o h = refl
-    go true (got s e) h = ends (clearFrom t e) s e h
-    go true (refused k e) h = refl
-
+-- ---- by the setup that a table memory holds
 module _ {A : Type 0} (t : List ℕ) (f : Setup → Found A) where
   other-length : (length t ≡ tableBytes → ⊥) → onTable t f ≡ found.refused 1
   unfolding onTable
@@ -50,7 +28,7 @@ module _ {A : Type 0} (t : List ℕ) (f : Setup → Found A) where
 
   on-other : length t ≡ tableBytes → {r : TableAnswer} → r ≡ asTable (heldSetup t) → r ≡ NotGenuine → onTable t f ≡ found.refused 8
   unfolding onTable
-  on-other h a e = rw (eq-eqb _ _ h, held-8 t (sym e ∙ a))
+  on-other h a e = rw (eq-eqb _ _ h, held-8 t a e)
 
   on-held : length t ≡ tableBytes → {s : Setup} {e : ℕ} → heldSetup t ≡ got s e → onTable t f ≡ f s
   unfolding onTable
@@ -76,36 +54,22 @@ module _ (t : List ℕ) where
 
 -- ---- a memory that is genuine, and what the slices hold
 module _ (t : List ℕ) {r : TableAnswer} {m : ℕ} (a : r ≡ asTable (heldSetup t)) (g : r ≡ Genuine m) where
-  abbrev s : Setup
-  s = held-setup (heldSetup t) a g .0
-
-  held : heldSetup t ≡ got s (held-setup (heldSetup t) a g .1)
-  held = held-setup (heldSetup t) a g .2
-
   pub limit-absent : (qi : ℕ) → length t ≡ tableBytes → 64 ≤ qi → tableLimit t qi ≡ absent
   unfolding tableLimit
-  limit-absent qi h q = on-held t _ h held ∙ rw (le-ltb _ _ q)
+  limit-absent qi h q = on-held t _ h (genuine-held t a g) ∙ rw (le-ltb _ _ q)
 
   pub matrix-absent : (type plane qi : ℕ) → length t ≡ tableBytes → hasMatrix type plane qi ≡ false → tableMatrix t type plane qi ≡ absent
   unfolding tableMatrix
-  matrix-absent type plane qi h q = on-held t _ h held ∙ rw q
+  matrix-absent type plane qi h q = on-held t _ h (genuine-held t a g) ∙ rw q
 
   module _ (limits ac dc sizes indices nodes : List ℕ) (l : Loaded (heldSetup t) limits ac dc sizes indices nodes) where
-    stored : Stored s limits ac dc sizes indices nodes
-    stored = subst (λ (o : Outcome Setup). Loaded o limits ac dc sizes indices nodes) held l
-
-    pub holds : Holds (s .parameters) t m ac dc sizes indices
-    holds =
-        subst (λ (n : ℕ). Holds (s .parameters) t n ac dc sizes indices) (held-setup (heldSetup t) a g .3)
-        (holds-parameters t (held-reads t held) limits ac dc sizes indices nodes stored)
-
     pub limit-is : (qi n : ℕ) → length t ≡ tableBytes → qi < 64 → LimitIs limits qi n → tableLimit t qi ≡ is n
     unfolding tableLimit
-    limit-is qi n h q u = on-held t _ h held ∙ rw (lt-ltb _ _ q) (ap is (sym (u s (stored .limits-are))))
+    limit-is qi n h q u = on-held t _ h (genuine-held t a g) ∙ rw (lt-ltb _ _ q) (ap is (sym (u (genuine-setup t a g) (genuine-stored t a g limits ac dc sizes indices nodes l .limits-are))))
 
     pub matrix-is : (type plane qi : ℕ) (new : List ℕ) → length t ≡ tableBytes → hasMatrix type plane qi ≡ true → MatrixIs t m ac dc sizes indices type plane qi new → tableMatrix t type plane qi ≡ is new
     unfolding tableMatrix
-    matrix-is type plane qi new h q u = on-held t _ h held ∙ rw q (ap is (sym (u (s .parameters) holds)))
+    matrix-is type plane qi new h q u = on-held t _ h (genuine-held t a g) ∙ rw q (ap is (sym (u (genuine-setup t a g .parameters) (genuine-holds t a g limits ac dc sizes indices nodes l))))
 
 -- ---- the numbers of a matrix
 pub has-matrix : (type plane qi : ℕ) → hasMatrix type plane qi ≡ true → (type < 2) × (plane < 3) × (qi < 64)

@@ -1,9 +1,10 @@
 -- The coded blocks written over previous, in coded order, and then filtered: the frame of the first way.
 -- Assumes nothing.
-use mathlib.Core.Path.{_≡_, sym, ap, _∙_, fun-ext}
-use mathlib.Core.Bool.{Bool}
-use mathlib.Core.List.{List, map}
-use Prim.Native.Nat.{ℕ, _*_}
+use mathlib.Core.Path.{_≡_, refl, sym, ap, _∙_, subst, fun-ext}
+use mathlib.Core.Bool.{Bool, true, false, true≢false}
+use mathlib.Core.List.{List, [], _∷_, map}
+use Prim.Native.Nat.{ℕ, zero, suc, _*_, _<_}
+use native.Mathlib.Omega.{arith}
 use lib.IntN.{ℤ}
 use lib.ListN.{length, getD, take}
 use Rattle.geometry.specs.declared.PixelFormat.{PixelFormat}
@@ -17,14 +18,20 @@ use Rattle.block_record.specs.Record.{uncoded}
 use Rattle.block_record.proofs.Laws.{unpacked-at}
 use Rattle.loop_filter.specs.Filter.{filtered}
 use Rattle.loop_filter.specs.Flags.{codedAt, codedBy}
-use Rattle.ways.specs.Loops.{over}
+use Rattle.ways.specs.Loops.{_∈_, over}
 use Rattle.ways.specs.Raster.{blockNo}
 use Rattle.ways.specs.Ways.{Picture, filterAll, firstWay, writeBlock}
 use Rattle.ways.proofs.Corner.{write-at}
 use Rattle.ways.proofs.Where.{number-of-block}
-use Rattle.ways.proofs.Agree.{Coded, numbers-coded, any-order}
+use Rattle.ways.proofs.Agree.{Coded, numbers-coded, any-order, ways-agree, nothing-coded}
 use Rattle.reconstruct.specs.Picture.{Blocks, Matrices, recordOf, sampleOf, pictureOf}
 use Rattle.reconstruct.specs.Lent.{blocksIn, CodedBlocks, putBlock}
+
+-- a coded block has a record
+flag-below : (rs : List BlockRecord) (n : ℕ) → getD rs n uncoded .coded ≡ true → n < length rs
+flag-below [] n e = absurd (true≢false (sym e))
+flag-below (r ∷ rs) zero e = omega arith
+flag-below (r ∷ rs) (suc n) e = let l = flag-below rs n e in omega arith
 
 module _ (f : PixelFormat) (w h : ℕ) (bs : Blocks) (matrix : Matrices) (L : ℕ) (golden previous : List ℕ) where
   abbrev pic : Picture
@@ -59,6 +66,14 @@ module _ (f : PixelFormat) (w h : ℕ) (bs : Blocks) (matrix : Matrices) (L : �
       ap (λ (g : Block → List ℕ → List ℕ). filterAll f w h (pic .coded) (filtered L) (over (map (blockNo f w h) (bs .coded)) g previous)) e
       ∙ sym (filtered-is (over (map (blockNo f w h) (bs .coded)) (writeBlock f w h pic) previous))
       ∙ any-order f w h pic previous len (map (blockNo f w h) (bs .coded)) (all-coded all)
+
+  -- where no block is coded, previous is the frame
+  pub unchanged : CodedBlocks f w h bs → bs .coded ≡ [] → length (bs .records) ≡ blocksOf f w h → length previous ≡ 64 * blocksOf f w h → firstWay f w h pic previous ≡ previous
+  unchanged all none long len = ways-agree f w h pic previous len ∙ nothing-coded f w h pic previous (λ b. coded-is b ∙ go (rasterNumber f w h b) _ refl)
+    where
+      go : (n : ℕ) (t : Bool) → getD (bs .records) n uncoded .coded ≡ t → t ≡ false
+      go n false e = refl
+      go n true e = let l = flag-below (bs .records) n e in absurd (subst (λ (ns : List ℕ). n ∈ ns) none (all .every n (omega arith) e))
 
 -- with the records packed
 flag-is : (records : List ℕ) (n : ℕ) → codedAt records n ≡ getD (map unpacked records) n uncoded .coded

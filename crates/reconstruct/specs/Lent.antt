@@ -2,9 +2,9 @@
 use mathlib.Core.Path.{_≡_}
 use mathlib.Core.Bool.{true}
 use mathlib.Core.List.{List, map}
-use Prim.Native.Nat.{ℕ, _+_, _*_, _≤_, _<_}
-use lib.IntN.{ℤ}
-use lib.ListN.{length, getD, take, drop}
+use Prim.Native.Nat.{ℕ, _+_, _*_, _-_, _≤_, _<_}
+use lib.IntN.{ℤ, pos}
+use lib.ListN.{length, getD, take, drop, replicate}
 use Rattle.geometry.specs.declared.PixelFormat.{PixelFormat}
 use Rattle.geometry.specs.declared.Block.{Block}
 use Rattle.geometry.specs.Sizes.{across, blocksOf}
@@ -42,6 +42,12 @@ pub record Lent (f : PixelFormat) (w h : ℕ) (records coded : List ℕ) (count 
   pub lasts-long : count ≤ length lasts
   pub matrices-long : length matrices ≡ 1152
   pub blocks : CodedBlocks f w h (blocksIn records coded count coefs lasts)
+
+-- behind what is read of a frame the slices hold 0
+pub record ZerosBehind (coded : List ℕ) (count : ℕ) (coefs : List ℤ) (lasts : List ℕ) : Type 0 where
+  pub coded-behind : drop count coded ≡ replicate (length coded - count) 0
+  pub coefs-behind : drop (count * 64) coefs ≡ replicate (length coefs - count * 64) (pos 0)
+  pub lasts-behind : drop count lasts ≡ replicate (length lasts - count) 0
 
 -- all numbers of a list are below m
 abbrev pub Below : List ℕ → ℕ → Type 0

@@ -12,7 +12,7 @@ use borrow.Author.Tests.{le-leb, lt-leb, eq-eqb, ne-eqb}
 use Rattle.bitstream.specs.Reading.{Outcome, got, refused, Parse, bind, pure, pick, field, until}
 use Rattle.bitstream.proofs.Fields.{no-mix, field-lt}
 use Rattle.bitstream.proofs.Laws.{bind-got, whole-got, whole-refused, whole-cases}
-use Rattle.runs.specs.Runs.{rank, most, start, extra, runLength, run, Sent, nextBit, fresh, oneRun, complete, sent, bitString, asDone, Stored}
+use Rattle.runs.specs.Runs.{rank, most, start, extra, runLength, run, Sent, nextBit, fresh, oneRun, complete, sent, bitString, asDone, StoredAs, Stored}
 use Rattle.runs.specs.declared.RunCode.{RunCode}
 use Rattle.runs.specs.declared.RunCode.the-variants.{Long, Short}
 use Rattle.runs.specs.declared.Done.{Done}
@@ -236,9 +236,12 @@ module _ (code : RunCode) (p : List ℕ) (first n : ℕ) where
           )
 
 -- ---- what a return has to show
+pub on-refusal-as : {A : Type 0} (form : A → List ℕ) (out : List ℕ) (o : Outcome A) {k e : ℕ} → o ≡ refused k e → (Refused k e ≡ asDone o) × StoredAs form out o
+on-refusal-as form out o h = rw h (refl, tt)
+
 module _ (out : List ℕ) (o : Outcome (List ℕ)) where
   pub on-refusal : {k e : ℕ} → o ≡ refused k e → (Refused k e ≡ asDone o) × Stored out o
-  on-refusal h = rw h (refl, tt)
+  on-refusal h = on-refusal-as (λ (l : List ℕ). l) out o h
 
   pub on-string : {e : ℕ} → o ≡ got out e → (At e ≡ asDone o) × Stored out o
   on-string h = rw h (refl, refl)

@@ -6,7 +6,7 @@ use native.Mathlib.Numerals.{add-one}
 use mathlib.Core.Path.{_≡_, refl, sym, ap, _∙_, subst}
 use mathlib.Core.List.{List, [], _∷_, _++_}
 use lib.Dec.{eqb}
-use lib.ListN.{length, getD, take, drop, replicate}
+use lib.ListN.{length, getD, set, take, drop, replicate}
 use lib.Seq.{drop-cons, take-at}
 use borrow.Author.Tests.{eq-eqb, ne-eqb}
 use Rattle.bitstream.specs.Reading.{choose}
@@ -23,6 +23,14 @@ module _ {X : Type 0} (a b : ℕ) (x y : X) where
 -- what is left of a list, by its first
 pub drop-next : (l : List ℕ) (i : ℕ) → i < length l → drop i l ≡ getD l i 0 ∷ drop (i + 1) l
 drop-next l i h = drop-cons l i 0 h ∙ ap (λ (n : ℕ). getD l i 0 ∷ drop n l) (sym (add-one i))
+
+-- an element of a list in which one was set: the new one at its place, and else the old one
+pub set-cases : {A : Type 0} (P : A → Type 0) (l : List A) (b n : ℕ) (v d : A) → (b ≡ n → P v) → P (getD l n d) → P (getD (set l b v) n d)
+set-cases P [] b n v d new old = old
+set-cases P (x ∷ l) zero zero v d new old = new refl
+set-cases P (x ∷ l) zero (suc n) v d new old = old
+set-cases P (x ∷ l) (suc b) zero v d new old = old
+set-cases P (x ∷ l) (suc b) (suc n) v d new old = set-cases P l b n v d (λ e. new (ap suc e)) old
 
 -- the front of a list is as long as it was
 pub front-length : (q behind : List ℕ) (n : ℕ) → length q ≡ n → n ≡ length (take n (q ++ behind))

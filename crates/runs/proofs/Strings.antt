@@ -13,7 +13,7 @@ use Rattle.bitstream.proofs.Laws.{bind-got}
 use Rattle.runs.specs.declared.RunCode.{RunCode}
 use Rattle.runs.specs.declared.Done.{Done}
 use Rattle.runs.specs.declared.Done.the-variants.{At, Refused}
-use Rattle.runs.specs.Runs.{run, Sent, nextBit, fresh, oneRun, complete, sent, bitString, asDone, Stored}
+use Rattle.runs.specs.Runs.{run, Sent, nextBit, fresh, oneRun, complete, sent, bitString, asDone, StoredAs, Stored}
 use Rattle.runs.specs.Lists.{none, AllBelow}
 use Rattle.runs.proofs.Facts.{bit-most}
 use Rattle.runs.proofs.ListLaws.{all-append, all-replicate}
@@ -23,9 +23,12 @@ pub done-refused : {A : Type 0} (o : Outcome A) {r : Done} {k e : ℕ} → r ≡
 done-refused (got l d) s g = let z : _≡_ {A = ℕ} 0 1 = cc in absurd (omega arith)
 done-refused (refused j d) s g = cc
 
+pub done-at-as : {A : Type 0} (form : A → List ℕ) (o : Outcome A) (out : List ℕ) {r : Done} {e : ℕ} → r ≡ asDone o → StoredAs form out o → r ≡ At e → (a : A) × (o ≡ got a e) × (out ≡ form a)
+done-at-as form (got a d) out {r} {e} s t g = let z : At d ≡ At e = sym s ∙ g in (a, cc, t)
+done-at-as form (refused j d) out s t g = let z : _≡_ {A = ℕ} 0 1 = cc in absurd (omega arith)
+
 pub done-at : (o : Outcome (List ℕ)) (out : List ℕ) {r : Done} {e : ℕ} → r ≡ asDone o → Stored out o → r ≡ At e → o ≡ got out e
-done-at (got l d) out s t g = cc
-done-at (refused j d) out s t g = let z : _≡_ {A = ℕ} 0 1 = cc in absurd (omega arith)
+done-at o out s t g = let u = done-at-as (λ (l : List ℕ). l) o out s t g in rw (u .2) (u .1)
 
 -- ---- what every step keeps holds at the end, and so does the test
 until-keeps : {S : Type 0} (stop : S → Bool) (step : S → Parse S) (k : ℕ) (P : S → Type 0)

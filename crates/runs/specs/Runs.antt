@@ -84,7 +84,11 @@ abbrev pub asDone : {A : Type 0} → Outcome A → Done
 asDone (got a e) = At e
 asDone (refused k e) = Refused k e
 
--- what stands in the slice after an outcome; after a refusal that is open
+-- what stands in the slice after an outcome, for values that are kept in some form; after a refusal that is open
+abbrev pub StoredAs : {A : Type 0} → (A → List ℕ) → List ℕ → Outcome A → Type 0
+StoredAs form out (got a e) = out ≡ form a
+StoredAs form out (refused k e) = Unit {0}
+
+-- the same for the list itself
 abbrev pub Stored : List ℕ → Outcome (List ℕ) → Type 0
-Stored out (got l e) = out ≡ l
-Stored out (refused k e) = Unit {0}
+Stored out o = StoredAs (λ (l : List ℕ). l) out o

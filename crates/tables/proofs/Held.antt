@@ -1,12 +1,14 @@
 -- What a loaded setup holds. Assumes nothing.
-use Prim.Native.Nat.{ℕ, zero, suc, _-_, _*_, _<_}
+use Prim.Native.Nat.{ℕ, zero, suc, _*_, _^_, _≤_, _<_}
+use native.Mathlib.Nat.{pow-le-pow-right}
 use native.Mathlib.Omega.{arith}
-use mathlib.Core.Path.{_≡_, sym, ap, _∙_}
+use mathlib.Core.Path.{_≡_, refl, sym, ap, _∙_, subst}
 use mathlib.Core.List.{List, [], _∷_, append-nil}
-use mathlib.Core.Bool.{Bool, true, false}
+use mathlib.Core.Bool.{Bool, true, false, _&&_}
+use lib.Dec.{eqb}
 use lib.ListN.{length, getD, take, drop}
-use Rattle.bitstream.specs.Reading.{got, refused, Parse, pure, bind, choose, many}
-use Rattle.bitstream.proofs.Fields.{no-mix}
+use Rattle.bitstream.specs.Reading.{Outcome, got, refused, Parse, pure, bind, choose, field, many}
+use Rattle.bitstream.proofs.Fields.{no-mix, field-lt}
 use Rattle.bitstream.proofs.Laws.{bind-got}
 use Rattle.headers.specs.Judgement.{commonHeader}
 use Rattle.huffman.specs.Tree.{Tree, leaf, Proper, nodesOf, huffmanTree}
@@ -18,8 +20,12 @@ use Rattle.quantization.specs.Sound.{Holds}
 use Rattle.quantization.proofs.Layouts.{laid-length, laid-part}
 use Rattle.quantization.proofs.Soundness.{read-holds, many-long}
 use Rattle.setup.specs.Header.{Setup, loopLimits, setupHeader}
-use Rattle.setup.specs.Answer.{Stored}
-use Rattle.setup.specs.Table.{isTable, heldSetup}
+use Rattle.setup.specs.Answer.{Stored, Loaded}
+use Rattle.setup.specs.declared.TableAnswer.{TableAnswer}
+use Rattle.setup.specs.declared.TableAnswer.the-variants.{Genuine, NotGenuine}
+use Rattle.setup.specs.Table.{tableBytes, isTable, heldSetup, asTable}
+use Rattle.table_memory.specs.Kept.{clearFrom}
+use Rattle.table_memory.specs.Genuine.{endsClear, genuine}
 use Rattle.setup.proofs.Steps.{proper-padded}
 use Rattle.tables.specs.Tables.{treeOf, HoldsTrees}
 
@@ -56,8 +62,10 @@ many-each P m f (suc n) p i {l} h k d r =
 
 -- ---- a setup that was read
 record Parts (p : List ℕ) (s : Setup) (e : ℕ) : Type 0 where
+  a : ℕ
   b : ℕ
   c : ℕ
+  limits-read : loopLimits p a ≡ got (s .limits) b
   parameters-read : quantization p b ≡ got (s .parameters) c
   trees-read : many 80 huffmanTree p c ≡ got (s .trees) e
 
@@ -68,14 +76,42 @@ parts p {s} {e} h =
     let v = bind-got loopLimits (λ l. bind quantization (λ q. bind (many 80 huffmanTree) (λ ts. pure (record { limits = l; parameters = q; trees = ts })))) p (u .1) (u .3) in
     let w = bind-got quantization (λ q. bind (many 80 huffmanTree) (λ ts. pure (record { limits = v .0; parameters = q; trees = ts }))) p (v .1) (v .3) in
     let x = bind-got (many 80 huffmanTree) (λ ts. pure (record { limits = v .0; parameters = w .0; trees = ts })) p (w .1) (w .3) in
-    finish (v .0) (w .0) (x .0) (v .1) (w .1) (x .1) (w .2) (x .2) (x .3)
+    finish (v .0) (w .0) (x .0) (u .1) (v .1) (w .1) (x .1) (v .2) (w .2) (x .2) (x .3)
   where
-    finish : (l : List ℕ) (q : Quantization) (ts : List Tree) (b c d : ℕ) → quantization p b ≡ got q c → many 80 huffmanTree p c ≡ got ts d → pure (record { limits = l; parameters = q; trees = ts }) p d ≡ got s e → Parts p s e
-    finish l q ts b c d f g r =
+    finish : (l : List ℕ) (q : Quantization) (ts : List Tree) (a b c d : ℕ) → loopLimits p a ≡ got l b → quantization p b ≡ got q c → many 80 huffmanTree p c ≡ got ts d
+        → pure (record { limits = l; parameters = q; trees = ts }) p d ≡ got s e → Parts p s e
+    finish l q ts a b c d k f g r =
         let y : Setup = record { limits = l; parameters = q; trees = ts } in
         let z : y ≡ s = cc in
         let t : d ≡ e = cc in
-        record { b = b; c = c; parameters-read = f ∙ ap (λ (x : Setup). got (x .parameters) c) z; trees-read = g ∙ rw t (ap (λ (x : Setup). got (x .trees) e) z) }
+        record {
+          a = a;
+          b = b;
+          c = c;
+          limits-read = k ∙ ap (λ (x : Setup). got (x .limits) b) z;
+          parameters-read = f ∙ ap (λ (x : Setup). got (x .parameters) c) z;
+          trees-read = g ∙ rw t (ap (λ (x : Setup). got (x .trees) e) z);
+        }
+
+-- "3-bit width, 64 loop limits of that width"
+limits-of : (p : List ℕ) (i : ℕ) {l : List ℕ} {e : ℕ} → loopLimits p i ≡ got l e → (length l ≡ 64) × ((qi : ℕ) → qi < 64 → getD l qi 0 ≤ 127)
+unfolding loopLimits
+limits-of p i h =
+    let u = bind-got (field 3) (λ w. many 64 (field w)) p i h in
+    let w = field-lt 3 p i (u .2) in
+    let n = many-long 64 (field (u .0)) p (u .1) (u .3) in
+    let few : 2 ^ u .0 ≤ 128 = pow-le-pow-right {n = 2} (omega arith) {j = 7} (omega arith) in
+    (n, λ qi l. many-each (λ v. v ≤ 127) (field (u .0)) (λ p i v e r. omega (arith, field-lt (u .0) p i r)) 64 p (u .1) (u .3) qi 0 (omega arith))
+
+pub limits-few : (p : List ℕ) {s : Setup} {e : ℕ} → setupHeader p 0 ≡ got s e → (length (s .limits) ≡ 64) × ((qi : ℕ) → qi < 64 → getD (s .limits) qi 0 ≤ 127)
+limits-few p h = let g = parts p h in limits-of p (g .a) (g .limits-read)
+
+-- 80 trees, each of them as `huffmanTree` gives it
+pub trees-whole : (p : List ℕ) {s : Setup} {e : ℕ} → setupHeader p 0 ≡ got s e → (length (s .trees) ≡ 80) × ((k : ℕ) → k < 80 → Proper (treeOf (s .trees) k))
+trees-whole p h =
+    let g = parts p h in
+    let l = many-long 80 huffmanTree p (g .c) (g .trees-read) in
+    (l, λ k v. many-each Proper huffmanTree (λ p i a e r. read-proper p i r) 80 p (g .c) (g .trees-read) k (leaf 0) (omega arith))
 
 module _ (p : List ℕ) {s : Setup} {e : ℕ} (h : setupHeader p 0 ≡ got s e) (limits ac dc sizes indices nodes : List ℕ) (stored : Stored s limits ac dc sizes indices nodes) where
   -- the slices hold its parameters, whose base matrices stand in the packet
@@ -84,14 +120,7 @@ module _ (p : List ℕ) {s : Setup} {e : ℕ} (h : setupHeader p 0 ≡ got s e) 
 
   -- and its trees
   pub holds-trees : HoldsTrees (s .trees) nodes
-  holds-trees =
-      let g = parts p h in
-      let l = many-long 80 huffmanTree p (g .c) (g .trees-read) in
-      record {
-        eighty = l;
-        proper = λ k v. many-each Proper huffmanTree (λ p i a e r. read-proper p i r) 80 p (g .c) (g .trees-read) k (leaf 0) (omega arith);
-        nodes-are = stored .nodes-are;
-      }
+  holds-trees = let t = trees-whole p h in record { eighty = t .0; proper = t .1; nodes-are = stored .nodes-are }
 
 -- what a table memory holds is what it reads as
 pub held-reads : (t : List ℕ) {s : Setup} {e : ℕ} → heldSetup t ≡ got s e → setupHeader t 0 ≡ got s e
@@ -101,3 +130,39 @@ held-reads t {s} {e} h = go (isTable t) h
     go : (b : Bool) → choose b (setupHeader t 0) (refused 8 0) ≡ got s e → setupHeader t 0 ≡ got s e
     go true r = r
     go false r = no-mix (sym r)
+
+-- ---- what the loader of a table memory answers
+pub held-setup : (o : Outcome Setup) {r : TableAnswer} {m : ℕ} → r ≡ asTable o → r ≡ Genuine m → (s : Setup) × (e : ℕ) × (o ≡ got s e) × (s .parameters .matricesAt ≡ m)
+held-setup (got s d) a h = (s, d, refl, cc)
+held-setup (refused k d) a h = let z : _≡_ {A = ℕ} 0 1 = cc in absurd (omega arith)
+
+-- a memory that is not genuine is refused by 8 alone
+pub held-8 : (t : List ℕ) {r : TableAnswer} → r ≡ asTable (heldSetup t) → r ≡ NotGenuine → heldSetup t ≡ refused 8 0
+unfolding heldSetup genuine
+held-8 t a n = go (eqb (length t) tableBytes) (setupHeader t 0) (sym n ∙ a)
+  where
+    ends : (b : Bool) (s : Setup) (e : ℕ) → NotGenuine ≡ asTable (choose b (got s e) (refused 8 0)) → choose b (got s e) (refused 8 0) ≡ refused 8 0
+    ends true s e h = let z : _≡_ {A = ℕ} 0 1 = cc in absurd (omega arith)
+    ends false s e h = refl
+
+    go : (b : Bool) (o : Outcome Setup) → NotGenuine ≡ asTable (choose (b && endsClear t o) o (refused 8 0)) → choose (b && endsClear t o) o (refused 8 0) ≡ refused 8 0
+    go false o h = refl
+    go true (got s e) h = ends (clearFrom t e) s e h
+    go true (refused k e) h = refl
+
+-- a genuine one: its setup, and what the slices hold of it
+module _ (t : List ℕ) {r : TableAnswer} {m : ℕ} (a : r ≡ asTable (heldSetup t)) (g : r ≡ Genuine m) where
+  abbrev pub genuine-setup : Setup
+  genuine-setup = held-setup (heldSetup t) a g .0
+
+  pub genuine-held : heldSetup t ≡ got genuine-setup (held-setup (heldSetup t) a g .1)
+  genuine-held = held-setup (heldSetup t) a g .2
+
+  module _ (limits ac dc sizes indices nodes : List ℕ) (l : Loaded (heldSetup t) limits ac dc sizes indices nodes) where
+    pub genuine-stored : Stored genuine-setup limits ac dc sizes indices nodes
+    genuine-stored = subst (λ (o : Outcome Setup). Loaded o limits ac dc sizes indices nodes) genuine-held l
+
+    pub genuine-holds : Holds (genuine-setup .parameters) t m ac dc sizes indices
+    genuine-holds =
+        subst (λ (n : ℕ). Holds (genuine-setup .parameters) t n ac dc sizes indices) (held-setup (heldSetup t) a g .3)
+        (holds-parameters t (held-reads t genuine-held) limits ac dc sizes indices nodes genuine-stored)

@@ -1,2 +1,7 @@
 pub mod Lengths
+pub mod Matrices
+pub mod Made
+pub mod Held
+pub mod Decoded
+pub mod Calls
 pub mod Table

@@ -27,6 +27,9 @@ pub record State : Type 0 where
   pub golden : List ℕ
   pub previous : List ℕ
 
+abbrev pub state : Session → (golden previous : List ℕ) → State
+state s golden previous = record { session = s; golden = golden; previous = previous }
+
 -- what a call brings
 pub record Call : Type 0 where
   pub packet : List ℕ
@@ -34,11 +37,17 @@ pub record Call : Type 0 where
   pub memory : Memory
   pub new : List ℕ
 
+abbrev pub call : (packet table : List ℕ) → Memory → (new : List ℕ) → Call
+call packet table memory new = record { packet = packet; table = table; memory = memory; new = new }
+
 -- what a call leaves: its answer, in which the session stands, new, and work memory
 pub record Done : Type 0 where
   pub answer : FrameAnswer
   pub new : List ℕ
   pub memory : Memory
+
+abbrev pub done : FrameAnswer → (new : List ℕ) → Memory → Done
+done answer new memory = record { answer = answer; new = new; memory = memory }
 
 -- what an accepted packet asks for: what it says, and the setup
 pub record Asked : Type 0 where
@@ -50,10 +59,13 @@ pub record Asked : Type 0 where
 abbrev pub lengthsHold : State → Call → Bool
 lengthsHold st c = lengthsFit (lengthsOf (st .session)) (st .golden) (st .previous) (c .new) (c .table) (c .memory)
 
+-- a packet by a setup
+abbrev pub readBy : Session → Setup → (packet : List ℕ) → Outcome Asked
+readBy s setup packet = after (framePacket (format s) (s .fmbw) (s .fmbh) (setup .trees) (s .references) packet) (λ fr e. got (record { setup = setup; frame = fr }) e)
+
 -- "the rest of 8, then the packet"
 unfoldable pub read : Session → (table packet : List ℕ) → Outcome Asked
-read s table packet =
-    after (heldSetup table) (λ setup _. after (framePacket (format s) (s .fmbw) (s .fmbh) (setup .trees) (s .references) packet) (λ fr e. got (record { setup = setup; frame = fr }) e))
+read s table packet = after (heldSetup table) (λ setup _. readBy s setup packet)
 
 -- "Frame: that" (the identification part of 8), "then 1, the rest of 8, then the packet"
 unfoldable pub said : State → Call → Outcome Asked
@@ -121,10 +133,14 @@ newBy way st new (got a e) =
     let s = st .session in
     way (format s) (s .fmbw) (s .fmbh) (picture s a (st .golden) (st .previous)) (st .previous)
 
+-- what a call past its length check leaves
+abbrev pub decoded : Way → State → (new : List ℕ) → Outcome Asked → Done
+decoded way st new o = done (answerFor (st .session) o) (newBy way st new o) (cleared (st .session))
+
 -- "Work memory is all zero after every frame call past its length check, else untouched"
 unfoldable pub memoryAfter : State → Call → Memory
 memoryAfter st c = choose (sessionFits (st .session)) (choose (lengthsHold st c) (cleared (st .session)) (c .memory)) (c .memory)
 
 -- a frame call by a way
 unfoldable pub byRules : Way → State → Call → Done
-byRules way st c = record { answer = answerFor (st .session) (said st c); new = newBy way st (c .new) (said st c); memory = memoryAfter st c }
+byRules way st c = done (answerFor (st .session) (said st c)) (newBy way st (c .new) (said st c)) (memoryAfter st c)

@@ -57,6 +57,13 @@ lengthsOf s = record {
 unfoldable pub workLengths : Session → WorkAnswer
 workLengths s = choose (sessionFits s) (WorkAnswer.Is (lengthsOf s)) (WorkAnswer.Refused 8)
 
+-- the same lengths, all zero
+abbrev pub zeroed : Memory → Memory
+zeroed m = let k = m .work in
+    memory (replicate (length (k .records)) 0) (replicate (length (k .coded)) 0) (replicate (length (k .coefs)) (pos 0)) (replicate (length (m .dc)) (pos 0))
+    (replicate (length (k .lasts)) 0) (replicate (length (k .flags)) 0) (replicate (length (k .bits)) 0) (replicate (length (k .supers)) 0)
+    (replicate (length (k .modes)) 0) (replicate (length (k .active)) 0)
+
 -- work memory of the published lengths, all zero
 abbrev pub cleared : Session → Memory
 cleared s = record { work = clear (format s) (s .fmbw) (s .fmbh); dc = replicate (blocks s) (pos 0) }

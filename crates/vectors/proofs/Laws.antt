@@ -2,30 +2,33 @@
 use Prim.Native.Nat.{ℕ, zero, suc, _+_, _*_}
 use native.Mathlib.Omega.{arith}
 use native.Mathlib.Nat.{zero-mul, suc-mul}
-use mathlib.Core.Path.{_≡_, refl, _∙_, subst}
-use mathlib.Core.List.{List, [], _∷_}
+use mathlib.Core.Path.{_≡_, refl, ap, _∙_, subst}
+use mathlib.Core.List.{List}
 use mathlib.Core.Bool.{Bool, true, false}
 use lib.Dec.{eqb, ltb}
-use lib.ListN.{length, getD, set, length-set}
+use lib.ListN.{length, getD, length-set}
 use borrow.Author.Tests.{ltb-false}
 use Rattle.bitstream.specs.Reading.{got, bind, pure, choose, field}
 use Rattle.bitstream.proofs.Laws.{Lawful, pure-lawful, pick-lawful, bind-lawful, field-lawful, whole-lawful, bind-got}
 use Rattle.bitstream.proofs.Spends.{Spends, spends-more, pure-spends, field-spends, field-then, bind-spends, pick-spends, whole-spends}
+use Rattle.runs.proofs.ListLaws.{set-cases}
 use Rattle.geometry.specs.declared.PixelFormat.{PixelFormat}
 use Rattle.geometry.specs.declared.Place.{Place}
 use Rattle.geometry.specs.Sizes.{blocksEach}
 use Rattle.geometry.specs.Order.{at, codedMacros}
 use Rattle.block_record.specs.declared.Vector.{Vector}
 use Rattle.block_record.specs.declared.Prediction.{Prediction}
+use Rattle.block_record.specs.declared.Prediction.the-variants.{None}
 use Rattle.block_record.specs.declared.BlockRecord.{BlockRecord}
 use Rattle.block_record.specs.Record.{VectorInRange, PredictionInRange, InRange, withPrediction, uncoded}
+use Rattle.block_record.proofs.MemoryLaws.{AllInRange, in-range-at, in-range-set}
 use Rattle.vectors.specs.declared.Motion.{Motion}
 use Rattle.vectors.specs.Component.{added, width, least, variable, byCode, component, vector}
 use Rattle.vectors.specs.Motion.{zeroVector, still, moving, movingGolden, ifCoded, row, movingFour, motion, predictionOf, MotionInRange}
 use Rattle.vectors.specs.Vectors.{numberIn, predictedAt, predictedFrom, State, macroBlock, macroBlocks, vectors}
 use Rattle.vectors.proofs.Components.{long-fits}
 use Rattle.vectors.proofs.Motions.{zero-small, prediction-small}
-use Rattle.vectors.proofs.Records.{AllInRange, macro-through, first}
+use Rattle.vectors.proofs.Records.{macro-through, first}
 
 -- ---- Local and Firm
 added-lawful : (n a : ℕ) → Lawful (added n a)
@@ -118,67 +121,64 @@ unfolding vectors
 vectors-spends f w h modes rs =
     spends-more (omega arith) (bind-spends (field-spends 1) (λ code. bind-spends {b = 0} (each-spends f w h code modes (length modes) 0 _) (λ s. pure-spends _)))
 
--- ---- records stay as many, and in their range
-range-at : (rs : List BlockRecord) (i : ℕ) → AllInRange rs → InRange (getD rs i uncoded)
-range-at [] i a = record { qi-index = omega arith; prediction = tt }
-range-at (r ∷ rs) zero a = a .0
-range-at (r ∷ rs) (suc i) a = range-at rs i (a .1)
-
-range-set : (rs : List BlockRecord) (i : ℕ) (r : BlockRecord) → AllInRange rs → InRange r → AllInRange (set rs i r)
-range-set [] i r a h = a
-range-set (s ∷ ss) zero r a h = (h, a .1)
-range-set (s ∷ ss) (suc i) r a h = (a .0, range-set ss i r (a .1) h)
-
--- what the records keep: their number, and their range
-pub record Keeps (n : ℕ) (rs : List BlockRecord) : Type 0 where
-  pub long : length rs ≡ n
+-- ---- records stay as many, and in their range; nothing but the prediction changes
+-- what the records keep of those that they were at first
+pub record Keeps (rs₀ rs : List BlockRecord) : Type 0 where
+  pub long : length rs ≡ length rs₀
   pub in-range : AllInRange rs
+  pub but : (m : ℕ) → withPrediction None (getD rs m uncoded) ≡ withPrediction None (getD rs₀ m uncoded)
 
-predicted-keeps : (n i : ℕ) (p : Prediction) (rs : List BlockRecord) → PredictionInRange p → Keeps n rs → Keeps n (predictedAt i p rs)
+predicted-keeps : (l : List BlockRecord) (i : ℕ) (p : Prediction) (rs : List BlockRecord) → PredictionInRange p → Keeps l rs → Keeps l (predictedAt i p rs)
 unfolding predictedAt
-predicted-keeps n i p rs h k = record {
+predicted-keeps l i p rs h k = record {
   long = length-set rs i _ ∙ k .long;
-  in-range = range-set rs i _ (k .in-range) (go (getD rs i uncoded .coded));
+  in-range = in-range-set rs i _ (k .in-range) (go (getD rs i uncoded .coded));
+  but = λ m. set-cases (λ r. withPrediction None r ≡ withPrediction None (getD l m uncoded)) rs i m _ uncoded
+      (λ z. same (getD rs i uncoded .coded) (getD rs i uncoded) ∙ ap (λ (j : ℕ). withPrediction None (getD rs j uncoded)) z ∙ k .but m) (k .but m);
 }
   where
     there : InRange (getD rs i uncoded)
-    there = range-at rs i (k .in-range)
+    there = in-range-at rs i (k .in-range)
 
     go : (t : Bool) → InRange (choose t (withPrediction p (getD rs i uncoded)) (getD rs i uncoded))
     go true = record { qi-index = there .qi-index; prediction = h }
     go false = there
 
+    same : (t : Bool) (r : BlockRecord) → withPrediction None (choose t (withPrediction p r) r) ≡ withPrediction None r
+    same true r = refl
+    same false r = refl
+
 module _ (f : PixelFormat) (w h : ℕ) where
-  blocks-keep : (q : Place) (m : Motion) → MotionInRange m → (l n k : ℕ) (rs : List BlockRecord) → Keeps l rs → Keeps l (predictedFrom f w h q m n k rs)
+  blocks-keep : (q : Place) (m : Motion) → MotionInRange m → (l : List BlockRecord) (n k : ℕ) (rs : List BlockRecord) → Keeps l rs → Keeps l (predictedFrom f w h q m n k rs)
   unfolding predictedFrom
   blocks-keep q m g l zero k rs a = a
   blocks-keep q m g l (suc n) k rs a = blocks-keep q m g l n (k + 1) _ (predicted-keeps l (numberIn f w h q k) (predictionOf f m k) rs (prediction-small f m k g) a)
 
   -- what a state keeps
-  pub record StateKeeps (l : ℕ) (s : State) : Type 0 where
+  pub record StateKeeps (l : List BlockRecord) (s : State) : Type 0 where
     pub records : Keeps l (s .records)
     pub last : VectorInRange (s .last)
     pub last2 : VectorInRange (s .last2)
 
-  macro-keeps : (code mode : ℕ) (q : Place) (s : State) (l : ℕ) (p : List ℕ) (i : ℕ) {t : State} {e : ℕ} → StateKeeps l s → macroBlock f w h code mode q s p i ≡ got t e → StateKeeps l t
+  macro-keeps : (code mode : ℕ) (q : Place) (s : State) (l : List BlockRecord) (p : List ℕ) (i : ℕ) {t : State} {e : ℕ} → StateKeeps l s → macroBlock f w h code mode q s p i ≡ got t e → StateKeeps l t
   macro-keeps code mode q s l p i a r =
       let u = macro-through f w h code mode q s p i (a .last) (a .last2) r in
       subst (StateKeeps l) (u .2)
       (record { records = blocks-keep q (u .0 .motion) (u .1 .motion) l (blocksEach f) 0 (s .records) (a .records); last = u .1 .last; last2 = u .1 .last2 })
 
-  each-keep : (code : ℕ) (modes : List ℕ) (n m : ℕ) (s : State) (l : ℕ) (p : List ℕ) (i : ℕ) {t : State} {e : ℕ} → StateKeeps l s → macroBlocks f w h code modes n m s p i ≡ got t e → StateKeeps l t
+  each-keep : (code : ℕ) (modes : List ℕ) (n m : ℕ) (s : State) (l : List BlockRecord) (p : List ℕ) (i : ℕ) {t : State} {e : ℕ} → StateKeeps l s → macroBlocks f w h code modes n m s p i ≡ got t e → StateKeeps l t
   unfolding macroBlocks
   each-keep code modes zero m s l p i {t} {e} a r = let z : s ≡ t = cc in subst (StateKeeps l) z a
   each-keep code modes (suc n) m s l p i {t} {e} a r =
       let u = bind-got (macroBlock f w h code (getD modes m 0) (getD (codedMacros w h) m (at 0 0)) s) (macroBlocks f w h code modes n (m + 1)) p i r in
       each-keep code modes n (m + 1) (u .0) l p (u .1) (macro-keeps code (getD modes m 0) (getD (codedMacros w h) m (at 0 0)) s l p i a (u .2)) (u .3)
 
-  -- records in their range stay so, and as many: every vector of the result is within ±31
-  pub vectors-keep : (modes : List ℕ) (rs : List BlockRecord) (p : List ℕ) (i : ℕ) {ss : List BlockRecord} {e : ℕ} → AllInRange rs → vectors f w h modes rs p i ≡ got ss e → Keeps (length rs) ss
+  -- records in their range stay so, and as many: every vector of the result is within ±31; nothing but the prediction changes
+  pub vectors-keep : (modes : List ℕ) (rs : List BlockRecord) (p : List ℕ) (i : ℕ) {ss : List BlockRecord} {e : ℕ} → AllInRange rs → vectors f w h modes rs p i ≡ got ss e → Keeps rs ss
   unfolding vectors
   vectors-keep modes rs p i {ss} {e} a r =
       let u = bind-got (field 1) (λ code. bind (macroBlocks f w h code modes (length modes) 0 (first f w h modes rs p i)) (λ s. pure (s .records))) p i r in
       let v = bind-got (macroBlocks f w h (u .0) modes (length modes) 0 (first f w h modes rs p i)) (λ s. pure (s .records)) p (u .1) (u .3) in
-      let k = each-keep (u .0) modes (length modes) 0 (first f w h modes rs p i) (length rs) p (u .1) (record { records = record { long = refl; in-range = a }; last = zero-small; last2 = zero-small }) (v .2) in
+      let k = each-keep (u .0) modes (length modes) 0 (first f w h modes rs p i) rs p (u .1) (record { records = record { long = refl; in-range = a; but = λ m. refl }; last = zero-small; last2 = zero-small }) (v .2) in
       let z : v .0 .records ≡ ss = cc in
-      subst (Keeps (length rs)) z (k .records)
+      subst (Keeps rs) z (k .records)

@@ -1,10 +1,10 @@
 -- Records in work memory, and the macro blocks one after the other. Assumes nothing.
-use Prim.Native.Nat.{ℕ, zero, suc, _+_, _-_, _≤_, _<_}
+use Prim.Native.Nat.{ℕ, suc, _+_, _-_, _≤_, _<_}
 use native.Mathlib.Omega.{arith}
-use mathlib.Core.Path.{_≡_, refl, sym, ap, _∙_, subst}
-use mathlib.Core.List.{List, [], _∷_, map}
+use mathlib.Core.Path.{_≡_, refl, sym, ap, _∙_}
+use mathlib.Core.List.{List, map}
 use mathlib.Core.Bool.{true, false}
-use lib.ListN.{length, getD, set, List·getD-map}
+use lib.ListN.{length, getD, set}
 use lib.Seq.{set-getD}
 use Rattle.bitstream.specs.Reading.{Outcome, got, refused, pure, field}
 use Rattle.bitstream.proofs.Laws.{bind-got}
@@ -17,9 +17,11 @@ use Rattle.block_record.specs.declared.Vector.{Vector}
 use Rattle.block_record.specs.declared.Prediction.{Prediction}
 use Rattle.block_record.specs.declared.BlockRecord.{BlockRecord}
 use Rattle.block_record.specs.Record.{VectorInRange, PredictionInRange, InRange, withPrediction, uncoded}
-use Rattle.block_record.specs.Packed.{packed, unpacked, predictionAt}
-use Rattle.block_record.proofs.Laws.{unpacked-packed, packed-uncoded}
-use Rattle.runs.specs.Runs.{asDone}
+use Rattle.block_record.specs.Packed.{packed, unpacked}
+use Rattle.block_record.specs.Memory.{AllPacked, recordsOf}
+use Rattle.block_record.proofs.Laws.{unpacked-packed}
+use Rattle.block_record.proofs.MemoryLaws.{is-packed, packed-at, packed-set, packed-records, record-at, records-set}
+use Rattle.runs.specs.Runs.{asDone, StoredAs}
 use Rattle.runs.specs.declared.Done.{Done}
 use Rattle.runs.specs.declared.Done.the-variants as done
 use Rattle.vectors.specs.declared.Motion.{Motion}
@@ -28,62 +30,10 @@ use Rattle.vectors.specs.declared.Step.{Step}
 use Rattle.vectors.specs.declared.Step.the-variants.{Next, Refused}
 use Rattle.vectors.specs.Motion.{zeroVector, motion, predictionOf, MovedInRange}
 use Rattle.vectors.specs.Vectors.{numberIn, codedIn, predictedAt, predictedFrom, State, macroBlock, macroBlocks, vectors}
-use Rattle.vectors.specs.Memory.{IsPacked, AllPacked, recordsOf, stateOf, StoredRecords, StoredState, asStep}
+use Rattle.vectors.specs.Memory.{stateOf, StoredState, asStep}
 use Rattle.vectors.proofs.Motions.{motion-small}
 
--- ---- packed numbers
-unpacked-zero : unpacked 0 ≡ uncoded
-unfolding unpacked predictionAt
-unpacked-zero = refl
-
--- the number of a record in its range
-is-packed : (r : BlockRecord) → InRange r → IsPacked (packed r)
-is-packed r h = let e = unpacked-packed r h in record { in-range = subst InRange (sym e) h; same = ap packed e }
-
-zero-packed : IsPacked 0
-zero-packed = subst IsPacked packed-uncoded (is-packed uncoded (record { qi-index = omega arith; prediction = tt }))
-
-pub all-at : (l : List ℕ) (i : ℕ) → AllPacked l → IsPacked (getD l i 0)
-unfolding AllPacked
-all-at [] i a = zero-packed
-all-at (n ∷ ns) zero a = a .0
-all-at (n ∷ ns) (suc i) a = all-at ns i (a .1)
-
-pub all-set : (l : List ℕ) (i n : ℕ) → AllPacked l → IsPacked n → AllPacked (set l i n)
-unfolding AllPacked
-all-set [] i n a h = a
-all-set (m ∷ ms) zero n a h = (h, a .1)
-all-set (m ∷ ms) (suc i) n a h = (a .0, all-set ms i n (a .1) h)
-
--- nothing is lost
-pub packed-records : (l : List ℕ) → AllPacked l → l ≡ map packed (recordsOf l)
-unfolding AllPacked
-packed-records [] a = refl
-packed-records (n ∷ ns) a = let e = sym (a .0 .same) in let f = packed-records ns (a .1) in λ i. e i ∷ f i
-
--- records in their range, and back
-abbrev pub AllInRange : List BlockRecord → Type 0
-AllInRange [] = Unit {0}
-AllInRange (r ∷ rs) = InRange r × AllInRange rs
-
-pub all-packed : (rs : List BlockRecord) → AllInRange rs → AllPacked (map packed rs)
-unfolding AllPacked
-all-packed [] a = tt
-all-packed (r ∷ rs) a = (is-packed r (a .0), all-packed rs (a .1))
-
-pub records-packed : (rs : List BlockRecord) → AllInRange rs → recordsOf (map packed rs) ≡ rs
-records-packed [] a = refl
-records-packed (r ∷ rs) a = let e = unpacked-packed r (a .0) in let f = records-packed rs (a .1) in λ i. e i ∷ f i
-
--- ---- the record of a number, and one more record
-pub record-at : (l : List ℕ) (i : ℕ) → getD (recordsOf l) i uncoded ≡ unpacked (getD l i 0)
-record-at l i = ap (getD (recordsOf l) i) (sym unpacked-zero) ∙ List·getD-map unpacked l i 0
-
-records-set : (l : List ℕ) (i n : ℕ) → recordsOf (set l i n) ≡ set (recordsOf l) i (unpacked n)
-records-set [] i n = refl
-records-set (m ∷ ms) zero n = refl
-records-set (m ∷ ms) (suc i) n = ap (λ (rs : List BlockRecord). unpacked m ∷ rs) (records-set ms i n)
-
+-- ---- the record of a block
 pub coded-at : (f : PixelFormat) (w h : ℕ) (q : Place) (l : List ℕ) (k i : ℕ) → i ≡ numberIn f w h q k → unpacked (getD l i 0) .coded ≡ codedIn f w h q (recordsOf l) k
 unfolding codedIn
 coded-at f w h q l k i e = ap (λ (j : ℕ). unpacked (getD l j 0) .coded) e ∙ sym (ap (λ (r : BlockRecord). r .coded) (record-at l (numberIn f w h q k)))
@@ -99,7 +49,7 @@ module _ (l : List ℕ) (i : ℕ) (p : Prediction) (a : AllPacked l) where
     new = withPrediction p (unpacked (getD l i 0))
 
     new-in-range : InRange new
-    new-in-range = record { qi-index = all-at l i a .in-range .qi-index; prediction = k }
+    new-in-range = record { qi-index = packed-at l i a .in-range .qi-index; prediction = k }
 
     pub predicted-is : unpacked (getD l i 0) .coded ≡ true → recordsOf (set l i (packed new)) ≡ predictedAt i p (recordsOf l)
     unfolding predictedAt
@@ -109,7 +59,7 @@ module _ (l : List ℕ) (i : ℕ) (p : Prediction) (a : AllPacked l) where
         ∙ ap (set (recordsOf l) i) (unpacked-packed new new-in-range ∙ sym (rw (e, h)))
 
     pub predicted-all : AllPacked (set l i (packed new))
-    predicted-all = all-set l i (packed new) a (is-packed new new-in-range)
+    predicted-all = packed-set l i (packed new) a (is-packed new new-in-range)
 
 -- ---- the blocks of a macro block, one after the other
 pub each-four : (f : PixelFormat) → 4 ≤ blocksEach f
@@ -231,12 +181,9 @@ module _ (out : List ℕ) (o : Outcome State) where
   pub on-each : {v v2 : Vector} {e : ℕ} → o ≡ got (stateOf out v v2) e → AllPacked out → (done.At e ≡ asDone o) × StoredState out o
   on-each h a = rw h (refl, (refl, a))
 
-pub on-refused : (out : List ℕ) (o : Outcome (List BlockRecord)) {k e : ℕ} → o ≡ refused k e → (done.Refused k e ≡ asDone o) × StoredRecords out o
-on-refused out o h = rw h (refl, tt)
-
 -- the records of the last state are what is stored
 pub on-vectors : (out : List ℕ) (o : Outcome State) (v : Outcome (List BlockRecord)) {r : Done}
     → ((k e : ℕ) → o ≡ refused k e → v ≡ refused k e) → ((s : State) (e : ℕ) → o ≡ got s e → v ≡ got (s .records) e)
-    → r ≡ asDone o → StoredState out o → (r ≡ asDone v) × StoredRecords out v
+    → r ≡ asDone o → StoredState out o → (r ≡ asDone v) × StoredAs (map packed) out v
 on-vectors out (got s e) v f g a k = rw (g s e refl) (a, packed-records out (k .1) ∙ ap (map packed) (k .0))
 on-vectors out (refused j e) v f g a k = rw (f j e refl) (a, tt)

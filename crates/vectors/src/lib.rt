@@ -6,6 +6,7 @@ use geometry::PixelFormat;
 use geometry::Place;
 use runs::Done;
 ghost use mathlib.Core.Path.{_≡_};
+ghost use mathlib.Core.List.{map};
 ghost use Prim.Native.Nat.{_+_, _-_, _<_, _≤_, _^_};
 ghost use lib.IntN.{_+ℤ_, natAbs};
 ghost use lib.ListN.{length};
@@ -13,10 +14,12 @@ ghost use Rattle.numeric.specs.Divide.{roundOver};
 ghost use Rattle.geometry.specs.Sizes.{macroBlocksOf, blocksOf, blocksEach};
 ghost use Rattle.geometry.specs.Order.{at};
 ghost use Rattle.block_record.specs.Record.{VectorInRange, PredictionInRange};
-ghost use Rattle.runs.specs.Runs.{asDone};
+ghost use Rattle.block_record.specs.Packed.{packed};
+ghost use Rattle.block_record.specs.Memory.{AllPacked, recordsOf};
+ghost use Rattle.runs.specs.Runs.{asDone, StoredAs};
 ghost use Rattle.vectors.specs.Component.{signed, added, shortest, variable, byCode, component, vector, asComponent, asVector};
 ghost use Rattle.vectors.specs.Vectors.{numberIn, codedIn, predictedAt, predictedFrom, macroBlock, macroBlocks, vectors};
-ghost use Rattle.vectors.specs.Memory.{AllPacked, recordsOf, stateOf, StoredRecords, StoredState, asStep};
+ghost use Rattle.vectors.specs.Memory.{stateOf, StoredState, asStep};
 ghost use Rattle.vectors.specs.Motion.{zeroVector, behind, still, moving, movingGolden, ifCoded, row, movingFour, motion, meanOfTwo, meanOfFour, lumaVector, chromaVector, fourVector, predictionOf, RowInRange, MotionInRange, asRow, asMoved};
 
 // A component and the place behind it, or the number of the refusal and its place; likewise the enums below.
@@ -565,7 +568,7 @@ pub fn read_vectors(
 ) -> Done
     requires { ⌜ (length (now packet) ≤ 2 ^ 58) × (w ≤ 65535) × (h ≤ 65535) × (length (now modes) ≡ macroBlocksOf w h) × (length (now records) ≡ blocksOf format w h) × AllPacked (now records) ⌝ }
     ensures { λ r. ⌜ r ≡ asDone (vectors format w h (now (modes .entry)) (recordsOf (now (records .entry))) (now (packet .entry)) at) ⌝ }
-    ensures { λ r. ⌜ StoredRecords (now (records .exit)) (vectors format w h (now (modes .entry)) (recordsOf (now (records .entry))) (now (packet .entry)) at) ⌝ }
+    ensures { λ r. ⌜ StoredAs (map packed) (now (records .exit)) (vectors format w h (now (modes .entry)) (recordsOf (now (records .entry))) (now (packet .entry)) at) ⌝ }
 {
     let bit = bitstream::read(packet, at, 1);
     match bit {

@@ -3,9 +3,9 @@
 use mathlib.Core.Path.{_∙_}
 use lib.IntN.{pos, _-ℤ_}
 use mir.Syntax.{w32}
-use Rattle.numeric.proofs.Magnitude.{size}
+use Rattle.numeric.proofs.Magnitude.{plus-ok, size}
 use Rattle.numeric.proofs.Known.{Known, k-of, k-lit, k-sub, ask-sub, ask-nat, nat-of, test-lt}
-use Rattle.loop_filter.proofs.Facts.{minus-ok, plus-ok, minus-abs}
+use Rattle.loop_filter.proofs.Facts.{minus-ok, minus-abs}
 use Rattle.loop_filter.proofs.magnitude.Statement.{statement}
 use Rattle.loop_filter.proofs.magnitude.Tie as tie
 

@@ -5,8 +5,9 @@ use Prim.Native.Nat.{_^_, _≤_, _<_}
 use native.Mathlib.Omega.{arith}
 use lib.IntN.{natAbs}
 use mir.Syntax.{w32, w64}
+use Rattle.numeric.proofs.Magnitude.{plus-ok}
 use Rattle.numeric.proofs.Known.{Known, k-any, k-lit, test-lt, ask-nat, nat-of}
-use Rattle.prediction.proofs.Facts.{plus-ok, inside-below, inside-in, inside-over}
+use Rattle.prediction.proofs.Facts.{inside-below, inside-in, inside-over}
 use borrow.Author.Needs.{needs}
 use Rattle.prediction.proofs.inside.Statement.{statement}
 use Rattle.prediction.proofs.inside.Tie as tie

@@ -7,10 +7,11 @@ use native.Mathlib.Omega.{arith}
 use lib.IntN.{pos, natAbs}
 use lib.Signed.{ltZ}
 use mir.Syntax.{w32, w64}
+use Rattle.numeric.proofs.Magnitude.{plus-ok}
 use Rattle.numeric.proofs.Known.{Known, k-any, k-lit, test-lt, ask-nat, nat-of}
 use Rattle.prediction.specs.declared.Start.{Start}
 use Rattle.prediction.specs.declared.Start.the-variants.{At}
-use Rattle.prediction.proofs.Facts.{plus-ok, in-plane, plane-size, start-left, start-under, start-right, start-over, start-at}
+use Rattle.prediction.proofs.Facts.{in-plane, plane-size, start-left, start-under, start-right, start-over, start-at}
 use borrow.Author.Needs.{needs}
 use Rattle.prediction.proofs.start_of.Statement.{statement}
 use Rattle.prediction.proofs.start_of.Tie as tie

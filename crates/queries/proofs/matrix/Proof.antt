@@ -1,7 +1,8 @@
 -- `theora::matrix` meets its contract. Assumes nothing.
 use borrow.Author.Needs.{needs}
 use native.Mathlib.Omega.{arith}
-use Rattle.queries.proofs.SetupLaws.{matrix-1, matrix-8, matrix-is, matrix-absent, holds, has-matrix, answered, answered-1}
+use Rattle.tables.proofs.Held.{genuine-holds}
+use Rattle.queries.proofs.SetupLaws.{matrix-1, matrix-8, matrix-is, matrix-absent, has-matrix, answered, answered-1}
 use Rattle.queries.proofs.matrix.Statement.{statement}
 use Rattle.queries.proofs.matrix.Tie as tie
 
@@ -54,7 +55,7 @@ matrix-requires : tie.Need-matrix-requires
 matrix-requires c κs =
     let a = c .before .before .before .before .before .before .before .before .before .before .before .before .before .before .before .before .before .before .before .before .before .before .before .before .before .before .args in
     let k = has-matrix (a .kind) (a .plane) (a .qi) (c .before .before .before .before .before .if3 .taken) in
-    (omega (arith, c .before .before .before .before .before .before .before .before .before .before .before .before .before .before .before .before .before .before .before .before .before .before .if2 .left), (_, holds (a .table .now) (c .before .before .before .before .before .before .before .before .before .before .before .before .before .before .before .load-table .ensures .0) (c .before .before .before .before .before .before .before .answer .given .1) _ _ _ _ _ _ (c .before .before .before .before .before .before .before .before .before .before .before .before .before .before .before .load-table .ensures .1)), k .0, k .1, k .2, c .before .before .before .before .before .before .before .before .before .before .before .before .before .before .before .before .before .before .before .before .before .before .before .if1 .left)
+    (omega (arith, c .before .before .before .before .before .before .before .before .before .before .before .before .before .before .before .before .before .before .before .before .before .before .if2 .left), (_, genuine-holds (a .table .now) (c .before .before .before .before .before .before .before .before .before .before .before .before .before .before .before .load-table .ensures .0) (c .before .before .before .before .before .before .before .answer .given .1) _ _ _ _ _ _ (c .before .before .before .before .before .before .before .before .before .before .before .before .before .before .before .load-table .ensures .1)), k .0, k .1, k .2, c .before .before .before .before .before .before .before .before .before .before .before .before .before .before .before .before .before .before .before .before .before .before .before .if1 .left)
 
 same-length : tie.Need-same-length
 same-length c = search needs

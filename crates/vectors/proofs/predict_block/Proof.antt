@@ -2,7 +2,7 @@
 use Prim.Native.Nat.{ℕ, _-_}
 use mathlib.Core.Path.{_≡_, sym, _∙_, subst}
 use lib.ListN.{set}
-use Rattle.vectors.specs.Memory.{AllPacked, recordsOf}
+use Rattle.block_record.specs.Memory.{AllPacked, recordsOf}
 use Rattle.vectors.specs.Vectors.{predictedAt}
 use Rattle.vectors.proofs.Records.{predicted-is, predicted-all, predicted-not}
 use borrow.Author.Needs.{needs}

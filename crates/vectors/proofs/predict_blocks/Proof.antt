@@ -5,8 +5,8 @@ use mathlib.Core.Path.{_≡_, refl, sym, ap, ap₂, _∙_, subst}
 use lib.ListN.{length}
 use Rattle.block_record.specs.declared.Prediction.{Prediction}
 use Rattle.block_record.specs.Record.{PredictionInRange}
+use Rattle.block_record.specs.Memory.{AllPacked, recordsOf}
 use Rattle.vectors.specs.Vectors.{predictedAt, predictedFrom}
-use Rattle.vectors.specs.Memory.{AllPacked, recordsOf}
 use Rattle.vectors.proofs.Motions.{prediction-small}
 use Rattle.vectors.proofs.Records.{blocks-done, blocks-on}
 use borrow.Author.Needs.{needs}

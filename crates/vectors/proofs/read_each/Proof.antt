@@ -9,9 +9,10 @@ use Rattle.geometry.specs.declared.Place.{Place}
 use Rattle.geometry.specs.Order.{at}
 use Rattle.geometry.proofs.PlaneOrders.{macro-order}
 use Rattle.geometry.proofs.SizeLaws.{sizes-small}
+use Rattle.block_record.specs.Memory.{AllPacked}
 use Rattle.vectors.specs.Motion.{zeroVector}
 use Rattle.vectors.specs.Vectors.{State, macroBlock, macroBlocks}
-use Rattle.vectors.specs.Memory.{AllPacked, stateOf}
+use Rattle.vectors.specs.Memory.{stateOf}
 use Rattle.vectors.proofs.Motions.{zero-small}
 use Rattle.vectors.proofs.Records.{this, each-done, each-end, each-on, macro-through, step-next, step-refused, on-each, on-each-refused}
 use borrow.Author.Needs.{needs}

@@ -1,0 +1,72 @@
+-- Worked examples: a frame of one macro block in 4:2:0.
+use Prim.Native.Nat.{ℕ}
+use mathlib.Core.Path.{_≡_, refl}
+use mathlib.Core.List.{List, [], _∷_}
+use mathlib.Core.Bool.{true, false}
+use lib.ListN.{replicate}
+use lib.IntN.{ℤ, pos}
+use Rattle.bitstream.specs.Bits.{bitAt, number}
+use Rattle.bitstream.specs.Reading.{got, refused, field, judged, until, whole}
+use Rattle.runs.specs.Runs.{rank, most, start as leastRun, extra as runExtra, runLength, run, nextBit, oneRun, sent, bitString}
+use Rattle.geometry.specs.declared.PixelFormat.the-variants.{Chroma420}
+use Rattle.geometry.specs.Sizes.{total, blocksOf, superBlocksOf, blocksBefore}
+use Rattle.geometry.specs.Order.{inTurn, present, moved, tile, row as rowOfTiles, ordered}
+use Rattle.geometry.specs.Frame.{inPlane, planeOrder, frameOrder, superBlocksBefore, superBlockIn, superBlockOf}
+use Rattle.geometry.specs.Macro.{fourOf, chromaOf, blocksOfMacro}
+use Rattle.geometry.specs.Raster.{rasterNumber}
+use Rattle.huffman.specs.Tree.{leaf}
+use Rattle.huffman.specs.Code.{code, tokenCode}
+use Rattle.block_record.specs.declared.BlockRecord.{BlockRecord}
+use Rattle.block_record.specs.Record.{uncoded}
+use Rattle.frame_header.specs.declared.Kind.{Kind}
+use Rattle.frame_header.specs.declared.Kind.the-variants.{Intra, Inter}
+use Rattle.frame_header.specs.Header.{frameType, moreQis, qiList, reserved, kindOf, frameHeader}
+use Rattle.coded_flags.specs.Flags.{ones, sizesFrom, superFlags, partlyBlocks, spread, interFlags, intraFlags}
+use Rattle.coded_flags.specs.Coded.{order, flagged, codedBlocks, codedLuma, nowCoded, setAt, codedRecords}
+use Rattle.modes.specs.Modes.{sentAlphabet, lumaCoded, modeOf, modesFrom, macroModes}
+use Rattle.vectors.specs.Motion.{still, motion, predictionOf}
+use Rattle.vectors.specs.Vectors.{numberIn, codedIn, predictedAt, predictedFrom, macroBlock, macroBlocks, vectors}
+use Rattle.block_qi.specs.BlockQi.{steps, blockQi}
+use Rattle.token.specs.Token.{rowOf, valueOf, meaning, extra}
+use Rattle.tokens.specs.Tokens.{token, unfinished, runOf, act, readFor, visit, pass, group, table, choices, atPosition, positionsFrom, ranks, start, readTokens}
+use Rattle.frame_packet.specs.Frame.{Frame, flagsOf, predictions, body, frame, framePacket}
+
+abbrev given : Kind → List ℕ → List ℕ → List BlockRecord → List ℤ → List ℕ → ℕ → Frame
+given kind qis coded records coefs lasts tokens = record {
+  header = record { kind = kind; qis = qis };
+  body = record { coded = coded; records = records; tokens = record { coefs = coefs; lasts = lasts; tokens = tokens } };
+}
+
+-- "9 comes at the frame type bit (at once if empty)"
+empty : framePacket Chroma420 1 1 [] false [] ≡ refused 9 0
+unfolding framePacket
+empty = refl
+
+inter-alone : framePacket Chroma420 1 1 [] false (0x40 ∷ []) ≡ refused 9 1
+unfolding framePacket frame frameHeader frameType moreQis qiList reserved kindOf judged field number bitAt
+inter-alone = refl
+
+no-frame : framePacket Chroma420 1 1 [] true (0x80 ∷ []) ≡ refused 10 0
+unfolding framePacket frame frameHeader frameType moreQis qiList reserved kindOf judged field number bitAt
+no-frame = refl
+
+reserved-set : framePacket Chroma420 1 1 [] true (0x10 ∷ 0x10 ∷ []) ≡ refused 11 9
+unfolding framePacket frame frameHeader frameType moreQis qiList reserved kindOf judged field number bitAt
+reserved-set = refl
+
+-- an inter frame with the qi 1 and no coded block: no super block partly coded and none of them fully; modes sent raw, of which there are none; the vector bit; the four choices
+nothing : framePacket Chroma420 1 1 [] true (0x41 ∷ 0x2A ∷ 0xF0 ∷ 0x00 ∷ 0x00 ∷ []) ≡ got (given Inter (1 ∷ []) [] (replicate 6 uncoded) [] [] 0) 37
+unfolding framePacket frame frameHeader frameType moreQis qiList reserved kindOf judged body flagsOf predictions
+    interFlags superFlags sizesFrom partlyBlocks spread ones superBlockOf superBlockIn superBlocksBefore superBlocksOf bitString sent until oneRun nextBit run runLength rank most runExtra leastRun
+    order flagged codedBlocks codedLuma setAt codedRecords rasterNumber frameOrder planeOrder inPlane inTurn ordered rowOfTiles tile present moved blocksOf blocksBefore total
+    macroModes sentAlphabet modesFrom modeOf lumaCoded
+    vectors macroBlocks macroBlock motion still predictedFrom predictedAt codedIn numberIn predictionOf blocksOfMacro fourOf chromaOf
+    blockQi steps readTokens positionsFrom atPosition choices table group ranks start pass whole field number bitAt
+nothing = refl
+
+-- four bytes of an intra frame with the qi 16, and lone leaves of the token 9: 64 times the value 1 in each block, for no bit but the four choices
+ones-all : framePacket Chroma420 1 1 (replicate 80 (leaf 9)) false (0x10 ∷ 0x00 ∷ 0x00 ∷ 0x00 ∷ []) ≡ got (given Intra (16 ∷ []) (0 ∷ 1 ∷ 3 ∷ 2 ∷ 4 ∷ 5 ∷ []) (replicate 6 nowCoded) (replicate 384 (pos 1)) (replicate 6 63) 384) 28
+unfolding framePacket frame frameHeader frameType moreQis qiList reserved kindOf judged body flagsOf predictions
+    intraFlags ones order flagged codedBlocks codedLuma setAt codedRecords rasterNumber frameOrder planeOrder inPlane inTurn ordered rowOfTiles tile present moved blocksOf blocksBefore total
+    blockQi steps readTokens positionsFrom atPosition choices table group ranks start pass visit readFor act runOf unfinished token tokenCode code extra meaning valueOf rowOf whole field number bitAt
+ones-all = refl

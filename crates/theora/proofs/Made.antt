@@ -1,0 +1,56 @@
+-- The frame of blocks that lie in slices: which matrices it depends on. Assumes nothing.
+use Prim.Native.Nat.{ℕ, _<_}
+use native.Mathlib.Omega.{arith}
+use mathlib.Core.Path.{_≡_, refl, ap, _∙_}
+use mathlib.Core.List.{List, []}
+use lib.IntN.{ℤ}
+use lib.ListN.{getD, replicate, length-replicate}
+use Rattle.geometry.specs.declared.PixelFormat.{PixelFormat}
+use Rattle.geometry.specs.Raster.{rasterNumber}
+use Rattle.geometry.proofs.RasterLaws.{raster-number-below}
+use Rattle.quantization.specs.Parameters.{Quantization}
+use Rattle.block_record.specs.declared.Prediction.{Prediction}
+use Rattle.block_record.specs.declared.Prediction.the-variants.{None, Previous, Golden}
+use Rattle.matrices.specs.Matrix.{matrixOf}
+use Rattle.tables.specs.Tables.{LimitIs}
+use Rattle.ways.specs.Ways.{firstWay}
+use Rattle.reconstruct.specs.Picture.{Matrices, typeOf, recordOf, pictureOf}
+use Rattle.reconstruct.specs.Lent.{blocksIn, matrixIn}
+use Rattle.reconstruct.proofs.Same.{matrices-same}
+use Rattle.theora.specs.Made.{BlocksLent, MatricesAre, FrameIs}
+
+type-below : (p : Prediction) → typeOf p < 2
+unfolding typeOf
+type-below None = omega arith
+type-below (Previous v) = omega arith
+type-below (Golden v) = omega arith
+
+-- the matrices of the frame's own qi are enough
+module _ (f : PixelFormat) (w h : ℕ) (records coded : List ℕ) (count : ℕ) (coefs : List ℤ) (lasts : List ℕ) (qis : ℕ) (bs : BlocksLent f w h records coded count coefs lasts qis) where
+  pub matrices-enough : (M N : Matrices) (L : ℕ) (golden previous : List ℕ)
+      → ((type plane index : ℕ) → type < 2 → plane < 3 → index < qis → M type plane index ≡ N type plane index)
+      → firstWay f w h (pictureOf f w h (blocksIn records coded count coefs lasts) M L golden previous) previous
+      ≡ firstWay f w h (pictureOf f w h (blocksIn records coded count coefs lasts) N L golden previous) previous
+  unfolding recordOf
+  matrices-enough M N L golden previous same =
+      matrices-same f w h (blocksIn records coded count coefs lasts) M N L golden previous
+      (λ b k c.
+      let r = recordOf f w h (blocksIn records coded count coefs lasts) b in
+      let n = rasterNumber f w h b in
+      let l = bs .qi-index n (bs .lent (replicate 1152 0) (length-replicate {A = ℕ} 1152 0) .blocks .every n (raster-number-below f w h b k) c) in
+      let t = type-below (r .prediction) in
+      (same (typeOf (r .prediction)) (b .plane) 0 t (k .of-three) (omega arith), same (typeOf (r .prediction)) (b .plane) (r .«qi_index») t (k .of-three) l))
+
+  -- a frame that was made by the matrices and the limit of slices
+  pub frame-is : (p : List ℕ) (place : ℕ) (ac dc sizes indices list limits ms : List ℕ) (L : ℕ) (golden previous new : List ℕ)
+      → MatricesAre p place ac dc sizes indices list qis ms → L ≡ getD limits (getD list 0 0) 0
+      → new ≡ firstWay f w h (pictureOf f w h (blocksIn records coded count coefs lasts) (matrixIn ms) L golden previous) previous
+      → FrameIs p place ac dc sizes indices list limits f w h (blocksIn records coded count coefs lasts) golden previous new
+  frame-is p place ac dc sizes indices list limits ms L golden previous new loaded limit made q holds =
+      made
+      ∙ ap (λ (L : ℕ). firstWay f w h (pictureOf f w h (blocksIn records coded count coefs lasts) (matrixIn ms) L golden previous) previous) limit
+      ∙ matrices-enough (matrixIn ms) (λ type plane index. matrixOf q type plane (getD list index 0)) (getD limits (getD list 0 0) 0) golden previous (loaded q holds)
+
+-- a limit that was looked up
+pub limit-at : (q : Quantization) (limits : List ℕ) (qi r : ℕ) → LimitIs limits qi r → r ≡ getD limits qi 0
+limit-at q limits qi r is = is (record { limits = limits; parameters = q; trees = [] }) refl

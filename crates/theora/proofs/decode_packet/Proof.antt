@@ -1,0 +1,172 @@
+-- `theora::decode_packet` meets its contract. Assumes nothing.
+use borrow.Author.Needs.{needs}
+use Prim.Native.Nat.{_*_}
+use lib.IntN.{pos}
+use lib.ListN.{replicate}
+use Rattle.geometry.specs.Sizes.{blocksOf}
+use mathlib.Core.Path.{_≡_, sym, ap, _∙_}
+use Rattle.geometry.specs.declared.PixelFormat.{PixelFormat}
+use Rattle.headers.proofs.Fitting.{fits-macro-blocks}
+use Rattle.frame_packet.specs.Work.{clear}
+use Rattle.theora.specs.Memory.{Memory, blocks}
+use Rattle.theora.proofs.Held.{tables-held}
+use Rattle.theora.proofs.Decoded.{on-refused, lent, header-few, on-accepted}
+use Rattle.theora.proofs.decode_packet.Statement.{statement}
+use Rattle.theora.proofs.decode_packet.Tie as tie
+
+pixel-format-requires : tie.Need-pixel-format-requires
+pixel-format-requires c κs = search needs
+
+read-frame-requires : tie.Need-read-frame-requires
+read-frame-requires c κs =
+    let z = c .before .before .before .before .before .before .before .before .before .before .before .before .before .before .before .before .before .before .before .before .before .before .before .before .before .before .before .before .before in
+    let a = z .args in
+    let k = fits-macro-blocks (a .s) (z .pre .0 .0) in
+    let h = z .pre .0 .3 in (
+      z .pre .0 .1,
+      k .1,
+      k .3,
+      tables-held (h .0 .trees) (a .nodes .now) (h .1 .trees),
+      ap (λ (m : Memory). m .work) (z .pre .1 .0) ∙ ap (λ (f : PixelFormat). clear f (a .s .fmbw) (a .s .fmbh)) (sym (c .before .before .before .before .before .before .before .before .before .pixel-format .ensures)),
+    )
+
+enum-known-read : tie.Need-enum-known-read
+enum-known-read c = search needs
+
+refusal-requires : tie.Need-refusal-requires
+refusal-requires c κs = search needs
+
+enum-known-read-2 : tie.Need-enum-known-read-2
+enum-known-read-2 c = search needs
+
+make-requires : tie.Need-make-requires
+make-requires c κs =
+    let z = c .before .before .before .before .before .before .before .before .before .before .before .before .before .before .before .before .before .before .before .before .before .before .before .before .before .before .before .before .before .before .before .before .before .before .before .before .before .before .before .before .before .before .before .before .before .before .before .before .before .before .before .before .before .before .before .before .before in
+    let a = z .args in
+    let r = c .before .before .before .before .before .before .before .before .before .before .before .before .before .before .before .before .before .before .before .before .before .before .before .before .before .before .before .read-frame in
+    let setup = z .pre .0 .3 .0 in
+    let h = z .pre .0 .3 .1 in
+    let ef = c .before .before .before .before .before .before .before .before .before .before .before .before .before .before .before .before .before .before .before .before .before .before .before .before .before .before .before .before .before .before .before .before .before .before .before .before .before .pixel-format .ensures in
+    let k = fits-macro-blocks (a .s) (z .pre .0 .0) in
+    let q = header-few (a .s) setup (a .packet .now) (a .nodes .now) (h .trees) ef (r .ensures .0) (r .ensures .1) (c .before .before .before .before .before .before .before .before .read2 .given .1) in
+    let b = lent (a .s) setup (a .packet .now) (a .nodes .now) (h .trees) ef (r .ensures .0) (r .ensures .1) (c .before .before .before .before .before .before .before .before .read2 .given .1) in
+    let m = z .pre .1 in
+    let n : 64 * blocks (a .s) ≡ 64 * blocksOf (c .before .before .before .before .before .before .before .before .before .before .before .before .before .before .before .before .before .before .before .before .before .before .before .before .before .before .before .before .before .before .before .before .before .before .before .before .before .pixel-format .result) (a .s .fmbw) (a .s .fmbh) = ap (λ (f : PixelFormat). 64 * blocksOf f (a .s .fmbw) (a .s .fmbh)) (sym ef) in (
+      (z .pre .0 .2, (setup .parameters, h .parameters), h .limits-few, q .1, q .0, k .1, k .3),
+      (b, ap (λ (m : Memory). m .dc) (m .0) ∙ ap (λ (f : PixelFormat). replicate (blocksOf f (a .s .fmbw) (a .s .fmbh)) (pos 0)) (sym ef), m .1 ∙ n, m .2 ∙ n, m .3 ∙ n),
+    )
+
+session-after-requires : tie.Need-session-after-requires
+session-after-requires c κs = search needs
+
+same-length : tie.Need-same-length
+same-length c = search needs
+
+same-length-2 : tie.Need-same-length-2
+same-length-2 c = search needs
+
+same-length-3 : tie.Need-same-length-3
+same-length-3 c = search needs
+
+same-length-4 : tie.Need-same-length-4
+same-length-4 c = search needs
+
+same-length-5 : tie.Need-same-length-5
+same-length-5 c = search needs
+
+same-length-6 : tie.Need-same-length-6
+same-length-6 c = search needs
+
+same-length-7 : tie.Need-same-length-7
+same-length-7 c = search needs
+
+same-length-8 : tie.Need-same-length-8
+same-length-8 c = search needs
+
+same-length-9 : tie.Need-same-length-9
+same-length-9 c = search needs
+
+returns : tie.Need-returns
+returns c = λ setup h.
+    let z = c .before .before .before .before .before .before .before .before .before .before .before .before .before .before .before .before .before .before .before .before .before .before .before .before .before .before .before .before .before .before .before .before .before .before .before .before .before .before .before .before .before .before .before .before .before .before .before .before .before .before .before in
+    let a = z .args in
+    let r = c .before .before .before .before .before .before .before .before .before .before .before .before .before .before .before .before .before .before .before .before .before .read-frame in
+    on-refused (a .s) setup (a .packet .now) (a .nodes .now) (h .trees) (c .before .before .before .before .before .before .before .before .before .before .before .before .before .before .before .before .before .before .before .before .before .before .before .before .before .before .before .before .before .before .before .pixel-format .ensures) (r .ensures .0) (r .ensures .1) (a .golden .now) (a .previous .now) (a .new .now)
+    (c .before .before .read .given .1) (c .refusal .result) (c .refusal .ensures) (a .dc .now) (ap (λ (m : Memory). m .dc) (z .pre .1 .0))
+
+same-length-10 : tie.Need-same-length-10
+same-length-10 c = c .before .before .before .before .before .before .before .before .before .before .records2 .given ∙ c .before .before .before .before .before .before .before .before .before .before .before .before .before .before .before .before .before .before .before .before .before .before .before .before .before .before .before .before .before .before .before .before .before .before .before .before .before .before .records .given
+
+same-length-11 : tie.Need-same-length-11
+same-length-11 c = c .before .before .before .before .before .before .before .before .coded2 .given ∙ c .before .before .before .before .before .before .before .before .before .before .before .before .before .before .before .before .before .before .before .before .before .before .before .before .before .before .before .before .before .before .before .before .before .before .before .before .coded .given
+
+same-length-12 : tie.Need-same-length-12
+same-length-12 c = c .before .before .before .before .before .before .coefs2 .given ∙ c .before .before .before .before .before .before .before .before .before .before .before .before .before .before .before .before .before .before .before .before .before .before .before .before .before .before .before .before .before .before .before .before .before .before .coefs .given
+
+same-length-13 : tie.Need-same-length-13
+same-length-13 c = search needs
+
+same-length-14 : tie.Need-same-length-14
+same-length-14 c = c .before .before .before .before .lasts2 .given ∙ c .before .before .before .before .before .before .before .before .before .before .before .before .before .before .before .before .before .before .before .before .before .before .before .before .before .before .before .before .before .before .before .before .before .lasts .given
+
+same-length-15 : tie.Need-same-length-15
+same-length-15 c = c .before .before .before .before .before .before .before .before .before .before .before .before .before .before .before .before .before .before .before .before .before .before .before .before .before .before .before .before .before .before .before .flags .given
+
+same-length-16 : tie.Need-same-length-16
+same-length-16 c = c .before .before .before .before .before .before .before .before .before .before .before .before .before .before .before .before .before .before .before .before .before .before .before .before .before .before .before .before .before .bits .given
+
+same-length-17 : tie.Need-same-length-17
+same-length-17 c = c .before .before .before .before .before .before .before .before .before .before .before .before .before .before .before .before .before .before .before .before .before .before .before .before .before .before .before .supers .given
+
+same-length-18 : tie.Need-same-length-18
+same-length-18 c = c .before .before .before .before .before .before .before .before .before .before .before .before .before .before .before .before .before .before .before .before .before .before .before .before .before .modes .given
+
+same-length-19 : tie.Need-same-length-19
+same-length-19 c = c .before .before .before .before .before .before .before .before .before .before .before .before .before .before .before .before .before .before .before .before .before .before .before .active .given
+
+same-length-20 : tie.Need-same-length-20
+same-length-20 c = search needs
+
+returns-2 : tie.Need-returns-2
+returns-2 c = λ setup h.
+    let z = c .before .before .before .before .before .before .before .before .before .before .before .before .before .before .before .before .before .before .before .before .before .before .before .before .before .before .before .before .before .before .before .before .before .before .before .before .before .before .before .before .before .before .before .before .before .before .before .before .before .before .before .before .before .before .before .before .before .before .before .before .before .before .before .before .before .before .before .before .before in
+    let a = z .args in
+    let r = c .before .before .before .before .before .before .before .before .before .before .before .before .before .before .before .before .before .before .before .before .before .before .before .before .before .before .before .before .before .before .before .before .before .before .before .before .before .before .before .read-frame in
+    let k = c .before .before .before .before .before .before .before .before .before .before .before .make in
+    on-accepted (a .s) setup (a .packet .now) (a .nodes .now) (h .trees) (c .before .before .before .before .before .before .before .before .before .before .before .before .before .before .before .before .before .before .before .before .before .before .before .before .before .before .before .before .before .before .before .before .before .before .before .before .before .before .before .before .before .before .before .before .before .before .before .before .before .pixel-format .ensures) (r .ensures .0) (r .ensures .1) (c .before .before .before .before .before .before .before .before .before .before .before .before .before .before .before .before .before .before .before .before .read2 .given .1)
+    (a .limits .now) (h .limits-are) (a .golden .now) (a .previous .now) _ (k .ensures .0 (setup .parameters) (h .parameters)) _ _ _ _ (a .dc .now) _ (ap (λ (m : Memory). m .dc) (z .pre .1 .0)) (k .ensures .1)
+    (a .new .now) (c .session-after .result) (c .session-after .ensures)
+
+pub decode-packet-spec : {M : Type 1} → statement M
+decode-packet-spec =
+    tie.close
+    (tie.spec
+    pixel-format-requires
+    read-frame-requires
+    enum-known-read
+    refusal-requires
+    enum-known-read-2
+    make-requires
+    session-after-requires
+    same-length
+    same-length-2
+    same-length-3
+    same-length-4
+    same-length-5
+    same-length-6
+    same-length-7
+    same-length-8
+    same-length-9
+    returns
+    same-length-10
+    same-length-11
+    same-length-12
+    same-length-13
+    same-length-14
+    same-length-15
+    same-length-16
+    same-length-17
+    same-length-18
+    same-length-19
+    same-length-20
+    returns-2)
