@@ -1,11 +1,14 @@
-// What is printed: answers, and the hashes of frames.
+// What is printed: answers, and the hashes of frames. Document 01 has no rule for it, and what the C library's `write` does to the standard output is
+// outside the logic, so a contract here says of the text nothing (`⊤ₛ`) and of a lent slice that it is as it was; `rt check` holds the text to `stdout`.
 use frame_header::Header;
 use frame_header::Kind;
 use libc::STDOUT_FILENO;
 ghost use mathlib.Core.Path.{_≡_};
 ghost use Rattle.play.specs.Hash.{hashByte, hashOf};
 
-pub fn print(text: &[u8]) {
+pub fn print(text: &[u8])
+    ensures { λ _. ⌜ now (text .exit) ≡ now (text .entry) ⌝ }
+{
     io::write_all(STDOUT_FILENO, text);
 }
 
@@ -13,7 +16,9 @@ fn print_number(n: u64) {
     io::print_decimal(STDOUT_FILENO, n);
 }
 
-pub fn print_refused(k: u32) {
+pub fn print_refused(k: u32)
+    ensures { λ _. ⊤ₛ }
+{
     print(b"refused ");
     print_number(k as u64);
     print(b"\n");
@@ -64,13 +69,17 @@ fn print_qis(qis: [u8; 3], count: u8) {
     }
 }
 
-pub fn print_frame_number(n: u64) {
+pub fn print_frame_number(n: u64)
+    ensures { λ _. ⊤ₛ }
+{
     print(b"frame ");
     print_number(n);
     print(b" ");
 }
 
-pub fn print_frame(header: Header, new: &[u8]) {
+pub fn print_frame(header: Header, new: &[u8])
+    ensures { λ _. ⌜ now (new .exit) ≡ now (new .entry) ⌝ }
+{
     let kind = header.kind;
     let qis = header.qis;
     print_kind(kind);
