@@ -1,5 +1,5 @@
 -- The call that reads a frame packet, one law for each way that it goes. Assumes nothing.
-use Prim.Native.Nat.{ℕ, zero, suc, _*_, _≤_, _<_, _^_}
+use Prim.Native.Nat.{ℕ, _*_, _≤_, _<_, _^_}
 use native.Mathlib.Omega.{arith}
 use mathlib.Core.Path.{_≡_, refl, sym, ap, _∙_}
 use mathlib.Core.List.{List, [], _∷_, _++_}
@@ -12,19 +12,16 @@ use Rattle.bitstream.specs.Reading.{Outcome, got, refused}
 use Rattle.geometry.specs.declared.PixelFormat.{PixelFormat}
 use Rattle.geometry.specs.Sizes.{blocksOf, superBlocksOf, macroBlocksOf}
 use Rattle.headers.specs.Sizes.{formatOf}
+use Rattle.huffman.specs.Tree.{Tree}
 use Rattle.headers.proofs.Fitting.{all-at, and-both}
-use Rattle.huffman.specs.Tree.{Tree, leaf, Proper, nodesOf}
-use Rattle.quantization.specs.Layout.{laid}
 use Rattle.setup.specs.Header.{Setup}
 use Rattle.setup.specs.Answer.{Loaded}
 use Rattle.setup.specs.Table.{heldSetup, asTable}
 use Rattle.setup.specs.declared.TableAnswer.{TableAnswer}
 use Rattle.setup.specs.declared.TableAnswer.the-variants.{Genuine, NotGenuine}
-use Rattle.setup.proofs.Steps.{proper-padded}
-use Rattle.tables.specs.Tables.{HoldsTrees}
 use Rattle.tables.proofs.Held.{holds-trees, held-reads}
-use Rattle.tokens.specs.Answer.{tablesOf, AllProper, Tables, treesOf}
-use Rattle.tokens.proofs.Tables.{trees-of}
+use Rattle.tokens.specs.Answer.{Tables, treesOf}
+use Rattle.decoding.proofs.Held.{tables-held, trees-held}
 use Rattle.frame_packet.specs.declared.Read.{Read}
 use Rattle.frame_packet.specs.declared.Read.the-variants.{Whole, Refused}
 use Rattle.frame_packet.specs.declared.FrameRead.{FrameRead}
@@ -33,31 +30,16 @@ use Rattle.frame_packet.specs.Work.{Work, work, clear, workAfter, asFrame}
 use Rattle.parts_c.specs.Packet.{Returned, returned, kindNumber, numberOf, countsOf, numbersOf, zeroed, lengthsFit, byTrees, bySetup, readCall}
 
 -- ---- the trees of a table memory
-all-proper : (ts : List Tree) → ((k : ℕ) → k < length ts → Proper (getD ts k (leaf 0))) → AllProper ts
-all-proper [] h = tt
-all-proper (t ∷ ts) h = (h 0 (omega arith), all-proper ts (λ k l. h (suc k) (omega arith)))
-
-laid-tables : (ts : List Tree) → AllProper ts → laid nodesOf ts ≡ tablesOf ts
-unfolding laid tablesOf
-laid-tables [] h = refl
-laid-tables (t ∷ ts) h = let e = proper-padded (h .0) in let f = laid-tables ts (h .1) in λ i. e i ++ f i
-
-tables-held : (trees : List Tree) (nodes : List ℕ) → HoldsTrees trees nodes → Tables nodes
-tables-held trees nodes h =
-    let p = all-proper trees (λ k v. h .proper k (omega (arith, v, h .eighty))) in
-    record { trees = trees; count = h .eighty; proper = p; there = h .nodes-are ∙ laid-tables trees p }
-
 -- a table memory that is genuine: the slice holds its trees, and the packet is read by them
 pub genuine-trees : (t : List ℕ) {r : TableAnswer} {m : ℕ} → r ≡ asTable (heldSetup t) → r ≡ Genuine m → (limits ac dc sizes indices nodes : List ℕ) → Loaded (heldSetup t) limits ac dc sizes indices nodes
     → Tables nodes × ((f : PixelFormat) (w h : ℕ) (references : Bool) (packet old : List ℕ) → byTrees f w h references packet (treesOf nodes) ≡ bySetup f w h references packet old (heldSetup t))
-unfolding tables-held
 genuine-trees t {r} {m} a g limits ac dc sizes indices nodes l = go (heldSetup t) refl a l
   where
     go : (o : Outcome Setup) → heldSetup t ≡ o → r ≡ asTable o → Loaded o limits ac dc sizes indices nodes
         → Tables nodes × ((f : PixelFormat) (w h : ℕ) (references : Bool) (packet old : List ℕ) → byTrees f w h references packet (treesOf nodes) ≡ bySetup f w h references packet old o)
     go (got s e) h b stored =
-        let k = tables-held (s .trees) nodes (holds-trees t (held-reads t h) limits ac dc sizes indices nodes stored) in
-        (k, λ f w h references packet old. ap (byTrees f w h references packet) (trees-of nodes k))
+        let k = holds-trees t (held-reads t h) limits ac dc sizes indices nodes stored in
+        (tables-held (s .trees) nodes k, λ f w h references packet old. ap (byTrees f w h references packet) (trees-held (s .trees) nodes k))
     go (refused j e) h b stored =
         let u : Genuine m ≡ NotGenuine = sym g ∙ b in
         let z : _≡_ {A = ℕ} 0 1 = cc in

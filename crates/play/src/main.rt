@@ -1,6 +1,8 @@
 // Decodes the packet files that its arguments name. For each packet it prints the answer, and for a frame its hash.
 mod report;
 
+use decoding::FrameAnswer;
+use decoding::Verdict;
 use frame_header::Kind;
 use headers::IdentificationAnswer;
 use headers::Session;
@@ -9,8 +11,6 @@ use report::print_frame;
 use report::print_frame_number;
 use report::print_refused;
 use setup::SetupAnswer;
-use theora::FrameAnswer;
-use theora::Verdict;
 use theora::WorkAnswer;
 use theora::WorkLengths;
 ghost use mathlib.Core.Path.{_≡_};
@@ -194,7 +194,7 @@ fn play_setup(fd: i32, buffer: &mut [u8], table: &mut [u8]) {
     let packet = read_packet(fd, buffer);
     let end = packet.length;
     print(b"header 2 ");
-    match setup::setup(&buffer[..end], table) {
+    match theora::setup(&buffer[..end], table) {
         SetupAnswer::Accepted => print(b"accepted\n"),
         SetupAnswer::Refused(k) => print_refused(k),
     }
@@ -213,7 +213,7 @@ fn play(fd: i32, buffer: &mut [u8]) {
     let packet = read_packet(fd, buffer);
     let end = packet.length;
     print(b"header 0 ");
-    match headers::identification(&buffer[..end]) {
+    match theora::identification(&buffer[..end]) {
         IdentificationAnswer::Refused(k) => print_refused(k),
         IdentificationAnswer::Accepted(s) => {
             print(b"accepted\n");

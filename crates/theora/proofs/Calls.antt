@@ -1,27 +1,25 @@
 -- A frame call, one law for each way that it goes. Assumes nothing.
 use Prim.Native.Nat.{ℕ, _*_}
-use mathlib.Core.Path.{_≡_, refl, sym, ap, _∙_}
+use mathlib.Core.Path.{_≡_, sym, ap, _∙_}
 use mathlib.Core.List.{List}
 use mathlib.Core.Bool.{true, false}
 use lib.Dec.{lit<}
 use lib.IntN.{pos}
 use lib.ListN.{length, replicate}
 use borrow.Author.Tests.{eqb-true}
-use Rattle.bitstream.specs.Reading.{Outcome, got, refused, after}
+use Rattle.bitstream.specs.Reading.{refused}
 use Rattle.bitstream.specs.Answer.{readable}
 use Rattle.headers.specs.declared.Session.{Session}
 use Rattle.headers.specs.Fits.{sessionFits}
-use Rattle.headers.proofs.Fitting.{all-at, fits-macro-blocks}
-use Rattle.setup.specs.Header.{Setup}
-use Rattle.setup.specs.Table.{tableBytes, heldSetup}
-use Rattle.tables.proofs.Held.{held-reads, trees-whole}
-use Rattle.frame_packet.specs.Frame.{Frame}
-use Rattle.frame_packet.proofs.Laws.{packet-readable}
+use Rattle.headers.proofs.Fitting.{all-at}
+use Rattle.setup.specs.Table.{tableBytes}
 use Rattle.ways.specs.Ways.{firstWay}
-use Rattle.theora.specs.declared.FrameAnswer.{FrameAnswer}
-use Rattle.theora.specs.Memory.{Memory, memory, format, blocks, superBlocks, macroBlocks, lengthsOf, zeroed, cleared, lengthsFit}
-use Rattle.theora.specs.Call.{State, Call, Done, state, call, done, lengthsHold, readBy, read, said, answerFor, decoded, memoryAfter, byRules}
-use Rattle.theora.proofs.Held.{trees-proper}
+use Rattle.decoding.specs.declared.FrameAnswer.{FrameAnswer}
+use Rattle.decoding.specs.Memory.{Memory, memory, blocks, cleared}
+use Rattle.decoding.specs.Answer.{State, Done, state, done, read, answerFor, decoded}
+use Rattle.decoding.proofs.Answers.{read-readable}
+use Rattle.theora.specs.Lengths.{superBlocks, macroBlocks, lengthsOf, zeroed, lengthsFit}
+use Rattle.theora.specs.Call.{Call, call, lengthsHold, said, memoryAfter, byRules}
 
 -- ---- lengths that are the published ones
 module _ (s : Session) (golden previous new table : List ℕ) (m : Memory) (fit : lengthsFit (lengthsOf s) golden previous new table m ≡ true) where
@@ -48,35 +46,6 @@ module _ (s : Session) (golden previous new table : List ℕ) (m : Memory) (fit 
       let active : length (m .work .active) ≡ blocks s = eqb-true _ _ (all-at _ 13 fit (lit< tt)) in
       λ i. memory (replicate (records i) 0) (replicate (coded i) 0) (replicate (coefs i) (pos 0)) (replicate (dc i) (pos 0)) (replicate (lasts i) 0)
       (replicate (flags i) 0) (replicate (bits i) 0) (replicate (supers i) 0) (replicate (modes i) 0) (replicate (active i) 0)
-
--- ---- a packet of any length
-module _ (s : Session) (fits : sessionFits s ≡ true) where
-  by-readable : (setup : Setup) (table packet : List ℕ) {e : ℕ} → heldSetup table ≡ got setup e → readBy s setup (readable packet) ≡ readBy s setup packet
-  by-readable setup table packet h =
-      let k = fits-macro-blocks s fits in
-      let t = trees-whole table (held-reads table h) in
-      ap (λ (o : Outcome Frame). after o (λ fr e. got (record { setup = setup; frame = fr }) e))
-      (packet-readable (format s) (s .fmbw) (s .fmbh) (setup .trees) (trees-proper (setup .trees) (t .0) (t .1)) (k .1) (k .3) (s .references) packet)
-
-  pub read-readable : (table packet : List ℕ) → read s table (readable packet) ≡ read s table packet
-  unfolding read
-  read-readable table packet = go (heldSetup table) refl
-    where
-      go : (o : Outcome Setup) → heldSetup table ≡ o → after o (λ setup _. readBy s setup (readable packet)) ≡ after o (λ setup _. readBy s setup packet)
-      go (got setup e) h = by-readable setup table packet h
-      go (refused k e) h = refl
-
--- ---- a packet by table memory
-module _ (s : Session) (golden previous packet table new : List ℕ) where
-  pub decoded-8 : heldSetup table ≡ refused 8 0 → (a : FrameAnswer) → a ≡ answerFor s (refused 8 0) → (m : Memory) → m ≡ cleared s
-      → done a new m ≡ decoded firstWay (state s golden previous) new (read s table packet)
-  unfolding read
-  decoded-8 h a ea m em = rw h (λ i. done (ea i) new (em i))
-
-  pub decoded-by : {setup : Setup} {e : ℕ} → heldSetup table ≡ got setup e → (d : Done) → d ≡ decoded firstWay (state s golden previous) new (readBy s setup packet)
-      → d ≡ decoded firstWay (state s golden previous) new (read s table packet)
-  unfolding read
-  decoded-by h d e = rw h e
 
 -- ---- the ways of a call
 module _ (s : Session) (golden previous packet table new : List ℕ) (m : Memory) where

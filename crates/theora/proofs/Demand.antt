@@ -17,9 +17,11 @@ use Rattle.ways.specs.Loops.{_∈_}
 use Rattle.ways.specs.Ways.{firstWay, secondWay}
 use Rattle.ways.proofs.Agree.{ways-agree}
 use Rattle.ways.proofs.Kept.{differs-along}
-use Rattle.theora.specs.Memory.{format, blocks, lengthsOf, lengthsFit}
-use Rattle.theora.specs.Call.{State, Call, Done, Asked, done, lengthsHold, read, said, picture, answerFor, newBy, memoryAfter, byRules}
-use Rattle.theora.specs.Demand.{Turn, turn, turns, Ran, FramePromise, UncodedKept, fresh, Demand3, Demand3Holds}
+use Rattle.decoding.specs.Memory.{format, blocks}
+use Rattle.theora.specs.Lengths.{lengthsOf, lengthsFit}
+use Rattle.decoding.specs.Answer.{State, Done, Asked, done, read, picture, answerFor, newBy, state}
+use Rattle.theora.specs.Call.{Call, lengthsHold, said, memoryAfter, byRules, FramePromise}
+use Rattle.theora.specs.Demand.{Turn, turn, turns, Ran, UncodedKept, Demand3, Demand3Holds}
 
 -- an accepted call passed both tests
 passed : (a b : Bool) (o : Outcome Asked) {x : Asked} {e : ℕ} → choose a (choose b o (refused 1 0)) (refused 8 0) ≡ got x e → b ≡ true
@@ -103,4 +105,4 @@ demand3 start cs = record {
 }
 
 pub demand3-holds : Demand3Holds
-demand3-holds header s e accepted golden previous cs = demand3 (fresh s golden previous) cs
+demand3-holds header s e accepted golden previous cs = demand3 (state s golden previous) cs

@@ -10,11 +10,12 @@ use Rattle.bitstream.specs.Reading.{choose}
 use Rattle.headers.specs.declared.Session.{Session}
 use Rattle.frame_header.specs.declared.Kind.{Kind}
 use Rattle.frame_header.specs.declared.Kind.the-variants.{Intra, Inter, Repeat}
-use Rattle.theora.specs.declared.Verdict.{Verdict}
-use Rattle.theora.specs.declared.Verdict.the-variants.{Accepted, Refused}
-use Rattle.theora.specs.Memory.{Memory}
-use Rattle.theora.specs.Call.{State, Call, Done, sessionAfter}
-use Rattle.theora.specs.Demand.{Turn, turns, fresh}
+use Rattle.decoding.specs.declared.Verdict.{Verdict}
+use Rattle.decoding.specs.declared.Verdict.the-variants.{Accepted, Refused}
+use Rattle.decoding.specs.Memory.{Memory}
+use Rattle.decoding.specs.Answer.{State, Done, sessionAfter, state}
+use Rattle.theora.specs.Call.{Call}
+use Rattle.theora.specs.Demand.{Turn, turns}
 
 module _ (memory : Memory) where
   session : Session
@@ -59,7 +60,7 @@ module _ (memory : Memory) where
   after-each : Turn → List (List ℕ)
   after-each t = t .after .golden ∷ t .after .previous ∷ t .done .new ∷ []
 
-  handed-on : map after-each (turns does (fresh session (7 ∷ []) (8 ∷ [])) (call 1 ∷ call 2 ∷ call 3 ∷ call 4 ∷ call 5 ∷ call 6 ∷ []))
+  handed-on : map after-each (turns does (state session (7 ∷ []) (8 ∷ [])) (call 1 ∷ call 2 ∷ call 3 ∷ call 4 ∷ call 5 ∷ call 6 ∷ []))
       ≡ ((10 ∷ []) ∷ (10 ∷ []) ∷ (10 ∷ []) ∷ [])
       ∷ ((10 ∷ []) ∷ (10 ∷ []) ∷ (2 ∷ []) ∷ [])
       ∷ ((10 ∷ []) ∷ (30 ∷ []) ∷ (30 ∷ []) ∷ [])

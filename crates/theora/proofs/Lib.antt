@@ -1,8 +1,4 @@
 pub mod Lengths
-pub mod Matrices
-pub mod Made
-pub mod Held
-pub mod Decoded
 pub mod Calls
 pub mod Table
 pub mod Demand

@@ -1,34 +1,14 @@
 -- A frame call: what it is lent, what it answers, and what it leaves.
 use Prim.Native.Nat.{ℕ}
-use mathlib.Core.Bool.{Bool, true}
+use mathlib.Core.Path.{_≡_}
+use mathlib.Core.Bool.{Bool, _&&_}
 use mathlib.Core.List.{List}
-use lib.ListN.{getD}
-use Rattle.bitstream.specs.Reading.{Outcome, got, refused, after, choose}
-use Rattle.geometry.specs.declared.PixelFormat.{PixelFormat}
-use Rattle.headers.specs.declared.Session.{Session}
+use Rattle.bitstream.specs.Reading.{Outcome, refused, choose}
 use Rattle.headers.specs.Fits.{sessionFits}
-use Rattle.matrices.specs.Matrix.{matrixOf}
-use Rattle.setup.specs.Header.{Setup}
-use Rattle.setup.specs.Table.{heldSetup}
-use Rattle.tables.specs.Tables.{limitOf}
-use Rattle.frame_header.specs.declared.Kind.{Kind}
-use Rattle.frame_header.specs.declared.Kind.the-variants.{Intra, Inter, Repeat}
-use Rattle.frame_header.specs.Answer.{asHeader, repeated}
-use Rattle.frame_packet.specs.Frame.{Frame, framePacket}
-use Rattle.ways.specs.Ways.{Picture}
-use Rattle.reconstruct.specs.Picture.{Blocks, Matrices, pictureOf}
-use Rattle.theora.specs.declared.FrameAnswer.{FrameAnswer}
-use Rattle.theora.specs.declared.Verdict.the-variants.{Accepted, Refused}
-use Rattle.theora.specs.Memory.{Memory, format, lengthsOf, cleared, lengthsFit}
-
--- what is kept from call to call
-pub record State : Type 0 where
-  pub session : Session
-  pub golden : List ℕ
-  pub previous : List ℕ
-
-abbrev pub state : Session → (golden previous : List ℕ) → State
-state s golden previous = record { session = s; golden = golden; previous = previous }
+use Rattle.ways.specs.Ways.{firstWay}
+use Rattle.decoding.specs.Memory.{Memory, cleared}
+use Rattle.decoding.specs.Answer.{State, Done, Asked, Way, done, read, answerFor, newBy}
+use Rattle.theora.specs.Lengths.{lengthsOf, lengthsFit}
 
 -- what a call brings
 pub record Call : Type 0 where
@@ -40,32 +20,10 @@ pub record Call : Type 0 where
 abbrev pub call : (packet table : List ℕ) → Memory → (new : List ℕ) → Call
 call packet table memory new = record { packet = packet; table = table; memory = memory; new = new }
 
--- what a call leaves: its answer, in which the session stands, new, and work memory
-pub record Done : Type 0 where
-  pub answer : FrameAnswer
-  pub new : List ℕ
-  pub memory : Memory
-
-abbrev pub done : FrameAnswer → (new : List ℕ) → Memory → Done
-done answer new memory = record { answer = answer; new = new; memory = memory }
-
--- what an accepted packet asks for: what it says, and the setup
-pub record Asked : Type 0 where
-  pub setup : Setup
-  pub frame : Frame
-
 -- ---- when a call is refused
 -- every lent length is the published one
 abbrev pub lengthsHold : State → Call → Bool
 lengthsHold st c = lengthsFit (lengthsOf (st .session)) (st .golden) (st .previous) (c .new) (c .table) (c .memory)
-
--- a packet by a setup
-abbrev pub readBy : Session → Setup → (packet : List ℕ) → Outcome Asked
-readBy s setup packet = after (framePacket (format s) (s .fmbw) (s .fmbh) (setup .trees) (s .references) packet) (λ fr e. got (record { setup = setup; frame = fr }) e)
-
--- "the rest of 8, then the packet"
-unfoldable pub read : Session → (table packet : List ℕ) → Outcome Asked
-read s table packet = after (heldSetup table) (λ setup _. readBy s setup packet)
 
 -- "Frame: that" (the identification part of 8), "then 1, the rest of 8, then the packet"
 unfoldable pub said : State → Call → Outcome Asked
@@ -74,73 +32,19 @@ said st c =
     (choose (lengthsHold st c) (read (st .session) (c .table) (c .packet)) (refused 1 0))
     (refused 8 0)
 
--- ---- what an accepted packet asks for
--- the frame's qi of a number, counted from 0
-abbrev pub qiAt : Asked → ℕ → ℕ
-qiAt a index = getD (a .frame .header .qis) index 0
-
-abbrev pub blocksAsked : Asked → Blocks
-blocksAsked a =
-    let b = a .frame .body in
-    record { records = b .records; coded = b .coded; coefs = b .tokens .coefs; lasts = b .tokens .lasts }
-
-abbrev pub matricesAsked : Asked → Matrices
-matricesAsked a type plane index = matrixOf (a .setup .parameters) type plane (qiAt a index)
-
--- "L is the limit of the first qi"
-unfoldable pub picture : Session → Asked → (golden previous : List ℕ) → Picture
-picture s a = pictureOf (format s) (s .fmbw) (s .fmbh) (blocksAsked a) (matricesAsked a) (limitOf (a .setup) (qiAt a 0))
-
 -- ---- what a call leaves
--- "Accepted inter and empty packets leave the session as it was; an intra one sets its reference flag"
-unfoldable pub sessionAfter : Kind → Session → Session
-sessionAfter Intra s = record {
-  vrev = s .vrev;
-  fmbw = s .fmbw;
-  fmbh = s .fmbh;
-  picw = s .picw;
-  pich = s .pich;
-  picx = s .picx;
-  picy = s .picy;
-  frn = s .frn;
-  frd = s .frd;
-  parn = s .parn;
-  pard = s .pard;
-  cs = s .cs;
-  nombr = s .nombr;
-  qual = s .qual;
-  kfgshift = s .kfgshift;
-  pf = s .pf;
-  references = true;
-}
-sessionAfter Inter s = s
-sessionAfter Repeat s = s
-
--- "Every refusal returns its number alone": the header beside it says nothing, and the session is as it was.
--- "An accepted frame answers with its kind (intra, inter, repeat) and the qi list (empty for repeat)"
-abbrev pub answerFor : Session → Outcome Asked → FrameAnswer
-answerFor s (refused k e) = record { verdict = Refused k; header = repeated; session = s }
-answerFor s (got a e) = record { verdict = Accepted; header = asHeader (a .frame .header); session = sessionAfter (a .frame .header .kind) s }
-
--- a way to make a frame of w by h macro blocks: of a picture and previous
-abbrev pub Way : Type 0
-Way = PixelFormat → ℕ → ℕ → Picture → List ℕ → List ℕ
-
--- "A refused one changes none of these, nor new; an accepted one makes new"
-abbrev pub newBy : Way → State → List ℕ → Outcome Asked → List ℕ
-newBy way st new (refused k e) = new
-newBy way st new (got a e) =
-    let s = st .session in
-    way (format s) (s .fmbw) (s .fmbh) (picture s a (st .golden) (st .previous)) (st .previous)
-
--- what a call past its length check leaves
-abbrev pub decoded : Way → State → (new : List ℕ) → Outcome Asked → Done
-decoded way st new o = done (answerFor (st .session) o) (newBy way st new o) (cleared (st .session))
+-- both tests before table memory is looked at
+abbrev pub pastLengths : State → Call → Bool
+pastLengths st c = sessionFits (st .session) && lengthsHold st c
 
 -- "Work memory is all zero after every frame call past its length check, else untouched"
 unfoldable pub memoryAfter : State → Call → Memory
-memoryAfter st c = choose (sessionFits (st .session)) (choose (lengthsHold st c) (cleared (st .session)) (c .memory)) (c .memory)
+memoryAfter st c = choose (pastLengths st c) (cleared (st .session)) (c .memory)
 
 -- a frame call by a way
 unfoldable pub byRules : Way → State → Call → Done
 byRules way st c = done (answerFor (st .session) (said st c)) (newBy way st (c .new) (said st c)) (memoryAfter st c)
+
+-- what `theora::frame` promises: the answer, new and work memory are, to the byte, what going over all blocks gives
+abbrev pub FramePromise : State → Call → Done → Type 0
+FramePromise st c d = d ≡ byRules firstWay st c

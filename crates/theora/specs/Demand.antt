@@ -15,10 +15,11 @@ use Rattle.frame_header.specs.declared.Kind.{Kind}
 use Rattle.frame_header.specs.declared.Kind.the-variants.{Intra, Inter, Repeat}
 use Rattle.ways.specs.Loops.{_∈_}
 use Rattle.ways.specs.Ways.{firstWay, secondWay, AlongCoded}
-use Rattle.theora.specs.declared.Verdict.{Verdict}
-use Rattle.theora.specs.declared.Verdict.the-variants.{Accepted, Refused}
-use Rattle.theora.specs.Memory.{format}
-use Rattle.theora.specs.Call.{State, Call, Done, Asked, said, picture, byRules}
+use Rattle.decoding.specs.declared.Verdict.{Verdict}
+use Rattle.decoding.specs.declared.Verdict.the-variants.{Accepted, Refused}
+use Rattle.decoding.specs.Memory.{format}
+use Rattle.decoding.specs.Answer.{State, Done, Asked, state, picture}
+use Rattle.theora.specs.Call.{Call, said, byRules, FramePromise}
 
 -- "After an accepted intra frame new becomes golden and previous, after another accepted packet previous; after a refusal all stay"
 abbrev pub handedOn : State → Verdict → Kind → Session → List ℕ → State
@@ -49,10 +50,6 @@ Ran Promise st [] (t ∷ ts) = ⊥
 Ran Promise st (c ∷ cs) [] = ⊥
 Ran Promise st (c ∷ cs) (t ∷ ts) = (t ≡ turn st c (t .done)) × Promise st c (t .done) × Ran Promise (t .after) cs ts
 
--- what `theora::frame` promises: its contract says this
-abbrev pub FramePromise : State → Call → Done → Type 0
-FramePromise st c d = d ≡ byRules firstWay st c
-
 -- at an accepted call a sample of an uncoded block differs from the previous frame only if it lies in that block's outermost row or column
 -- along an edge shared with a coded block of the same plane. "The previous frame is previous as lent to the call"
 unfoldable pub UncodedKept : Turn → Type 0
@@ -62,8 +59,8 @@ UncodedKept t =
     (a : Asked) (e : ℕ) → said st (t .call) ≡ got a e
     → let pic = picture s a (st .golden) (st .previous) in
     (b : Block) (c r : ℕ) → InFrame (format s) (s .fmbw) (s .fmbh) b → c < 8 → r < 8 → pic .coded b ≡ false
-    → getD (t .done .new) (sampleAt (format s) (s .fmbw) (s .fmbh) b c r) 0 ≢ getD (st .previous) (sampleAt (format s) (s .fmbw) (s .fmbh) b c r) 0
-    → AlongCoded (format s) (s .fmbw) (s .fmbh) pic b c r
+    → let at = sampleAt (format s) (s .fmbw) (s .fmbh) b c r in
+    getD (t .done .new) at 0 ≢ getD (st .previous) at 0 → AlongCoded (format s) (s .fmbw) (s .fmbh) pic b c r
 
 -- of one list of calls. A turn holds the answer, and session, golden, previous and new after the call
 pub record Demand3 (start : State) (calls : List Call) : Type 0 where
@@ -75,8 +72,5 @@ pub record Demand3 (start : State) (calls : List Call) : Type 0 where
   pub uncoded-kept : (t : Turn) → t ∈ turns (byRules firstWay) start calls → UncodedKept t
 
 -- "For every list of frame calls from a fresh session": as an accepted identification header gives it. "At first golden and previous are any"
-abbrev pub fresh : Session → (golden previous : List ℕ) → State
-fresh s golden previous = record { session = s; golden = golden; previous = previous }
-
 abbrev pub Demand3Holds : Type 0
-Demand3Holds = (header : List ℕ) (s : Session) (e : ℕ) → identification header 0 ≡ got s e → (golden previous : List ℕ) (calls : List Call) → Demand3 (fresh s golden previous) calls
+Demand3Holds = (header : List ℕ) (s : Session) (e : ℕ) → identification header 0 ≡ got s e → (golden previous : List ℕ) (calls : List Call) → Demand3 (state s golden previous) calls

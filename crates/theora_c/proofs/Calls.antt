@@ -20,8 +20,9 @@ use Rattle.frame_header.specs.declared.Header.{Header}
 use Rattle.frame_header.specs.declared.Kind.{Kind}
 use Rattle.frame_header.specs.declared.Kind.the-variants.{Intra, Inter, Repeat}
 use Rattle.ways.specs.Ways.{firstWay}
-use Rattle.theora.specs.declared.Verdict.{Verdict}
-use Rattle.theora.specs.Call.{Call, Done, Asked, state, said, sessionAfter, answerFor, byRules}
+use Rattle.decoding.specs.declared.Verdict.{Verdict}
+use Rattle.decoding.specs.Answer.{Done, Asked, state, sessionAfter, answerFor}
+use Rattle.theora.specs.Call.{Call, said, byRules}
 use Rattle.theora_c.specs.Face.{Returned, gives, flag, numbersOf, sessionOf, onList, setupNumber, setupCall, tableCall, matrixReturned, matrixFound, matrixCall, headerNumbers, referenceNumber, sessionNumbers, Answered, answers, verdictReturned, frameGives, stateOf, frameCall}
 
 -- the numbers of a session, with the last one found by `flag_number`

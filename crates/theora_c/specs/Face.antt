@@ -25,12 +25,14 @@ use Rattle.frame_header.specs.declared.Header.{Header}
 use Rattle.frame_header.specs.declared.Kind.{Kind}
 use Rattle.frame_header.specs.declared.Kind.the-variants.{Intra, Inter, Repeat}
 use Rattle.ways.specs.Ways.{firstWay}
-use Rattle.theora.specs.declared.FrameAnswer.{FrameAnswer}
-use Rattle.theora.specs.declared.Verdict.{Verdict}
+use Rattle.decoding.specs.declared.FrameAnswer.{FrameAnswer}
+use Rattle.decoding.specs.declared.Verdict.{Verdict}
 use Rattle.theora.specs.declared.WorkAnswer.{WorkAnswer}
 use Rattle.theora.specs.declared.WorkLengths.{WorkLengths}
-use Rattle.theora.specs.Memory.{Memory, workLengths}
-use Rattle.theora.specs.Call.{State, Call, Done, state, byRules}
+use Rattle.decoding.specs.Memory.{Memory}
+use Rattle.theora.specs.Lengths.{workLengths}
+use Rattle.decoding.specs.Answer.{State, Done, state}
+use Rattle.theora.specs.Call.{Call, byRules}
 
 -- what a call returns, and what the list lent for its answer holds afterwards
 pub record Returned : Type 0 where

@@ -1,4 +1,6 @@
 // The face for C and other languages: include/wedgepetal.h says what each call is for.
+use decoding::FrameAnswer;
+use decoding::Verdict;
 use frame_header::Header;
 use frame_header::Kind;
 use headers::IdentificationAnswer;
@@ -9,14 +11,12 @@ use queries::MatrixAnswer;
 use queries::NumberAnswer;
 use queries::PlaceAnswer;
 use setup::SetupAnswer;
-use theora::FrameAnswer;
-use theora::Verdict;
 use theora::WorkAnswer;
 ghost use mathlib.Core.Path.{_≡_};
 ghost use Prim.Native.Nat.{ℕ};
 ghost use lib.ListN.{length};
 ghost use Rattle.theora_c.specs.Face.{gives, flag, numbersOf, sessionOf, sessionReturned, sizesReturned, blockReturned, placeReturned, numberReturned, identificationCall, sizesCall, blockAtCall, blockNumberCall, macroBlockAtCall, macroBlockNumberCall, macroBlockOfCall, sampleOffsetCall, setupCall, tableCall, limitCall, matrixReturned, matrixCall, lengthsReturned, workLengthsCall, kindNumber, headerNumbers, referenceNumber, answers, verdictReturned, frameGives, frameCall};
-ghost use Rattle.theora.specs.Memory.{memory};
+ghost use Rattle.decoding.specs.Memory.{memory};
 ghost use Rattle.theora.specs.Call.{call};
 
 // ---- lists of numbers
@@ -286,7 +286,7 @@ pub extern "C" fn wedgepetal_identification(packet: &[u8], session: &mut [u64]) 
     ensures { λ r. ⌜ gives r (now (session .exit)) ≡ identificationCall (now (packet .entry)) (now (session .entry)) ⌝ }
 {
     if session.len() == 17 {
-        return return_session(headers::identification(packet), session);
+        return return_session(theora::identification(packet), session);
     }
     1
 }
@@ -296,7 +296,7 @@ pub extern "C" fn wedgepetal_sizes(session: &[u64], sizes: &mut [u64]) -> u32
     ensures { λ r. ⌜ gives r (now (sizes .exit)) ≡ sizesCall (now (session .entry)) (now (sizes .entry)) ⌝ }
 {
     if (session.len() == 17) & (sizes.len() == 16) {
-        return return_sizes(headers::sizes(session_of(session)), sizes);
+        return return_sizes(theora::sizes(session_of(session)), sizes);
     }
     1
 }
@@ -402,7 +402,7 @@ pub extern "C" fn wedgepetal_sample_offset(
 pub extern "C" fn wedgepetal_setup(packet: &[u8], table: &mut [u8]) -> u32
     ensures { λ r. ⌜ gives r (now (table .exit)) ≡ setupCall (now (packet .entry)) (now (table .entry)) ⌝ }
 {
-    match setup::setup(packet, table) {
+    match theora::setup(packet, table) {
         SetupAnswer::Accepted => 0,
         SetupAnswer::Refused(k) => k,
     }

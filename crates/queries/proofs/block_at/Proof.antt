@@ -1,4 +1,4 @@
--- `theora::block_at` meets its contract. Assumes nothing.
+-- `queries::block_at` meets its contract. Assumes nothing.
 use borrow.Author.Needs.{needs}
 use Prim.Native.Nat.{_≤_, _<_}
 use mathlib.Core.Path.{sym, ap, subst, _∙_}

@@ -1,4 +1,4 @@
--- `theora::block_number` meets its contract. Assumes nothing.
+-- `queries::block_number` meets its contract. Assumes nothing.
 use borrow.Author.Needs.{needs}
 use mathlib.Core.Path.{sym, ap, _∙_}
 use Rattle.geometry.specs.Frame.{block}

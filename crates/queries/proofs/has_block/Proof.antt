@@ -1,4 +1,4 @@
--- `theora::has_block` meets its contract. Assumes nothing.
+-- `queries::has_block` meets its contract. Assumes nothing.
 use borrow.Author.Needs.{needs}
 use borrow.Author.Tests.{lt-ltb, le-ltb}
 use mathlib.Core.Path.{sym}

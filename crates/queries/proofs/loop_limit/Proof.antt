@@ -1,4 +1,4 @@
--- `theora::loop_limit` meets its contract. Assumes nothing.
+-- `queries::loop_limit` meets its contract. Assumes nothing.
 use borrow.Author.Needs.{needs}
 use mathlib.Core.Path.{sym, ap}
 use Rattle.queries.specs.Orders.{asNumber}

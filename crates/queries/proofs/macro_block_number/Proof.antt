@@ -1,4 +1,4 @@
--- `theora::macro_block_number` meets its contract. Assumes nothing.
+-- `queries::macro_block_number` meets its contract. Assumes nothing.
 use borrow.Author.Needs.{needs}
 use native.Mathlib.Nat.{not-le-of-lt}
 use mathlib.Core.Path.{sym, ap, _∙_}

@@ -1,4 +1,4 @@
--- `theora::macro_block_of` meets its contract. Assumes nothing.
+-- `queries::macro_block_of` meets its contract. Assumes nothing.
 use borrow.Author.Needs.{needs}
 use mathlib.Core.Path.{sym, ap, _∙_}
 use Rattle.geometry.specs.Frame.{block}

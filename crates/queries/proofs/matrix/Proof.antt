@@ -1,4 +1,4 @@
--- `theora::matrix` meets its contract. Assumes nothing.
+-- `queries::matrix` meets its contract. Assumes nothing.
 use borrow.Author.Needs.{needs}
 use native.Mathlib.Omega.{arith}
 use Rattle.tables.proofs.Held.{genuine-holds}

@@ -1,4 +1,4 @@
--- `theora::sample_offset` meets its contract. Assumes nothing.
+-- `queries::sample_offset` meets its contract. Assumes nothing.
 use borrow.Author.Needs.{needs}
 use mathlib.Core.Path.{_≡_, sym, ap, subst, _∙_}
 use mathlib.Core.Bool.{Bool, true, false, _&&_}

@@ -5,7 +5,7 @@ use lib.IntN.{pos}
 use lib.ListN.{length}
 use Rattle.buffer.proofs.Laws.{cleared-all}
 use Rattle.frame_packet.proofs.Whole.{nothing-behind}
-use Rattle.theora.specs.Memory.{memory}
+use Rattle.decoding.specs.Memory.{memory}
 use Rattle.theora.proofs.clear_memory.Statement.{statement}
 use Rattle.theora.proofs.clear_memory.Tie as tie
 

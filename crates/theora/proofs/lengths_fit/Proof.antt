@@ -3,7 +3,7 @@ use native.Mathlib.Omega.{arith}
 use mathlib.Core.Path.{ap}
 use Rattle.headers.proofs.Fitting.{chain-all}
 use Rattle.theora.specs.declared.WorkLengths.{WorkLengths}
-use Rattle.theora.specs.Memory.{lengthsOf, lengthsFit}
+use Rattle.theora.specs.Lengths.{lengthsOf, lengthsFit}
 use Rattle.theora.proofs.Lengths.{session-small}
 use Rattle.theora.proofs.lengths_fit.Statement.{statement}
 use Rattle.theora.proofs.lengths_fit.Tie as tie

@@ -2,7 +2,7 @@
 use borrow.Author.Needs.{needs}
 use mathlib.Core.Path.{sym, ap, _∙_}
 use Rattle.theora.specs.declared.WorkAnswer.{WorkAnswer}
-use Rattle.theora.specs.Memory.{workLengths}
+use Rattle.theora.specs.Lengths.{workLengths}
 use Rattle.theora.proofs.work_lengths.Statement.{statement}
 use Rattle.theora.proofs.work_lengths.Tie as tie
 

@@ -3,34 +3,18 @@ use Prim.Native.Nat.{ℕ, _+_, _*_}
 use mathlib.Core.Bool.{Bool}
 use mathlib.Core.List.{List, [], _∷_}
 use lib.Dec.{eqb}
-use lib.IntN.{ℤ, pos}
+use lib.IntN.{pos}
 use lib.ListN.{length, replicate}
 use Rattle.bitstream.specs.Reading.{choose}
-use Rattle.geometry.specs.declared.PixelFormat.{PixelFormat}
-use Rattle.geometry.specs.Sizes.{blocksOf, superBlocksOf, macroBlocksOf}
+use Rattle.geometry.specs.Sizes.{superBlocksOf, macroBlocksOf}
 use Rattle.headers.specs.declared.Session.{Session}
 use Rattle.headers.specs.Fits.{all, sessionFits}
-use Rattle.headers.specs.Sizes.{formatOf}
 use Rattle.setup.specs.Table.{tableBytes}
-use Rattle.frame_packet.specs.Work.{Work, work, clear}
+use Rattle.decoding.specs.Memory.{Memory, memory, format, blocks}
 use Rattle.theora.specs.declared.WorkLengths.{WorkLengths}
 use Rattle.theora.specs.declared.WorkAnswer.{WorkAnswer}
 
--- work memory: what the reader of a packet uses, and the DC of each block after prediction, by raster number
-pub record Memory : Type 0 where
-  pub work : Work
-  pub dc : List ℤ
-
-abbrev pub memory : (records coded : List ℕ) (coefs dc : List ℤ) (lasts flags bits supers modes active : List ℕ) → Memory
-memory records coded coefs dc lasts flags bits supers modes active = record { work = work records coded coefs lasts flags bits supers modes active; dc = dc }
-
--- the sizes of a session's frames
-abbrev pub format : Session → PixelFormat
-format s = formatOf (s .pf)
-
-abbrev pub blocks : Session → ℕ
-blocks s = blocksOf (format s) (s .fmbw) (s .fmbh)
-
+-- the sizes of a session's frames, beside `blocks`
 abbrev pub superBlocks : Session → ℕ
 superBlocks s = superBlocksOf (format s) (s .fmbw) (s .fmbh)
 
@@ -63,10 +47,6 @@ zeroed m = let k = m .work in
     memory (replicate (length (k .records)) 0) (replicate (length (k .coded)) 0) (replicate (length (k .coefs)) (pos 0)) (replicate (length (m .dc)) (pos 0))
     (replicate (length (k .lasts)) 0) (replicate (length (k .flags)) 0) (replicate (length (k .bits)) 0) (replicate (length (k .supers)) 0)
     (replicate (length (k .modes)) 0) (replicate (length (k .active)) 0)
-
--- work memory of the published lengths, all zero
-abbrev pub cleared : Session → Memory
-cleared s = record { work = clear (format s) (s .fmbw) (s .fmbh); dc = replicate (blocks s) (pos 0) }
 
 -- every lent length is the published one. A buffer of three planes: "Its length is 64·NBS"
 unfoldable pub lengthsFit : WorkLengths → (golden previous new table : List ℕ) → Memory → Bool

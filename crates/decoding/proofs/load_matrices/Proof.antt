@@ -1,4 +1,4 @@
--- `theora::load_matrices` meets its contract. The invariant: the matrices of the turns so far stand in the slice. Assumes nothing.
+-- `decoding::load_matrices` meets its contract. The invariant: the matrices of the turns so far stand in the slice. Assumes nothing.
 use Prim.Native.Nat.{_+_, _-_, _*_, _/_, _≤_, _<_}
 use native.Mathlib.Omega.{arith}
 use mathlib.Core.Path.{_≡_, _∙_}
@@ -6,9 +6,9 @@ use lib.ListN.{length}
 use borrow.Author.Count.{below-none}
 use borrow.Rule.Slice.PartMut.{mid-len}
 use borrow.Author.Needs.{needs}
-use Rattle.theora.proofs.Matrices.{placeOf, LoadedTo, loaded-more, loaded-all}
-use Rattle.theora.proofs.load_matrices.Statement.{statement}
-use Rattle.theora.proofs.load_matrices.Tie as tie
+use Rattle.decoding.proofs.Matrices.{placeOf, LoadedTo, loaded-more, loaded-all}
+use Rattle.decoding.proofs.load_matrices.Statement.{statement}
+use Rattle.decoding.proofs.load_matrices.Tie as tie
 
 abbrev Inv-loop : tie.InvT-loop
 Inv-loop table place ac-scale dc-scale sizes indices count matrices₀ qis j₀ matrices j = (j ≤ 6 * count) × (length matrices ≡ 1152) × LoadedTo table place ac-scale dc-scale sizes indices qis j matrices

@@ -1,11 +1,11 @@
--- `theora::decode` meets its contract. Assumes nothing.
+-- `decoding::decode` meets its contract. Assumes nothing.
 use borrow.Author.Needs.{needs}
 use native.Mathlib.Omega.{arith}
 use Rattle.tables.proofs.Held.{held-8, genuine-setup, genuine-held}
-use Rattle.theora.proofs.Held.{holds-setup}
-use Rattle.theora.proofs.Calls.{decoded-8, decoded-by}
-use Rattle.theora.proofs.decode.Statement.{statement}
-use Rattle.theora.proofs.decode.Tie as tie
+use Rattle.decoding.proofs.Held.{holds-setup}
+use Rattle.decoding.proofs.Answers.{decoded-8, decoded-by}
+use Rattle.decoding.proofs.decode.Statement.{statement}
+use Rattle.decoding.proofs.decode.Tie as tie
 
 slice-aggregate-load-table : tie.Need-slice-aggregate-load-table
 slice-aggregate-load-table c = search needs

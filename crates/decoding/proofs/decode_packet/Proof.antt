@@ -1,4 +1,4 @@
--- `theora::decode_packet` meets its contract. Assumes nothing.
+-- `decoding::decode_packet` meets its contract. Assumes nothing.
 use borrow.Author.Needs.{needs}
 use Prim.Native.Nat.{_*_}
 use lib.IntN.{pos}
@@ -8,11 +8,11 @@ use mathlib.Core.Path.{_≡_, sym, ap, _∙_}
 use Rattle.geometry.specs.declared.PixelFormat.{PixelFormat}
 use Rattle.headers.proofs.Fitting.{fits-macro-blocks}
 use Rattle.frame_packet.specs.Work.{clear}
-use Rattle.theora.specs.Memory.{Memory, blocks}
-use Rattle.theora.proofs.Held.{tables-held}
-use Rattle.theora.proofs.Decoded.{on-refused, lent, header-few, on-accepted}
-use Rattle.theora.proofs.decode_packet.Statement.{statement}
-use Rattle.theora.proofs.decode_packet.Tie as tie
+use Rattle.decoding.specs.Memory.{Memory, blocks}
+use Rattle.decoding.proofs.Held.{tables-held}
+use Rattle.decoding.proofs.Decoded.{on-refused, lent, header-few, on-accepted}
+use Rattle.decoding.proofs.decode_packet.Statement.{statement}
+use Rattle.decoding.proofs.decode_packet.Tie as tie
 
 pixel-format-requires : tie.Need-pixel-format-requires
 pixel-format-requires c κs = search needs

@@ -15,7 +15,7 @@ use Rattle.tables.specs.Tables.{HoldsTrees}
 use Rattle.tables.proofs.Held.{limits-few, holds-trees, held-reads, genuine-setup, genuine-held, genuine-stored, genuine-holds}
 use Rattle.tokens.specs.Answer.{tablesOf, AllProper, Tables, treesOf}
 use Rattle.tokens.proofs.Tables.{trees-of}
-use Rattle.theora.specs.Made.{AllLimits, HoldsSetup}
+use Rattle.decoding.specs.Made.{AllLimits, HoldsSetup}
 
 -- ---- its trees
 all-proper : (ts : List Tree) → ((k : ℕ) → k < length ts → Proper (getD ts k (leaf 0))) → AllProper ts

@@ -32,12 +32,12 @@ use Rattle.reconstruct.specs.Picture.{Blocks, Matrices, pictureOf}
 use Rattle.reconstruct.specs.Lent.{blocksIn, CodedBlocks}
 use Rattle.reconstruct.proofs.Facts.{in-at, coded-by}
 use Rattle.reconstruct.proofs.Same.{Alike, lists-same}
-use Rattle.theora.specs.declared.FrameAnswer.{FrameAnswer}
-use Rattle.theora.specs.declared.Verdict.the-variants.{Accepted}
-use Rattle.theora.specs.Memory.{memory, format, blocks, cleared}
-use Rattle.theora.specs.Call.{state, done, readBy, picture, sessionAfter, answerFor, decoded}
-use Rattle.theora.specs.Made.{AllQi, BlocksLent}
-use Rattle.theora.proofs.Held.{trees-held}
+use Rattle.decoding.specs.declared.FrameAnswer.{FrameAnswer}
+use Rattle.decoding.specs.declared.Verdict.the-variants.{Accepted}
+use Rattle.decoding.specs.Memory.{memory, format, blocks, cleared}
+use Rattle.decoding.specs.Answer.{state, done, readBy, picture, sessionAfter, answerFor, decoded}
+use Rattle.decoding.specs.Made.{AllQi, BlocksLent}
+use Rattle.decoding.proofs.Held.{trees-held}
 
 -- ---- what the reader's answer says
 pub read-refused : (o : Outcome Frame) {r : FrameRead} {k e : ℕ} → r ≡ asFrame o → r .read ≡ Refused k e → o ≡ refused k e

@@ -1,8 +1,8 @@
--- `theora::session_after` meets its contract. Assumes nothing.
+-- `decoding::session_after` meets its contract. Assumes nothing.
 use borrow.Author.Needs.{needs}
-use Rattle.theora.specs.Call.{sessionAfter}
-use Rattle.theora.proofs.session_after.Statement.{statement}
-use Rattle.theora.proofs.session_after.Tie as tie
+use Rattle.decoding.specs.Answer.{sessionAfter}
+use Rattle.decoding.proofs.session_after.Statement.{statement}
+use Rattle.decoding.proofs.session_after.Tie as tie
 
 enum-told : tie.Need-enum-told
 enum-told c = search needs

@@ -17,7 +17,7 @@ use Rattle.ways.specs.Ways.{firstWay}
 use Rattle.reconstruct.specs.Picture.{Matrices, typeOf, recordOf, pictureOf}
 use Rattle.reconstruct.specs.Lent.{blocksIn, matrixIn}
 use Rattle.reconstruct.proofs.Same.{matrices-same}
-use Rattle.theora.specs.Made.{BlocksLent, MatricesAre, FrameIs}
+use Rattle.decoding.specs.Made.{BlocksLent, MatricesAre, FrameIs}
 
 type-below : (p : Prediction) → typeOf p < 2
 unfolding typeOf

@@ -1,10 +1,10 @@
--- `theora::make` meets its contract. Assumes nothing.
+-- `decoding::make` meets its contract. Assumes nothing.
 use native.Mathlib.Omega.{arith}
 use lib.ListN.{getD}
 use borrow.Author.Needs.{needs}
-use Rattle.theora.proofs.Made.{frame-is, limit-at}
-use Rattle.theora.proofs.make.Statement.{statement}
-use Rattle.theora.proofs.make.Tie as tie
+use Rattle.decoding.proofs.Made.{frame-is, limit-at}
+use Rattle.decoding.proofs.make.Statement.{statement}
+use Rattle.decoding.proofs.make.Tie as tie
 
 cast-number : tie.Need-cast-number
 cast-number c = search needs
