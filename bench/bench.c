@@ -5,7 +5,8 @@
  *
  * All packets are read into memory first; only decoding is timed. Each decoder goes over the whole recording in turn,
  * several rounds, and its fastest round counts. One line of a table for each recording: the frame's size in macro blocks,
- * the number of frames, microseconds per frame of each decoder, and the ratios.
+ * the number of frames, microseconds per frame of each decoder, the ratios, and which share of our time the test of table
+ * memory and the clearing of work memory take.
  */
 #define _POSIX_C_SOURCE 199309L
 #include "wedgepetal.h"
@@ -108,46 +109,86 @@ static struct recording read_recording(const char *path)
 
 /* ---- this decoder */
 
-/* Decodes the whole recording. golden, previous and new are three buffers; an accepted frame's buffer is handed on by number. */
-static double our_round(const struct recording *r)
-{
+/* What a caller lends for a recording's frames. golden, previous and new are three buffers, handed on by number. */
+struct lent {
     uint64_t session[WEDGEPETAL_SESSION_NUMBERS], sizes[WEDGEPETAL_SIZE_NUMBERS], lengths[WEDGEPETAL_LENGTH_NUMBERS];
-    uint64_t answer[WEDGEPETAL_ANSWER_NUMBERS];
-    uint8_t *table = memory(WEDGEPETAL_TABLE_BYTES), *planes[3];
-    void *lent;
-    struct wedgepetal_work work;
-    int golden = 0, previous = 1;
-    double start;
-    if (wedgepetal_identification(r->packets[0], r->lengths[0], session, WEDGEPETAL_SESSION_NUMBERS) != 0 ||
-        wedgepetal_setup(r->packets[2], r->lengths[2], table, WEDGEPETAL_TABLE_BYTES) != 0 ||
-        wedgepetal_sizes(session, WEDGEPETAL_SESSION_NUMBERS, sizes, WEDGEPETAL_SIZE_NUMBERS) != 0 ||
-        wedgepetal_work_lengths(session, WEDGEPETAL_SESSION_NUMBERS, lengths, WEDGEPETAL_LENGTH_NUMBERS) != 0) {
+    uint8_t *table, *planes[3];
+    void *memory;
+};
+
+static struct lent lend(const struct recording *r)
+{
+    struct lent l;
+    l.table = memory(WEDGEPETAL_TABLE_BYTES);
+    if (wedgepetal_identification(r->packets[0], r->lengths[0], l.session, WEDGEPETAL_SESSION_NUMBERS) != 0 ||
+        wedgepetal_setup(r->packets[2], r->lengths[2], l.table, WEDGEPETAL_TABLE_BYTES) != 0 ||
+        wedgepetal_sizes(l.session, WEDGEPETAL_SESSION_NUMBERS, l.sizes, WEDGEPETAL_SIZE_NUMBERS) != 0 ||
+        wedgepetal_work_lengths(l.session, WEDGEPETAL_SESSION_NUMBERS, l.lengths, WEDGEPETAL_LENGTH_NUMBERS) != 0) {
         fail("a header is refused");
     }
-    lent = memory(lengths[WEDGEPETAL_WORK_BYTES]);
-    work = wedgepetal_work_in(lent, lengths);
+    l.memory = memory(l.lengths[WEDGEPETAL_WORK_BYTES]);
     for (int p = 0; p < 3; p++) {
-        planes[p] = memory(sizes[WEDGEPETAL_BUFFER]);
+        l.planes[p] = memory(l.sizes[WEDGEPETAL_BUFFER]);
     }
-    start = now();
+    return l;
+}
+
+static void give_back(struct lent *l)
+{
+    free(l->table);
+    free(l->memory);
+    for (int p = 0; p < 3; p++) {
+        free(l->planes[p]);
+    }
+}
+
+/* Decodes the whole recording. */
+static double our_round(const struct recording *r)
+{
+    struct lent l = lend(r);
+    struct wedgepetal_work work = wedgepetal_work_in(l.memory, l.lengths);
+    uint64_t answer[WEDGEPETAL_ANSWER_NUMBERS];
+    int golden = 0, previous = 1;
+    double start = now();
     for (size_t i = HEADERS; i < r->count; i++) {
         int new = 0;
         while (new == golden || new == previous) {
             new++;
         }
-        if (wedgepetal_frame_in(&work, session, r->packets[i], r->lengths[i], table, planes[golden], planes[previous],
-                                planes[new], sizes[WEDGEPETAL_BUFFER], answer) == 0) {
+        if (wedgepetal_frame_in(&work, l.session, r->packets[i], r->lengths[i], l.table, l.planes[golden],
+                                l.planes[previous], l.planes[new], l.sizes[WEDGEPETAL_BUFFER], answer) == 0) {
             previous = new;
             golden = answer[WEDGEPETAL_KIND] == WEDGEPETAL_INTRA ? new : golden;
         }
     }
     start = now() - start;
-    free(table);
-    free(lent);
-    for (int p = 0; p < 3; p++) {
-        free(planes[p]);
-    }
+    give_back(&l);
     return start;
+}
+
+/* What every frame call pays before its first block, by itself: the exact test of table memory, and the clearing of work memory. */
+struct shares {
+    double table, clearing;
+};
+
+static struct shares call_shares(const struct recording *r)
+{
+    struct lent l = lend(r);
+    struct shares best = {1e9, 1e9};
+    for (int round = 0; round < 50; round++) {
+        double start = now(), middle;
+        if (wedgepetal_table(l.table, WEDGEPETAL_TABLE_BYTES) != 0) {
+            fail("table memory is refused");
+        }
+        middle = now();
+        memset(l.memory, 0, l.lengths[WEDGEPETAL_WORK_BYTES]);
+        /* the compiler must not take the clearing for useless */
+        __asm__ volatile("" : : "r"(l.memory) : "memory");
+        best.clearing = now() - middle < best.clearing ? now() - middle : best.clearing;
+        best.table = middle - start < best.table ? middle - start : best.table;
+    }
+    give_back(&l);
+    return best;
 }
 
 /* ---- libtheora */
@@ -242,6 +283,7 @@ static void compare(const char *path)
     struct recording r = read_recording(path);
     double best[3] = {1e9, 1e9, 1e9}, began = now();
     double frames = (double)(r.count - HEADERS);
+    struct shares shares = call_shares(&r);
     const unsigned char *id = r.packets[0];
     for (int round = 0; round < LEAST_ROUNDS || (now() - began < ENOUGH_SECONDS && round < MOST_ROUNDS); round++) {
         double t[3] = {our_round(&r), theora_round(&r), ffmpeg_round(&r)};
@@ -252,10 +294,11 @@ static void compare(const char *path)
     printf("| %s | %d × %d | %.0f | %.1f | %.1f | ", base_name(path), id[10] << 8 | id[11], id[12] << 8 | id[13], frames,
            best[0] / frames * 1e6, best[1] / frames * 1e6);
     if (best[2] < 0) {
-        printf("- | %.2f | - |\n", best[0] / best[1]);
+        printf("- | %.2f | - |", best[0] / best[1]);
     } else {
-        printf("%.1f | %.2f | %.2f |\n", best[2] / frames * 1e6, best[0] / best[1], best[0] / best[2]);
+        printf("%.1f | %.2f | %.2f |", best[2] / frames * 1e6, best[0] / best[1], best[0] / best[2]);
     }
+    printf(" %.0f | %.0f |\n", 100 * shares.table * frames / best[0], 100 * shares.clearing * frames / best[0]);
     fflush(stdout);
     for (size_t i = 0; i < r.count; i++) {
         free(r.packets[i]);
@@ -267,8 +310,9 @@ static void compare(const char *path)
 int main(int count, char **words)
 {
     av_log_set_level(AV_LOG_QUIET);
-    printf("| recording | macro blocks | frames | ours, µs a frame | libtheora | FFmpeg | ours / libtheora | ours / FFmpeg |\n");
-    printf("|---|---|---|---|---|---|---|---|\n");
+    printf("| recording | macro blocks | frames | ours, µs a frame | libtheora | FFmpeg | ours / libtheora | ours / FFmpeg "
+           "| table test, %% of ours | clearing, %% |\n");
+    printf("|---|---|---|---|---|---|---|---|---|---|\n");
     for (int k = 1; k < count; k++) {
         compare(words[k]);
     }
