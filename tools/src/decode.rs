@@ -177,14 +177,21 @@ mod tests {
 
     #[test]
     fn the_sample_is_decoded() {
-        let summary = decoded(&sample::recording()).unwrap();
+        let summary = decoded(&changed(|_| ())).unwrap();
         assert!(summary.is_clean());
         let text = summary.to_string();
         assert_eq!(
             text,
             "7 frames (1 intra, 5 inter, 1 repeat), packets refused: 0\n"
         );
-        assert_eq!(decoded(&changed(|_| ())).unwrap(), summary);
+    }
+
+    #[test]
+    fn an_ogg_file_is_decoded() {
+        let file = sample::ogg_file().unwrap();
+        let whole = decoded(&changed(|_| ())).unwrap();
+        assert_eq!(decoded(&file).unwrap(), whole);
+        assert!(!decoded(&file[..file.len() - 1]).unwrap().is_clean());
     }
 
     #[test]
@@ -205,9 +212,9 @@ mod tests {
 
     #[test]
     fn a_cut_recording_is_decoded_as_far_as_it_goes() {
-        let mut recording = sample::recording();
-        recording.pop();
-        let summary = decoded(&recording).unwrap();
+        let mut file = changed(|_| ());
+        file.pop();
+        let summary = decoded(&file).unwrap();
         assert!(!summary.is_clean());
         let text = summary.to_string();
         assert!(text.starts_with("6 frames"), "{text}");

@@ -2,10 +2,9 @@
 
 use crate::Failure;
 use crate::report::report;
-use recording::ogg::{self, FirstPacket, FirstPackets};
-use recording::{Fault, packet_file};
+use recording::{Fault, Packets};
 use std::fmt;
-use std::io::{BufRead, BufReader, Read};
+use std::io::{BufReader, Read};
 use std::path::Path;
 use wedgepetal::{Refusal, identification};
 
@@ -68,32 +67,19 @@ impl fmt::Display for NoHeader {
 }
 
 /// The first packet of a recording's Theora stream, and which stream it is.
-fn first_packet(mut recording: impl BufRead) -> Result<(String, Vec<u8>), NoHeader> {
-    let first = recording.fill_buf();
-    let first = first.map_err(|error| NoHeader::Recording(Fault::Ogg(ogg::Fault::Read(error))))?;
-    if first.starts_with(b"OggS") {
-        let FirstPacket { serial, bytes } = theora_packet(recording)?;
-        return Ok((format!("stream {serial}"), bytes));
+fn first_packet(recording: impl Read) -> Result<(String, Vec<u8>), NoHeader> {
+    let mut packets = Packets::new(recording).map_err(NoHeader::Recording)?;
+    let packet = packets.next().transpose().map_err(NoHeader::Recording)?;
+    match packets {
+        Packets::Ogg(stream) => match (stream.serial(), packet) {
+            (Some(serial), Some(packet)) => Ok((format!("stream {serial}"), packet)),
+            _ => Err(NoHeader::OtherStreams(stream.others())),
+        },
+        Packets::PacketFile(_) => match packet {
+            Some(packet) => Ok(("packet file".to_string(), packet)),
+            None => Err(NoHeader::Empty),
+        },
     }
-    let mut packets = packet_file::Packets::new(recording);
-    match packets.next() {
-        None => Err(NoHeader::Empty),
-        Some(Ok(packet)) => Ok(("packet file".to_string(), packet)),
-        Some(Err(fault)) => Err(NoHeader::Recording(Fault::PacketFile(fault))),
-    }
-}
-
-/// The first packet of an Ogg file that begins as an identification header does.
-fn theora_packet(recording: impl Read) -> Result<FirstPacket, NoHeader> {
-    let mut streams = 0;
-    for packet in FirstPackets::new(recording) {
-        let packet = packet.map_err(|fault| NoHeader::Recording(Fault::Ogg(fault)))?;
-        if packet.bytes.starts_with(b"\x80theora") {
-            return Ok(packet);
-        }
-        streams += 1;
-    }
-    Err(NoHeader::OtherStreams(streams))
 }
 
 /// The fields and sizes of an identification header as text.
@@ -108,17 +94,16 @@ fn describe(packet: &[u8]) -> Result<String, Refusal> {
 mod tests {
     use super::*;
     use crate::sample;
+    use recording::{ogg, packet_file};
 
-    /// A recording of the sample's identification header alone.
-    fn short_recording(serial: u32) -> Vec<u8> {
-        ogg::write(serial, &[(sample::identification_header(), 0)])
+    /// An Ogg file of the sample's identification header alone.
+    fn short_ogg_file() -> Vec<u8> {
+        ogg::write(3, &[(sample::identification_header(), 0)]).unwrap()
     }
 
     #[test]
     fn the_sample_is_described() {
-        let (name, packet) = first_packet(&short_recording(3)[..]).unwrap();
-        assert_eq!(name, "stream 3");
-        let text = describe(&packet).unwrap();
+        let text = describe(&sample::identification_header()).unwrap();
         assert!(text.contains("blocks (NBS)          1800\n"));
         assert!(text.contains("bytes of a buffer     115200\n"));
         assert!(text.contains("plane Cr: 20 by 15 blocks, 19200 bytes at 96000\n"));
@@ -126,7 +111,14 @@ mod tests {
     }
 
     #[test]
-    fn packet_files_are_described() {
+    fn the_header_of_an_ogg_file() {
+        let (name, packet) = first_packet(&short_ogg_file()[..]).unwrap();
+        assert_eq!(name, "stream 3");
+        assert_eq!(packet, sample::identification_header());
+    }
+
+    #[test]
+    fn the_header_of_a_packet_file() {
         let file = packet_file::write(&[sample::identification_header()]);
         let (name, packet) = first_packet(&file[..]).unwrap();
         assert_eq!(name, "packet file");
@@ -135,11 +127,15 @@ mod tests {
     }
 
     #[test]
-    fn cut_and_damaged_recordings_are_refused() {
-        let recording = short_recording(3);
-        for length in 0..recording.len() {
-            assert!(first_packet(&recording[..length]).is_err());
+    fn cut_ogg_files_are_refused() {
+        let file = short_ogg_file();
+        for length in 0..file.len() {
+            assert!(first_packet(&file[..length]).is_err());
         }
+    }
+
+    #[test]
+    fn cut_headers_are_refused() {
         for length in 0..42 {
             assert_eq!(
                 describe(&sample::identification_header()[..length]),
@@ -149,9 +145,9 @@ mod tests {
     }
 
     #[test]
-    fn other_streams_are_no_theora() {
-        let recording = ogg::write(3, &[(b"\x01vorbis".to_vec(), 0)]);
-        let text = first_packet(&recording[..]).unwrap_err().to_string();
+    fn other_ogg_streams_are_no_theora() {
+        let file = ogg::write(3, &[(b"\x01vorbis".to_vec(), 0)]).unwrap();
+        let text = first_packet(&file[..]).unwrap_err().to_string();
         assert!(text.contains("refusal 2"), "{text}");
     }
 }

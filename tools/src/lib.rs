@@ -1,6 +1,7 @@
 //! Recordings as sequences of packets: Ogg files and plain packet files.
 
 pub mod hash;
+mod libogg;
 pub mod ogg;
 pub mod packet_file;
 
@@ -31,7 +32,8 @@ impl Fault {
     pub fn is_read_error(&self) -> bool {
         matches!(
             self,
-            Fault::Ogg(ogg::Fault::Read(_)) | Fault::PacketFile(packet_file::Fault::Read(_))
+            Fault::Ogg(ogg::Fault::Read(_) | ogg::Fault::NoLibrary(_))
+                | Fault::PacketFile(packet_file::Fault::Read(_))
         )
     }
 }
@@ -54,7 +56,8 @@ impl<R: Read> Packets<R> {
     ///
     /// # Errors
     ///
-    /// The recording cannot be read.
+    /// The recording cannot be read, or it is an Ogg file and libogg cannot be
+    /// had.
     pub fn new(mut recording: R) -> Result<Packets<R>, Fault> {
         let mut first = Vec::new();
         recording
@@ -65,7 +68,7 @@ impl<R: Read> Packets<R> {
         let is_ogg = first == b"OggS";
         let begun = Cursor::new(first).chain(recording);
         Ok(match is_ogg {
-            true => Packets::Ogg(TheoraPackets::new(begun)),
+            true => Packets::Ogg(TheoraPackets::new(begun).map_err(Fault::Ogg)?),
             false => Packets::PacketFile(packet_file::Packets::new(begun)),
         })
     }
@@ -96,10 +99,15 @@ mod tests {
     use super::*;
 
     #[test]
-    fn both_kinds_are_read() {
+    fn ogg_files_are_read() {
         let wanted = [b"\x80theora".to_vec()];
-        let ogg = ogg::write(1, &[(wanted[0].clone(), 0)]);
-        assert_eq!(packets(&ogg[..]).unwrap(), wanted);
+        let file = ogg::write(1, &[(wanted[0].clone(), 0)]).unwrap();
+        assert_eq!(packets(&file[..]).unwrap(), wanted);
+    }
+
+    #[test]
+    fn packet_files_are_read() {
+        let wanted = [b"\x80theora".to_vec()];
         let file = packet_file::write(&wanted);
         assert_eq!(packets(&file[..]).unwrap(), wanted);
         assert!(packets(&b"RIFF"[..]).is_err());

@@ -31,14 +31,16 @@ usage:
       --y4m FILE                   the picture region of all frames, as a film
       --progress                   how far it is, if the standard error is a terminal
   wedgepetal sample OUT.ogv        writes a small recording to try this with
+  wedgepetal sample OUT.packets    the same as `packets` writes it
   wedgepetal sample --packet OUT   writes its identification header alone
   wedgepetal packets RECORDING OUT writes the packets of its Theora stream, each as
                                    4 bytes of length (least significant first) and
                                    its bytes
   wedgepetal help                  this text
 
-A recording is an Ogg file or a file that `packets` wrote. FILE may be - for the
-standard output; a file that is there already is not written over.
+A recording is an Ogg file or a file that `packets` wrote. Ogg files are read
+through libogg, which must be installed (Debian package libogg0). FILE may be -
+for the standard output; a file that is there already is not written over.
 
 Status: 0 all is well; 1 the recording or a packet of it is refused; 2 wrong
 usage, or a file cannot be read or written.
@@ -133,9 +135,7 @@ fn command(words: &[OsString]) -> Result<Said, Failure> {
         ["sample", "--packet", _] => {
             write_new(Path::new(&words[2]), &sample::identification_header())
         }
-        ["sample", first] if !is_option(first) => {
-            write_new(Path::new(&words[1]), &sample::recording())
-        }
+        ["sample", first] if !is_option(first) => write_sample(Path::new(&words[1])),
         ["packets", first, second] if !is_option(first) && !is_option(second) => {
             write_packets(Path::new(&words[1]), Path::new(&words[2]))
         }
@@ -186,6 +186,15 @@ fn write_packets(path: &Path, out: &Path) -> Result<String, Failure> {
     }
     let text = write_new(out, &packet_file::write(&packets))?;
     Ok(format!("{} packets, {text}", packets.len()))
+}
+
+/// Writes the sample, as a packet file if its name says so, else as an Ogg file.
+fn write_sample(out: &Path) -> Result<String, Failure> {
+    let file = match out.extension() {
+        Some(name) if name == "packets" => packet_file::write(&sample::packets()),
+        _ => sample::ogg_file().map_err(|fault| Failure::file(out, fault))?,
+    };
+    write_new(out, &file)
 }
 
 /// Opens a file to be read.

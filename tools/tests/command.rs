@@ -32,15 +32,15 @@ fn said(output: &Output) -> (i32, String, String) {
 #[test]
 fn the_sample_in_every_form() {
     let folder = folder("every_form");
-    assert_eq!(said(&run(&folder, "sample s.ogv")).0, 0);
+    assert_eq!(said(&run(&folder, "sample s.packets")).0, 0);
     let (status, out, err) = said(&run(
         &folder,
-        "decode s.ogv --hashes s.txt --planes planes --y4m s.y4m --progress",
+        "decode s.packets --hashes s.txt --planes planes --y4m s.y4m --progress",
     ));
     assert_eq!((status, &err[..]), (0, ""));
     assert_eq!(
         out,
-        "s.ogv: 7 frames (1 intra, 5 inter, 1 repeat), packets refused: 0\n"
+        "s.packets: 7 frames (1 intra, 5 inter, 1 repeat), packets refused: 0\n"
     );
     let hashes = fs::read_to_string(folder.join("s.txt")).unwrap();
     let lines: Vec<&str> = hashes.lines().collect();
@@ -60,13 +60,29 @@ fn the_sample_in_every_form() {
 }
 
 #[test]
-fn packet_files_give_the_same_hashes() {
-    let folder = folder("packet_files");
-    run(&folder, "sample s.ogv");
-    assert_eq!(said(&run(&folder, "packets s.ogv s.packets")).0, 0);
+fn ogg_and_packet_files_give_the_same() {
+    let folder = folder("ogg_and_packets");
+    for words in [
+        "sample s.ogv",
+        "sample s.packets",
+        "packets s.ogv p.packets",
+    ] {
+        assert_eq!(said(&run(&folder, words)).0, 0, "{words}");
+    }
+    let bytes = |name: &str| fs::read(folder.join(name)).unwrap();
+    assert_eq!(bytes("s.packets"), bytes("p.packets"));
     let (_, ogg, summary) = said(&run(&folder, "decode s.ogv --hashes -"));
     assert_eq!(said(&run(&folder, "decode s.packets --hashes -")).1, ogg);
     assert!(summary.contains("7 frames"), "{summary}");
+    let (status, text, _) = said(&run(&folder, "info s.ogv"));
+    assert_eq!(status, 0);
+    assert!(text.starts_with("s.ogv: stream 1\n"), "{text}");
+}
+
+#[test]
+fn packet_files_are_described() {
+    let folder = folder("described");
+    run(&folder, "sample s.packets");
     let (status, text, _) = said(&run(&folder, "info s.packets"));
     assert_eq!(status, 0);
     assert!(text.starts_with("s.packets: packet file\n"), "{text}");
@@ -75,14 +91,15 @@ fn packet_files_give_the_same_hashes() {
 #[test]
 fn nothing_is_written_over() {
     let folder = folder("written_over");
-    run(&folder, "sample s.ogv");
+    run(&folder, "sample s.packets");
     fs::write(folder.join("there"), "mine").unwrap();
     for words in [
-        "decode s.ogv --hashes there",
-        "decode s.ogv --y4m there",
-        "decode s.ogv --planes there",
-        "packets s.ogv there",
-        "sample there",
+        "decode s.packets --hashes there",
+        "decode s.packets --y4m there",
+        "decode s.packets --planes there",
+        "packets s.packets there",
+        "sample --packet there",
+        "sample s.packets",
     ] {
         let (status, _, err) = said(&run(&folder, words));
         assert_eq!(status, 2, "{words}: {err}");
@@ -93,8 +110,7 @@ fn nothing_is_written_over() {
 #[test]
 fn refusals_are_said_and_passed_over() {
     let folder = folder("refusals");
-    run(&folder, "sample s.ogv");
-    run(&folder, "packets s.ogv s.packets");
+    run(&folder, "sample s.packets");
     let file = fs::read(folder.join("s.packets")).unwrap();
     // Behind the recording a header, which is no frame, and an empty packet.
     let longer = [&file[..], &[1, 0, 0, 0, 0x80], &[0; 4]].concat();
@@ -116,7 +132,7 @@ fn refusals_are_said_and_passed_over() {
 #[test]
 fn a_refused_recording_leaves_no_files() {
     let folder = folder("no_files");
-    fs::write(folder.join("other"), "OggS and no more").unwrap();
+    fs::write(folder.join("other"), "no recording").unwrap();
     let (status, out, err) = said(&run(&folder, "decode other --hashes h --planes p"));
     assert_eq!((status, &out[..]), (1, ""));
     assert!(err.contains("cut short"), "{err}");

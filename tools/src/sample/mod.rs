@@ -32,8 +32,12 @@ pub fn packets() -> Vec<Vec<u8>> {
     ]
 }
 
-/// The sample as an Ogg recording.
-pub fn recording() -> Vec<u8> {
+/// The sample as an Ogg file.
+///
+/// # Errors
+///
+/// libogg cannot be had.
+pub fn ogg_file() -> Result<Vec<u8>, ogg::Fault> {
     let packets = packets().into_iter().enumerate();
     let packets: Vec<_> = packets
         .map(|(number, packet)| (packet, granule(number as u64)))
@@ -130,7 +134,8 @@ mod tests {
     }
 
     #[test]
-    fn the_recording_holds_the_packets() {
-        assert_eq!(::recording::packets(&recording()[..]).unwrap(), packets());
+    fn the_ogg_file_holds_the_packets() {
+        let file = ogg_file().unwrap();
+        assert_eq!(recording::packets(&file[..]).unwrap(), packets());
     }
 }
