@@ -46,6 +46,8 @@ enum Stop {
     Unplayable(Unplayable),
     /// An output cannot be written.
     Output(String),
+    /// No output has a reader any more.
+    Unread,
 }
 
 impl Stop {
@@ -54,6 +56,7 @@ impl Stop {
         match self {
             Stop::Fault(fault) if fault.is_read_error() => Failure::file(path, fault),
             Stop::Output(text) => Failure::File(text),
+            Stop::Unread => Failure::Unread,
             stop => Failure::refused(path, stop),
         }
     }
@@ -67,6 +70,7 @@ impl fmt::Display for Stop {
             Stop::Header(name, refusal) => write!(f, "{name}: {refusal}"),
             Stop::Unplayable(why) => write!(f, "{why}"),
             Stop::Output(text) => write!(f, "{text}"),
+            Stop::Unread => write!(f, "no one reads what is written"),
         }
     }
 }
@@ -100,12 +104,22 @@ fn decode_packets<R: Read>(
                 .take(number, &answer, &player)
                 .map_err(Stop::Output)?;
         }
+        still_read(&outputs)?;
         progress.packet(number);
     }
     for output in &mut outputs {
         output.end().map_err(Stop::Output)?;
     }
+    still_read(&outputs)?;
     Ok(summary)
+}
+
+/// Stops if there are outputs and none has a reader any more.
+fn still_read(outputs: &[Output]) -> Result<(), Stop> {
+    match !outputs.is_empty() && outputs.iter().all(Output::is_unread) {
+        true => Err(Stop::Unread),
+        false => Ok(()),
+    }
 }
 
 /// Reads the three headers. The second, with its comments, is not looked at.

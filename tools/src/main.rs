@@ -42,8 +42,9 @@ A recording is an Ogg file or a file that `packets` wrote. Ogg files are read
 through libogg, which must be installed (Debian package libogg0). FILE may be -
 for the standard output; a file that is there already is not written over.
 
-Status: 0 all is well; 1 the recording or a packet of it is refused; 2 wrong
-usage, or a file cannot be read or written.
+Status: 0 all is well, or the reader of the only output wants no more; 1 the
+recording or a packet of it is refused; 2 wrong usage, or a file cannot be read
+or written.
 ";
 
 /// Why the command fails.
@@ -54,6 +55,8 @@ enum Failure {
     File(String),
     /// The words make no command.
     Usage,
+    /// No one reads what is written any more. This is the reader's choice.
+    Unread,
 }
 
 impl Failure {
@@ -103,6 +106,7 @@ fn main() -> ExitCode {
             eprint!("{USAGE}");
             ExitCode::from(2)
         }
+        Err(Failure::Unread) => ExitCode::SUCCESS,
     }
 }
 

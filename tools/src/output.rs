@@ -78,6 +78,14 @@ impl Output {
         }
     }
 
+    /// Whether it has no reader any more.
+    pub fn is_unread(&self) -> bool {
+        match self {
+            Output::Planes(_) => false,
+            Output::Y4m(target) | Output::Hashes(target) => target.writer.is_none(),
+        }
+    }
+
     /// Writes what is still held back.
     pub fn end(&mut self) -> Result<(), String> {
         match self {
@@ -146,27 +154,38 @@ fn layout(player: &Player) -> String {
 /// A file that is written for the first time, or the standard output.
 pub struct Target {
     name: String,
-    writer: Box<dyn Write>,
+    /// None once the standard output has no reader any more.
+    writer: Option<Box<dyn Write>>,
 }
 
 impl Target {
     /// The standard output for "-", else a file that is not there yet.
     fn new(path: &Path) -> Result<Target, String> {
         if path == Path::new("-") {
-            let writer = Box::new(BufWriter::new(io::stdout()));
-            let name = "standard output".to_string();
-            return Ok(Target { name, writer });
+            return Ok(Target {
+                name: "standard output".to_string(),
+                writer: Some(Box::new(BufWriter::new(io::stdout()))),
+            });
         }
         let file = File::create_new(path).map_err(|error| not_written(path, &error))?;
         Ok(Target {
             name: path.display().to_string(),
-            writer: Box::new(BufWriter::new(file)),
+            writer: Some(Box::new(BufWriter::new(file))),
         })
     }
 
-    /// Writes something.
+    /// Writes something, if there is still a reader.
     fn write(&mut self, what: impl FnOnce(&mut dyn Write) -> io::Result<()>) -> Result<(), String> {
-        what(&mut self.writer).map_err(|error| format!("{}: {error}", self.name))
+        let Some(writer) = &mut self.writer else {
+            return Ok(());
+        };
+        match what(writer) {
+            Err(error) if error.kind() == ErrorKind::BrokenPipe => {
+                self.writer = None;
+                Ok(())
+            }
+            written => written.map_err(|error| format!("{}: {error}", self.name)),
+        }
     }
 }
 

@@ -2,6 +2,8 @@
 #![allow(missing_docs)]
 
 use std::fs;
+use std::os::fd::OwnedFd;
+use std::os::unix::net::UnixStream;
 use std::path::{Path, PathBuf};
 use std::process::{Command, Output};
 
@@ -13,13 +15,24 @@ fn folder(name: &str) -> PathBuf {
     path
 }
 
+/// The command with these words, in a folder.
+fn command(folder: &Path, words: &str) -> Command {
+    let mut command = Command::new(env!("CARGO_BIN_EXE_wedgepetal"));
+    command.args(words.split_whitespace()).current_dir(folder);
+    command
+}
+
 /// Runs the command in a folder.
 fn run(folder: &Path, words: &str) -> Output {
-    Command::new(env!("CARGO_BIN_EXE_wedgepetal"))
-        .args(words.split_whitespace())
-        .current_dir(folder)
-        .output()
-        .unwrap()
+    command(folder, words).output().unwrap()
+}
+
+/// Runs the command in a folder, with a standard output that no one reads.
+fn run_unread(folder: &Path, words: &str) -> Output {
+    let (reader, writer) = UnixStream::pair().unwrap();
+    drop(reader);
+    let mut command = command(folder, words);
+    command.stdout(OwnedFd::from(writer)).output().unwrap()
 }
 
 /// The status, what went to the standard output, what to the standard error.
@@ -127,6 +140,29 @@ fn refusals_are_said_and_passed_over() {
     );
     let hashes = fs::read_to_string(folder.join("h")).unwrap();
     assert!(hashes.contains("frame 10 refused 10\nframe 11 repeat - "));
+}
+
+#[test]
+fn an_output_without_a_reader_is_no_failure() {
+    let folder = folder("unread");
+    run(&folder, "sample s.packets");
+    for words in [
+        "decode s.packets --hashes -",
+        "decode s.packets --y4m -",
+        "decode s.packets",
+        "info s.packets",
+        "help",
+    ] {
+        let (status, _, err) = said(&run_unread(&folder, words));
+        assert_eq!((status, &err[..]), (0, ""), "{words}");
+    }
+    // The other output is written to its end.
+    let output = run_unread(&folder, "decode s.packets --y4m - --hashes h");
+    let (status, _, err) = said(&output);
+    assert_eq!(status, 0);
+    assert!(err.contains("7 frames"), "{err}");
+    let hashes = fs::read_to_string(folder.join("h")).unwrap();
+    assert_eq!(hashes.lines().count(), 7);
 }
 
 #[test]
