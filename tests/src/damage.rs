@@ -72,3 +72,26 @@ pub fn random_tail(random: &mut Random, bytes: &mut [u8]) {
         bytes[kept..].fill_with(|| random.byte());
     }
 }
+
+/// Overwrites a field in bytes.
+pub fn overwrite(bytes: &mut [u8], place: u64, width: u32, value: u64) {
+    for i in 0..u64::from(width) {
+        let bit = (value >> (u64::from(width) - 1 - i) & 1) as u8;
+        let at = place + i;
+        let byte = &mut bytes[(at / 8) as usize];
+        let shift = 7 - at % 8;
+        *byte = *byte & !(1 << shift) | bit << shift;
+    }
+}
+
+#[cfg(test)]
+mod tests {
+    use super::*;
+
+    #[test]
+    fn only_the_field_is_overwritten() {
+        let mut bytes = [0xFF, 0x00, 0xFF];
+        overwrite(&mut bytes, 6, 11, 0b010_1010_1010);
+        assert_eq!(bytes, [0b1111_1101, 0b0101_0101, 0b0111_1111]);
+    }
+}

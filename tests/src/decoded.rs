@@ -19,7 +19,7 @@ use crate::reference::identification::identification;
 use crate::reference::samples::ways::Way;
 use crate::reference::session::SESSION_NUMBERS;
 use crate::reference::setup::setup;
-use crate::streams::hash;
+use recording::hash::hash;
 use std::collections::BTreeMap;
 use std::fmt;
 use std::fs::{self, File};

@@ -11,7 +11,7 @@ use crate::reference::setup::setup;
 use crate::reference::sizes::sizes;
 use crate::reference::table_memory::{TABLE_BYTES, left_by};
 use crate::reference::work_memory::{self, SLICES};
-use crate::streams::hash;
+use recording::hash::hash;
 use std::fmt::Write;
 use wedgepetal::lists::{self, Buffers, LENGTH_NUMBERS, WorkSlices};
 

@@ -3,7 +3,6 @@
 //! It ends with status 1 at the first difference and prints the call that
 //! shows it, and with status 2 if it is used wrongly.
 
-mod bit_writer;
 mod call_lists;
 mod check;
 mod damage;

@@ -26,14 +26,7 @@ struct Frame {
 
 impl Frame {
     fn new(fmbw: u64, fmbh: u64, pf: u64) -> Frame {
-        let fields = Fields {
-            fmbw,
-            fmbh,
-            pf,
-            frn: 1,
-            frd: 1,
-            ..Fields::default()
-        };
+        let fields = Fields::of_frame(fmbw, fmbh, pf);
         Frame {
             session: fields.session(0),
             sizes: sizes(&fields),

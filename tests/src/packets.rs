@@ -1,6 +1,5 @@
 //! Identification headers: valid, faulty, damaged, cut, extended, random.
 
-use crate::bit_writer::BitWriter;
 use crate::check::{Difference, Tally};
 use crate::damage::{Packet, cut_anywhere, damage_bit, damage_byte, extend, random_tail};
 use crate::fields;
@@ -9,6 +8,7 @@ use crate::reference::bits::Fault;
 use crate::reference::face::{Answer, Call, answer};
 use crate::reference::identification::{LAYOUT, identification};
 use crate::reference::session::{Fields, WIDTHS};
+use recording::bit_writer::BitWriter;
 use std::fmt;
 
 /// How many bytes a header has.

@@ -1,8 +1,8 @@
 //! Setup packets: valid, damaged in a bit, a byte or a field, cut, extended,
 //! with bad trees, random.
 
-use crate::bit_writer::overwrite;
 use crate::check::{Difference, SETUP, Tally, long_hex};
+use crate::damage::overwrite;
 use crate::damage::{
     Packet, cut_anywhere, cut_in_field, damage_bit, damage_byte, extend, random_tail,
 };

@@ -11,6 +11,7 @@ use crate::reference::setup::Setup;
 use crate::reference::table_memory::left_by;
 use crate::setups;
 use crate::tables;
+use recording::hash::hash;
 use std::collections::BTreeSet;
 use std::fs::{self, File};
 use std::io::BufReader;
@@ -145,22 +146,9 @@ fn compare_text(said: &str, fields: &Fields, packets: &[Vec<u8>]) -> Result<(), 
     }
 }
 
-/// FNV-1a with 64 bits.
-pub fn hash(bytes: &[u8]) -> u64 {
-    bytes.iter().fold(0xCBF2_9CE4_8422_2325, |hash, byte| {
-        (hash ^ u64::from(*byte)).wrapping_mul(0x100_0000_01B3)
-    })
-}
-
 #[cfg(test)]
 mod tests {
     use super::*;
-
-    #[test]
-    fn published_hashes() {
-        assert_eq!(hash(b""), 0xCBF2_9CE4_8422_2325);
-        assert_eq!(hash(b"foobar"), 0x8594_4171_F739_67E8);
-    }
 
     #[test]
     fn a_text_must_say_all() {

@@ -1,7 +1,7 @@
 //! Bits that know where their fields lie.
 
-use crate::bit_writer::BitWriter;
 use crate::random::Random;
+use recording::bit_writer::BitWriter;
 use std::collections::BTreeMap;
 
 /// Where a field lies.

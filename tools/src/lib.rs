@@ -1,5 +1,7 @@
-//! Recordings as sequences of packets: Ogg files and plain packet files.
+//! Recordings as sequences of packets: Ogg files and plain packet files; and
+//! what writes packets and hashes them.
 
+pub mod bit_writer;
 pub mod hash;
 mod libogg;
 pub mod ogg;

@@ -2,7 +2,7 @@
 //! extended variants of any packet; random bytes.
 
 use super::encoder::{Encoded, encoded};
-use crate::bit_writer::overwrite;
+use crate::damage::overwrite;
 use crate::damage::{
     Packet, cut_anywhere, cut_in_field, damage_bit, damage_byte, extend, random_tail,
 };

@@ -187,18 +187,12 @@ mod tests {
     use super::super::setup::tests::small;
     use super::super::table_memory::{TABLE_BYTES, left_by};
     use super::*;
-    use crate::bit_writer::BitWriter;
     use crate::reference::setup::setup;
+    use recording::bit_writer::BitWriter;
 
     /// One macro block in 4:2:0.
     fn session(references: bool) -> Session {
-        let fields = Fields {
-            fmbw: 1,
-            fmbh: 1,
-            frn: 1,
-            frd: 1,
-            ..Fields::default()
-        };
+        let fields = Fields::of_frame(1, 1, 0);
         Session { fields, references }
     }
 

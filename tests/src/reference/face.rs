@@ -218,14 +218,7 @@ mod tests {
 
     /// A session of 3 by 2 macro blocks in 4:2:0.
     fn session() -> [u64; SESSION_NUMBERS] {
-        let fields = Fields {
-            fmbw: 3,
-            fmbh: 2,
-            frn: 1,
-            frd: 1,
-            ..Fields::default()
-        };
-        fields.session(1)
+        Fields::of_frame(3, 2, 0).session(1)
     }
 
     #[test]

@@ -155,14 +155,7 @@ mod tests {
 
     /// One macro block in 4:2:0, with this reference number.
     fn session(references: u64) -> [u64; SESSION_NUMBERS] {
-        let fields = Fields {
-            fmbw: 1,
-            fmbh: 1,
-            frn: 1,
-            frd: 1,
-            ..Fields::default()
-        };
-        fields.session(references)
+        Fields::of_frame(1, 1, 0).session(references)
     }
 
     /// A call with this session and so many numbers for the answer; what it

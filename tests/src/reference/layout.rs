@@ -124,14 +124,7 @@ pub mod tests {
 
     /// The layout of a frame.
     pub fn layout(fmbw: u64, fmbh: u64, pf: u64) -> Layout {
-        Layout::new(&Fields {
-            fmbw,
-            fmbh,
-            pf,
-            frn: 1,
-            frd: 1,
-            ..Fields::default()
-        })
+        Layout::new(&Fields::of_frame(fmbw, fmbh, pf))
     }
 
     #[test]

@@ -61,7 +61,7 @@ mod tests {
     use super::super::setup::setup;
     use super::super::setup::tests::{begin, fault, put_lone_leaves};
     use super::*;
-    use crate::bit_writer::BitWriter;
+    use recording::bit_writer::BitWriter;
 
     /// A set from matrix `first` to `last` in 2-bit indices, with one range.
     fn put_one_range(bits: &mut BitWriter, first: u64, last: u64) {

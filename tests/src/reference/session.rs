@@ -65,6 +65,19 @@ pub struct Fields {
 }
 
 impl Fields {
+    /// Sound fields of a frame of so many macro blocks; all others are the
+    /// least that they may be.
+    pub fn of_frame(fmbw: u64, fmbh: u64, pf: u64) -> Fields {
+        Fields {
+            fmbw,
+            fmbh,
+            pf,
+            frn: 1,
+            frd: 1,
+            ..Fields::default()
+        }
+    }
+
     /// The fields in the order of a session's list.
     pub fn numbers(&self) -> [u64; 16] {
         [

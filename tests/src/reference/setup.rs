@@ -146,15 +146,13 @@ pub fn setup(packet: &[u8]) -> Result<Setup, SetupFault> {
 #[cfg(test)]
 pub mod tests {
     use super::*;
-    use crate::bit_writer::BitWriter;
+    use recording::bit_writer::BitWriter;
 
     /// A header up to its trees: limits of 3 bits (qi % 8), AC scales of 16
     /// bits, DC scales of 5, so many base matrices of one value each.
     pub fn begin(nbms_less_one: u64) -> BitWriter {
         let mut bits = BitWriter::default();
-        for byte in *b"\x82theora" {
-            bits.put(u64::from(byte), 8);
-        }
+        bits.put_bytes(b"\x82theora");
         bits.put(3, 3);
         (0..64).for_each(|qi| bits.put(qi % 8, 3));
         bits.put(15, 4);

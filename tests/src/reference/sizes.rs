@@ -115,12 +115,7 @@ mod tests {
     use super::*;
 
     fn frame(fmbw: u64, fmbh: u64, pf: u64) -> Sizes {
-        sizes(&Fields {
-            fmbw,
-            fmbh,
-            pf,
-            ..Fields::default()
-        })
+        sizes(&Fields::of_frame(fmbw, fmbh, pf))
     }
 
     #[test]

@@ -12,12 +12,7 @@ use super::setup::tests::{begin, put_copies, put_lone_leaves};
 use super::sizes::{Sizes, sizes};
 
 fn frame(fmbw: u64, fmbh: u64, pf: u64) -> Sizes {
-    sizes(&Fields {
-        fmbw,
-        fmbh,
-        pf,
-        ..Fields::default()
-    })
+    sizes(&Fields::of_frame(fmbw, fmbh, pf))
 }
 
 #[test]

@@ -68,7 +68,7 @@ mod tests {
     use super::super::setup::setup;
     use super::super::setup::tests::{begin, fault, put_copies, put_lone_leaves, small};
     use super::*;
-    use crate::bit_writer::BitWriter;
+    use recording::bit_writer::BitWriter;
 
     /// A header whose first tree begins so.
     fn header(put: impl FnOnce(&mut BitWriter)) -> (BitWriter, u64) {

@@ -1,6 +1,6 @@
 //! A very small encoder: blocks of one value, and whole blocks that move.
 
-use super::bits::Bits;
+use recording::bit_writer::BitWriter;
 use wedgepetal::{Block, MacroBlock, Session, Sizes};
 
 /// The qi of every frame.
@@ -41,7 +41,7 @@ impl Encoder {
 
     /// An intra frame: the drawn picture.
     pub fn intra(&self) -> Vec<u8> {
-        let mut bits = Bits::default();
+        let mut bits = BitWriter::default();
         put_header(&mut bits, 0);
         // Reserved.
         bits.put(0, 3);
@@ -55,7 +55,7 @@ impl Encoder {
 
     /// An inter frame with all blocks coded, in one mode, and no residual.
     pub fn whole(&self, mode: Mode) -> Vec<u8> {
-        let mut bits = Bits::default();
+        let mut bits = BitWriter::default();
         put_header(&mut bits, 1);
         self.put_super_blocks(&mut bits, |_| true);
         put_mode_scheme(&mut bits);
@@ -93,7 +93,7 @@ impl Encoder {
                 && (x - 1..=x).contains(&(block.x / 4))
                 && (y - 1..=y).contains(&(block.y / 4))
         };
-        let mut bits = Bits::default();
+        let mut bits = BitWriter::default();
         put_header(&mut bits, 1);
         self.put_super_blocks(&mut bits, centre);
         put_mode_scheme(&mut bits);
@@ -117,7 +117,7 @@ impl Encoder {
 
     /// An inter frame without a coded block.
     pub fn nothing(&self) -> Vec<u8> {
-        let mut bits = Bits::default();
+        let mut bits = BitWriter::default();
         put_header(&mut bits, 1);
         self.put_super_blocks(&mut bits, |_| false);
         put_mode_scheme(&mut bits);
@@ -151,7 +151,7 @@ impl Encoder {
 
     /// Which super blocks are coded, all of a super block's blocks or none; no
     /// super block is partly coded.
-    fn put_super_blocks(&self, bits: &mut Bits, coded: impl Fn(Block) -> bool) {
+    fn put_super_blocks(&self, bits: &mut BitWriter, coded: impl Fn(Block) -> bool) {
         let mut flags = Vec::new();
         for (plane, sizes) in (0..).zip(&self.sizes.planes) {
             for y in (0..sizes.blocks_up).step_by(4) {
@@ -168,7 +168,7 @@ impl Encoder {
     /// blocks end. The coded blocks of a plane are a rectangle, or none.
     fn put_values(
         &self,
-        bits: &mut Bits,
+        bits: &mut BitWriter,
         coded: impl Fn(Block) -> bool,
         value: impl Fn(Block) -> i64,
     ) {
@@ -206,7 +206,7 @@ fn predicted(block: Block, known: impl Fn(Block) -> Option<i64>) -> i64 {
 }
 
 /// The first bits of a frame packet: its type (0 is intra), and one qi.
-fn put_header(bits: &mut Bits, frame_type: u64) {
+fn put_header(bits: &mut BitWriter, frame_type: u64) {
     bits.put(0, 1);
     bits.put(frame_type, 1);
     bits.put(QI, 6);
@@ -214,23 +214,23 @@ fn put_header(bits: &mut Bits, frame_type: u64) {
 }
 
 /// Scheme 7: modes are sent as they are, in 3 bits.
-fn put_mode_scheme(bits: &mut Bits) {
+fn put_mode_scheme(bits: &mut BitWriter) {
     bits.put(7, 3);
 }
 
 /// The tables of luma and chroma: all are equal.
-fn put_table_choices(bits: &mut Bits) {
+fn put_table_choices(bits: &mut BitWriter) {
     bits.put(0, 8);
 }
 
 /// All blocks end.
-fn put_ends(bits: &mut Bits) {
+fn put_ends(bits: &mut BitWriter) {
     bits.put(END_ALL, 5);
     bits.put(0, 12);
 }
 
 /// A coefficient of at most 580, as one token.
-fn put_value(bits: &mut Bits, value: i64) {
+fn put_value(bits: &mut BitWriter, value: i64) {
     let sign = u64::from(value < 0);
     let size = value.unsigned_abs();
     // The least size of tokens 17 to 22, and how many bits say how much more.
@@ -267,7 +267,7 @@ fn put_value(bits: &mut Bits, value: i64) {
 }
 
 /// A string of long runs.
-fn put_runs(bits: &mut Bits, flags: &[bool]) {
+fn put_runs(bits: &mut BitWriter, flags: &[bool]) {
     let mut rest = flags;
     let mut explicit = true;
     while let [first, ..] = rest {
@@ -284,7 +284,7 @@ fn put_runs(bits: &mut Bits, flags: &[bool]) {
 }
 
 /// A long run: its code, and how much it is more than the code's least.
-fn put_run(bits: &mut Bits, length: u64) {
+fn put_run(bits: &mut BitWriter, length: u64) {
     // Code, its bits, the least run, the bits of what is more.
     const CODES: [(u64, u32, u64, u32); 7] = [
         (0b0, 1, 1, 0),

@@ -1,6 +1,6 @@
 //! The three headers of the sample.
 
-use super::bits::Bits;
+use recording::bit_writer::BitWriter;
 use wedgepetal::Session;
 
 /// The bits of a limit of the loop filter, and the limit of every qi.
@@ -74,7 +74,7 @@ pub fn comment_header() -> Vec<u8> {
 /// A setup header with one limit, one scale and one quantizer for everything,
 /// and 80 equal trees in which every token has its number in 5 bits as its code.
 pub fn setup_header() -> Vec<u8> {
-    let mut bits = Bits::default();
+    let mut bits = BitWriter::default();
     bits.put_bytes(b"\x82theora");
     bits.put(LIMIT_BITS, 3);
     for _ in 0..64 {
@@ -104,7 +104,7 @@ pub fn setup_header() -> Vec<u8> {
 }
 
 /// A full tree of this depth, whose leaves are numbered from this token on.
-fn put_tree(bits: &mut Bits, depth: u32, token: u64) {
+fn put_tree(bits: &mut BitWriter, depth: u32, token: u64) {
     if depth == 0 {
         bits.put(1, 1);
         bits.put(token, 5);

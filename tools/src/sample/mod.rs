@@ -2,7 +2,6 @@
 //! picture 8 samples less high, 25 frames a second. A spot of light is panned,
 //! brightened, held, and put back.
 
-mod bits;
 mod encoder;
 mod headers;
 

@@ -97,7 +97,7 @@ fn mode(reader: &mut FrameReader, alphabet: Option<&Alphabet>) -> Result<Mode, F
 mod tests {
     use super::super::super::layout::tests::layout;
     use super::*;
-    use crate::bit_writer::BitWriter;
+    use recording::bit_writer::BitWriter;
 
     /// Reads the modes of a frame whose macro blocks have coded luma as said.
     fn read(packet: &[u8], coded: &[bool]) -> Result<(Vec<Mode>, u64), FrameFault> {

@@ -64,7 +64,7 @@ fn run_length(bits: &mut BitReader, codes: &RunCodes) -> Result<usize, Fault> {
 #[allow(clippy::unusual_byte_groupings)] // a group is a field
 mod tests {
     use super::*;
-    use crate::bit_writer::BitWriter;
+    use recording::bit_writer::BitWriter;
 
     const PARTLY: Bits = Bits::Partly;
 

@@ -5,7 +5,7 @@ use super::super::trees::Code;
 use super::codebook::Codebook;
 use super::record::{Prediction, Vector};
 use super::*;
-use crate::bit_writer::BitWriter;
+use recording::bit_writer::BitWriter;
 
 /// 80 tables in which a token's code is its number in five bits.
 fn flat() -> Codebooks {

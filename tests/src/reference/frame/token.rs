@@ -108,7 +108,7 @@ impl Token {
 #[cfg(test)]
 mod tests {
     use super::*;
-    use crate::bit_writer::BitWriter;
+    use recording::bit_writer::BitWriter;
 
     /// What a token says with all its extra bits 0, and with all 1.
     fn ends(number: u64) -> [Token; 2] {

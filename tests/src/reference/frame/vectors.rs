@@ -206,7 +206,7 @@ fn added(bits: &mut BitReader, to: i64, width: u32) -> Result<i64, Fault> {
 mod tests {
     use super::super::super::layout::tests::layout;
     use super::*;
-    use crate::bit_writer::BitWriter;
+    use recording::bit_writer::BitWriter;
 
     const fn at(x: i64, y: i64) -> Vector {
         Vector { x, y }

@@ -1,4 +1,4 @@
-//! Writes fields bit by bit.
+//! Fields written bit by bit.
 
 /// Bytes that are filled from their most significant bit on.
 #[derive(Clone, Debug, Default)]
@@ -21,6 +21,13 @@ impl BitWriter {
         }
     }
 
+    /// Appends bytes, each in 8 bits.
+    pub fn put_bytes(&mut self, bytes: &[u8]) {
+        for byte in bytes {
+            self.put(u64::from(*byte), 8);
+        }
+    }
+
     /// How many bits there are.
     pub fn length(&self) -> u64 {
         self.length
@@ -30,16 +37,10 @@ impl BitWriter {
     pub fn bytes(&self) -> &[u8] {
         &self.bytes
     }
-}
 
-/// Overwrites a field in bytes.
-pub fn overwrite(bytes: &mut [u8], place: u64, width: u32, value: u64) {
-    for i in 0..u64::from(width) {
-        let bit = (value >> (u64::from(width) - 1 - i) & 1) as u8;
-        let at = place + i;
-        let byte = &mut bytes[(at / 8) as usize];
-        let shift = 7 - at % 8;
-        *byte = *byte & !(1 << shift) | bit << shift;
+    /// The bytes; the last one is filled up with zeros.
+    pub fn into_bytes(self) -> Vec<u8> {
+        self.bytes
     }
 }
 
@@ -55,12 +56,7 @@ mod tests {
         bits.put(0x11, 5);
         bits.put(1, 1);
         assert_eq!((bits.bytes(), bits.length()), (&[0xB1, 0x80][..], 9));
-    }
-
-    #[test]
-    fn only_the_field_is_overwritten() {
-        let mut bytes = [0xFF, 0x00, 0xFF];
-        overwrite(&mut bytes, 6, 11, 0b010_1010_1010);
-        assert_eq!(bytes, [0b1111_1101, 0b0101_0101, 0b0111_1111]);
+        bits.put_bytes(&[0xFF, 1]);
+        assert_eq!(bits.into_bytes(), [0xB1, 0xFF, 0x80, 0x80]);
     }
 }
