@@ -1,5 +1,19 @@
 /*
  * Wedgepetal: a proved Theora decoder. The face for C and other languages.
+ * `rt staticlib theora_c` writes the library, target/staticlib/libtheora_c.a
+ * (x86-64). It allocates nothing and keeps nothing from call to call.
+ *
+ * A recording's first packet is its identification header, the second its
+ * comment header (which no call reads), the third its setup header. All others
+ * are frame packets. To decode a recording:
+ *
+ *   1. wedgepetal_identification reads the first packet into a session,
+ *      wedgepetal_setup the third into table memory.
+ *   2. wedgepetal_sizes says how long a plane buffer is, wedgepetal_work_lengths
+ *      how long work memory is. The caller allocates three buffers (golden,
+ *      previous and new) and work memory.
+ *   3. wedgepetal_frame decodes each other packet into the new buffer;
+ *      wedgepetal_frame_in, at the end, is the same with fewer arguments.
  *
  * Every call may be given any numbers and any contents. A list is a pointer
  * and the number of its elements; the pointer must be valid for that many
@@ -7,17 +21,18 @@
  * must not overlap another list of the same call. Nothing else is asked.
  *
  * Each call returns 0 if it is accepted, else the number of its refusal. A
- * refused call writes nothing (but wedgepetal_setup and wedgepetal_frame, see
- * there). A wrong length is found before all else, then a fault of the packet,
- * the session or the table memory, then that there is no such thing as is
- * asked for.
+ * refused call writes nothing, but for the table memory of wedgepetal_setup and
+ * the work memory of wedgepetal_frame (see there). Where several numbers apply,
+ * a wrong length comes first, then a fault of the packet, the session or the
+ * table memory, then that there is no such thing as is asked for. Only
+ * wedgepetal_frame has another order, which it says.
  *
- * A recording's first packet is its identification header, the second its
- * comment header (which no call reads), the third its setup header. All others
- * are frame packets.
- *
- * Blocks and macro blocks are counted from the lower left corner: x to the
- * right, y up. Planes are 0 (Y'), 1 (Cb) and 2 (Cr).
+ * Planes are 0 (Y'), 1 (Cb) and 2 (Cr). A block has 8 by 8 samples of one
+ * plane, a super block 4 by 4 blocks; a macro block has 16 by 16 samples of Y'
+ * and what lies there in Cb and Cr. All are counted from the lower left corner:
+ * x to the right, y up. In packets the blocks stand in coded order: super block
+ * by super block, in each along a curve. A qi (0 to 63) is an index into the
+ * quantization tables.
  */
 #ifndef WEDGEPETAL_H
 #define WEDGEPETAL_H
@@ -41,7 +56,8 @@ enum {
     WEDGEPETAL_SETUP_FAULT = 7,     /* setup: NBMS above 384, a matrix index not below NBMS, a qi sum
                                        above 63, a code longer than 32, a 33rd leaf */
     WEDGEPETAL_SESSION = 8,         /* the session's identification fields break 5, 6 or their widths */
-    WEDGEPETAL_TABLE = 8,           /* no accepted setup packet leaves this table memory */
+    WEDGEPETAL_TABLE = 8,           /* no accepted setup packet leaves this table memory (the same
+                                       number as for a session) */
     WEDGEPETAL_NO_REFERENCES = 9,   /* an inter or empty packet, and no references */
     WEDGEPETAL_NOT_A_FRAME = 10,    /* the first bit of a frame packet is 1 */
     WEDGEPETAL_FRAME_RESERVED = 11, /* an intra frame's 3 reserved bits are not 0 */
@@ -52,21 +68,39 @@ enum {
 };
 
 /* A session is a list of 17 numbers: the identification fields, and whether
- * references exist (0: no, any other number: yes). */
+ * references (a golden and a previous frame) exist. */
 enum {
-    WEDGEPETAL_VREV, WEDGEPETAL_FMBW, WEDGEPETAL_FMBH, WEDGEPETAL_PICW,
-    WEDGEPETAL_PICH, WEDGEPETAL_PICX, WEDGEPETAL_PICY, WEDGEPETAL_FRN,
-    WEDGEPETAL_FRD, WEDGEPETAL_PARN, WEDGEPETAL_PARD, WEDGEPETAL_CS,
-    WEDGEPETAL_NOMBR, WEDGEPETAL_QUAL, WEDGEPETAL_KFGSHIFT, WEDGEPETAL_PF,
-    WEDGEPETAL_REFERENCES,
+    WEDGEPETAL_VREV,       /* revision of version 3.2 */
+    WEDGEPETAL_FMBW,       /* width of the frame in macro blocks */
+    WEDGEPETAL_FMBH,       /* height of the frame in macro blocks */
+    WEDGEPETAL_PICW,       /* the picture, which is what should be shown of the frame: its width, */
+    WEDGEPETAL_PICH,       /*   height, */
+    WEDGEPETAL_PICX,       /*   distance from the left */
+    WEDGEPETAL_PICY,       /*   and from the bottom, in samples of Y' */
+    WEDGEPETAL_FRN,        /* frames a second: numerator */
+    WEDGEPETAL_FRD,        /*   and denominator */
+    WEDGEPETAL_PARN,       /* width of a sample over its height: numerator */
+    WEDGEPETAL_PARD,       /*   and denominator; 0 is unknown */
+    WEDGEPETAL_CS,         /* colour space */
+    WEDGEPETAL_NOMBR,      /* nominal bits a second */
+    WEDGEPETAL_QUAL,       /* quality hint */
+    WEDGEPETAL_KFGSHIFT,   /* shift of the key frame number in a granule position */
+    WEDGEPETAL_PF,         /* pixel format: 0 is 4:2:0, 2 is 4:2:2, 3 is 4:4:4 */
+    WEDGEPETAL_REFERENCES, /* 0: there are none; any other number: there are */
     WEDGEPETAL_SESSION_NUMBERS
 };
 
-/* The sizes of a session's frames are a list of 16 numbers. A plane has four:
- * blocks across, blocks up, offset and length in bytes. */
+/* The sizes of a session's frames are a list of 16 numbers, of which each plane
+ * has four: blocks across, blocks up, its offset in a plane buffer and its
+ * length, both in bytes. sizes[WEDGEPETAL_PLANE_CB + 2] is the offset of Cb. */
 enum {
-    WEDGEPETAL_NMBS, WEDGEPETAL_NBS, WEDGEPETAL_NSBS, WEDGEPETAL_BUFFER,
-    WEDGEPETAL_PLANE_Y, WEDGEPETAL_PLANE_CB = 8, WEDGEPETAL_PLANE_CR = 12,
+    WEDGEPETAL_NMBS,   /* macro blocks */
+    WEDGEPETAL_NBS,    /* blocks of the three planes */
+    WEDGEPETAL_NSBS,   /* super blocks of the three planes */
+    WEDGEPETAL_BUFFER, /* bytes of a plane buffer: 64 NBS */
+    WEDGEPETAL_PLANE_Y,
+    WEDGEPETAL_PLANE_CB = 8,
+    WEDGEPETAL_PLANE_CR = 12,
     WEDGEPETAL_SIZE_NUMBERS = 16
 };
 
@@ -77,7 +111,7 @@ enum {
 };
 
 /* The lengths of work memory are a list of 11 numbers: those of its ten slices
- * in elements, and the bytes of all of them together. */
+ * in elements (of the type said here), and the bytes of all of them together. */
 enum {
     WEDGEPETAL_RECORDS,   /* NBS, uint32_t */
     WEDGEPETAL_CODED,     /* NBS, uint64_t */
@@ -93,47 +127,56 @@ enum {
     WEDGEPETAL_LENGTH_NUMBERS
 };
 
-/* The answer of a frame is a list of 5 numbers: its kind, how many qi it has (1
- * to 3; 0 for a repeat), and three qi, of which the others are 0. */
+/* The answer of a frame is a list of 5 numbers. */
 enum {
-    WEDGEPETAL_KIND, WEDGEPETAL_QI_COUNT, WEDGEPETAL_QIS,
+    WEDGEPETAL_KIND,     /* one of the three kinds */
+    WEDGEPETAL_QI_COUNT, /* how many qi it has: 1 to 3, or 0 for a repeat */
+    WEDGEPETAL_QIS,      /* the first of three numbers: these qi, then zeros */
     WEDGEPETAL_ANSWER_NUMBERS = 5
 };
+
+/* The kinds of a frame: coded by itself, coded as a change of other frames, the
+ * previous frame again (an empty packet). */
 enum { WEDGEPETAL_INTRA, WEDGEPETAL_INTER, WEDGEPETAL_REPEAT };
 
-/* Reads an identification header; session receives the fresh session. */
+/* ---- Headers and sizes. How many numbers a list must have stands behind it. */
+
+/* Reads an identification header; session (17) receives a fresh session, which
+ * has no references. Refused by 1 to 6. */
 uint32_t wedgepetal_identification(const uint8_t *packet, size_t packet_length,
                                    uint64_t *session, size_t session_length);
 
-/* The sizes of a session's frames. */
+/* The sizes of a session's frames (16). This call and the next six take a
+ * session (17) and are refused by 1 and 8, and the six by 255 if the frame does
+ * not have what they ask for. */
 uint32_t wedgepetal_sizes(const uint64_t *session, size_t session_length,
                           uint64_t *sizes, size_t sizes_length);
 
-/* The block that is this number in coded order: plane, x, y (3 numbers). */
+/* The block that is this number in coded order, from 0: plane, x, y (3). */
 uint32_t wedgepetal_block_at(const uint64_t *session, size_t session_length, uint64_t number,
                              uint64_t *block, size_t block_length);
 
-/* The number in coded order of block (x, y) of a plane (1 number). */
+/* The number in coded order of block (x, y) of a plane (1). */
 uint32_t wedgepetal_block_number(const uint64_t *session, size_t session_length,
                                  uint64_t plane, uint64_t x, uint64_t y,
                                  uint64_t *number, size_t number_length);
 
-/* The macro block that is this number in coded order: x, y (2 numbers). */
+/* The macro block that is this number in coded order, from 0: x, y (2). */
 uint32_t wedgepetal_macro_block_at(const uint64_t *session, size_t session_length, uint64_t number,
                                    uint64_t *place, size_t place_length);
 
-/* The number in coded order of macro block (x, y) (1 number). */
+/* The number in coded order of macro block (x, y) (1). */
 uint32_t wedgepetal_macro_block_number(const uint64_t *session, size_t session_length,
                                        uint64_t x, uint64_t y,
                                        uint64_t *number, size_t number_length);
 
-/* The macro block that block (x, y) of a plane belongs to: x, y (2 numbers). */
+/* The macro block that block (x, y) of a plane belongs to: x, y (2). */
 uint32_t wedgepetal_macro_block_of(const uint64_t *session, size_t session_length,
                                    uint64_t plane, uint64_t x, uint64_t y,
                                    uint64_t *place, size_t place_length);
 
-/* Where in a plane buffer sample (column, row) of block (x, y) of a plane
- * lies; columns and rows are 0 to 7, row 0 the lowest (1 number). */
+/* At which byte of a plane buffer sample (column, row) of block (x, y) of a
+ * plane lies (1); columns and rows are 0 to 7, row 0 the lowest. */
 uint32_t wedgepetal_sample_offset(const uint64_t *session, size_t session_length,
                                   uint64_t plane, uint64_t x, uint64_t y,
                                   uint64_t column, uint64_t row,
@@ -145,20 +188,24 @@ uint32_t wedgepetal_sample_offset(const uint64_t *session, size_t session_length
 uint32_t wedgepetal_setup(const uint8_t *packet, size_t packet_length,
                           uint8_t *table, size_t table_length);
 
-/* Whether some accepted setup packet leaves this table memory: 0 if so, else 8. */
+/* Whether some accepted setup packet leaves this table memory: 0 if so, else 8
+ * (1 if it has another length). */
 uint32_t wedgepetal_table(const uint8_t *table, size_t table_length);
 
-/* The loop limit of a qi, 0 to 63 (1 number). */
+/* The loop filter's limit for a qi (1). This call and the next are refused by 1
+ * and 8, and by 255 if there is no such qi, type or plane. */
 uint32_t wedgepetal_loop_limit(const uint8_t *table, size_t table_length, uint64_t qi,
                                uint64_t *limit, size_t limit_length);
 
-/* The quantization matrix of a type (0 intra, 1 inter), plane and qi, in
- * natural order (64 numbers). */
+/* The quantization matrix of a type (0 intra, 1 inter), plane and qi (64), in
+ * natural order: row by row, not along the zig-zag. */
 uint32_t wedgepetal_matrix(const uint8_t *table, size_t table_length,
                            uint64_t type, uint64_t plane, uint64_t qi,
                            uint64_t *matrix, size_t matrix_length);
 
-/* The lengths of work memory for a session's frames (11 numbers). */
+/* ---- Frames. */
+
+/* The lengths of work memory for a session's frames (11). Refused by 1 and 8. */
 uint32_t wedgepetal_work_lengths(const uint64_t *session, size_t session_length,
                                  uint64_t *lengths, size_t lengths_length);
 
@@ -170,21 +217,24 @@ uint32_t wedgepetal_work_lengths(const uint64_t *session, size_t session_length,
  * table    (WEDGEPETAL_TABLE_BYTES bytes) what wedgepetal_setup left; only read
  * records to active
  *          work memory, of the lengths that wedgepetal_work_lengths gives. It
- *          may hold anything; past the check of the lengths all of it is zero
- *          after the call, also after a refusal
+ *          may hold anything, and keeps nothing for the next call. Once all
+ *          lengths are found right it is all zero after the call, also if that
+ *          is then refused; before that (1, or 8 for the session) it is as it was
  * golden, previous
- *          (64 NBS bytes each) the planes of the golden and of the previous
- *          frame; only read, so that both may be the same buffer. Without
- *          references they may hold anything
+ *          (64 NBS bytes each) the planes of the golden frame, which is the last
+ *          intra frame, and of the previous frame; only read, so that both may
+ *          be the same buffer. Without references they may hold anything
  * new_frame
  *          (64 NBS bytes) receives the planes of an accepted frame: plane 0
- *          first, in each plane the lowest row first. It must be another buffer
- *          than golden and previous
+ *          first, in each plane the lowest row first. The whole frame is there;
+ *          the caller cuts the picture out of it. It must be another buffer than
+ *          golden and previous
  * answer   (5 numbers) receives the answer of an accepted frame
  *
  * After an accepted intra frame the caller takes new_frame for golden and
  * previous, after another accepted frame for previous; after a refusal all
- * stays as it is. With three buffers nothing need be copied.
+ * stays as it is, and the next packet may be tried. With three buffers nothing
+ * need be copied: the next new_frame is one that is neither golden nor previous.
  *
  * Refusals, in the order in which they are found: 1 for session or answer, 8
  * for the session, 1 for any other list, 8 for the table memory, then 4 and 9
@@ -225,8 +275,9 @@ struct wedgepetal_work {
     uint64_t lengths[WEDGEPETAL_LENGTH_NUMBERS];
 };
 
-/* Cuts memory of lengths[WEDGEPETAL_WORK_BYTES] bytes into the slices. Its
- * address is a multiple of 8, as malloc gives it. */
+/* Cuts memory into the slices, by the lengths that wedgepetal_work_lengths gave.
+ * It has lengths[WEDGEPETAL_WORK_BYTES] bytes, and its address is a multiple of
+ * 8, as malloc gives it. */
 static inline struct wedgepetal_work wedgepetal_work_in(void *memory, const uint64_t *lengths)
 {
     struct wedgepetal_work work;
@@ -247,8 +298,9 @@ static inline struct wedgepetal_work wedgepetal_work_in(void *memory, const uint
     return work;
 }
 
-/* wedgepetal_frame with these slices; the three buffers have one length, and
- * session, table and answer have theirs. */
+/* wedgepetal_frame with these slices. The three buffers have buffer_length
+ * bytes each, sizes[WEDGEPETAL_BUFFER]; session, table and answer have the
+ * lengths that they must have. */
 static inline uint32_t wedgepetal_frame_in(const struct wedgepetal_work *work, uint64_t *session,
                                            const uint8_t *packet, size_t packet_length,
                                            const uint8_t *table, const uint8_t *golden,
