@@ -1,26 +1,25 @@
 -- How `tree` goes, by what its fields are, and the list of the nodes that `grow` stores. Assumes nothing.
-use Prim.Native.Nat.{ℕ, zero, suc, _+_, _-_, _≤_, _<_}
+use Prim.Native.Nat.{ℕ, zero, suc, _+_, _-_, _/_, _%_, _≤_, _<_}
 use native.Mathlib.Nat.{zero-add}
 use native.Mathlib.Omega.{arith}
 use native.Mathlib.Numerals.{add-one}
 use mathlib.Core.Path.{_≡_, refl, sym, ap, ap₂, _∙_}
 use mathlib.Core.List.{List, [], _∷_, _++_, append-assoc, append-nil}
-use mathlib.Core.Bool.{true, false}
+use mathlib.Core.Bool.{Bool, true, false, _&&_, false≢true}
+use lib.Dec.{leb, ltb}
 use lib.ListN.{length, getD, take, drop, set, replicate, length-append, length-replicate, replicate-append-replicate}
 use lib.Seq.{take-suc, append-snoc, set-split, set-at, take-at, drop-at, drop-append-add, drop-drop, length-take-le, paste-suc, take-append-add, drop-length}
-use borrow.Author.Tests.{eq-eqb, ne-eqb, lt-ltb, le-ltb}
+use borrow.Author.Tests.{eq-eqb, ne-eqb, lt-ltb, le-ltb, leb-true, ltb-true}
+use Rattle.bitstream.specs.Bits.{bits, number}
 use Rattle.bitstream.specs.Reading.{Outcome, got, refused, after, field}
-use Rattle.bitstream.proofs.Fields.{no-mix, field-cases, judged-end, judged-fails, judged-passes}
+use Rattle.bitstream.proofs.Fields.{field-got, field-end, judged-end, judged-fails, judged-passes}
 use Rattle.huffman.specs.Tree.{Tree, leaf, fork, leaves, size, allowed, leafBit, leafToken, tree, huffmanTree, flat, nodesOf}
 use Rattle.huffman.specs.Answer.{asPlace, nodesAfter, asGrown, Stored}
 use Rattle.huffman.specs.declared.Place.the-variants as place
 use Rattle.huffman.specs.declared.Grown.{Grown}
 use Rattle.huffman.specs.declared.Grown.the-variants.{Done, Refused}
+use Rattle.huffman.proofs.Two.{leaf-bit, leaf-token, fork-bit, left-bit, left-token}
 use Rattle.huffman.proofs.Trees.{branches, proper-size, read-proper}
-
--- a field refuses by 4 at its first bit alone
-pub field-refused : (n : ℕ) (p : List ℕ) (i : ℕ) {k e : ℕ} → field n p i ≡ refused k e → field n p i ≡ refused 4 i
-field-refused n p i h = field-cases n p i (λ _ f. no-mix (sym f ∙ h)) (λ _ f. f)
 
 -- ---- the steps, by the leaf bit
 module _ (d seen : ℕ) (p : List ℕ) (i : ℕ) where
@@ -45,13 +44,13 @@ module _ (seen : ℕ) (p : List ℕ) (i : ℕ) where
   pub tree-end : (d : ℕ) → field 1 p i ≡ refused 4 i → tree d seen p i ≡ refused 4 i
   tree-end d f = bit-refused d (bit-end d seen p i f)
 
-  pub tree-full : (d : ℕ) {b e : ℕ} → field 1 p i ≡ got b e → b ≡ 1 → 32 ≤ seen → tree d seen p i ≡ refused 7 i
+  tree-full : (d : ℕ) {b e : ℕ} → field 1 p i ≡ got b e → b ≡ 1 → 32 ≤ seen → tree d seen p i ≡ refused 7 i
   tree-full d f h l = bit-refused d (bit-fails d seen p i f (rw (eq-eqb _ _ h) (le-ltb seen 32 l)))
 
-  pub tree-deep : (d : ℕ) {b e : ℕ} → field 1 p i ≡ got b e → (b ≡ 1 → ⊥) → d ≡ 0 → tree d seen p i ≡ refused 7 i
+  tree-deep : (d : ℕ) {b e : ℕ} → field 1 p i ≡ got b e → (b ≡ 1 → ⊥) → d ≡ 0 → tree d seen p i ≡ refused 7 i
   tree-deep d f h z = bit-refused d (bit-fails d seen p i f (rw (ne-eqb _ _ h) (le-ltb 0 d (omega arith))))
 
-  pub tree-leaf : (d : ℕ) {b e : ℕ} → field 1 p i ≡ got b e → b ≡ 1 → seen < 32 → tree d seen p i ≡ leafToken p e
+  tree-leaf : (d : ℕ) {b e : ℕ} → field 1 p i ≡ got b e → b ≡ 1 → seen < 32 → tree d seen p i ≡ leafToken p e
   unfolding tree
   tree-leaf zero f h l = rw (bit-passes zero seen p i f (rw (eq-eqb _ _ h) (lt-ltb seen 32 l)))
   tree-leaf (suc d) f h l = rw (bit-passes (suc d) seen p i f (rw (eq-eqb _ _ h) (lt-ltb seen 32 l)), eq-eqb _ _ h)
@@ -63,21 +62,69 @@ module _ (seen : ℕ) (p : List ℕ) (i : ℕ) where
   tree-fork : (d : ℕ) {b e : ℕ} → field 1 p i ≡ got b e → (b ≡ 1 → ⊥) → (d ≡ 0 → ⊥) → tree d seen p i ≡ branches (d - 1) seen p e
   tree-fork d f h z = ap (λ (k : ℕ). tree k seen p i) (omega arith) ∙ fork-suc (d - 1) f h
 
-  pub fork-refused : (d : ℕ) {b e k j : ℕ} → field 1 p i ≡ got b e → (b ≡ 1 → ⊥) → (d ≡ 0 → ⊥) → tree (d - 1) seen p e ≡ refused k j → tree d seen p i ≡ refused k j
+  fork-refused : (d : ℕ) {b e k j : ℕ} → field 1 p i ≡ got b e → (b ≡ 1 → ⊥) → (d ≡ 0 → ⊥) → tree (d - 1) seen p e ≡ refused k j → tree d seen p i ≡ refused k j
   fork-refused d f h z r = tree-fork d f h z ∙ rw r
 
-  pub fork-left : (d : ℕ) {b e j : ℕ} {l : Tree} → field 1 p i ≡ got b e → (b ≡ 1 → ⊥) → (d ≡ 0 → ⊥) → tree (d - 1) seen p e ≡ got l j
+  fork-left : (d : ℕ) {b e j : ℕ} {l : Tree} → field 1 p i ≡ got b e → (b ≡ 1 → ⊥) → (d ≡ 0 → ⊥) → tree (d - 1) seen p e ≡ got l j
       → tree d seen p i ≡ after (tree (d - 1) (seen + leaves l) p j) (λ r e. got (fork l r) e)
   fork-left d f h z r = tree-fork d f h z ∙ rw r
 
 module _ (p : List ℕ) (i : ℕ) where
-  pub token-end : field 5 p i ≡ refused 4 i → leafToken p i ≡ refused 4 i
+  token-end : field 5 p i ≡ refused 4 i → leafToken p i ≡ refused 4 i
   unfolding leafToken
   token-end f = rw f
 
-  pub token-got : {t e : ℕ} → field 5 p i ≡ got t e → leafToken p i ≡ got (leaf t) e
+  token-got : {t e : ℕ} → field 5 p i ≡ got t e → leafToken p i ≡ got (leaf t) e
   unfolding leafToken
   token-got f = rw f
+
+-- ---- the steps, by the seven bits s at a node
+module _ (seen : ℕ) (p : List ℕ) (at s : ℕ) (is : s ≡ number p at 7) where
+  first-bit : at < bits p → field 1 p at ≡ got (number p at 1) (at + 1)
+  first-bit h = field-got 1 p at (omega arith)
+
+  pub seven-full : (d : ℕ) → at < bits p → 64 ≤ s → 32 ≤ seen → tree d seen p at ≡ refused 7 at
+  seven-full d h b l = tree-full seen p at d (first-bit h) (leaf-bit p at s is b) l
+
+  pub seven-cut : (d : ℕ) → at < bits p → 64 ≤ s → seen < 32 → bits p < at + 6 → tree d seen p at ≡ refused 4 (at + 1)
+  seven-cut d h b l c = tree-leaf seen p at d (first-bit h) (leaf-bit p at s is b) l ∙ token-end p (at + 1) (field-end 5 p (at + 1) (omega arith))
+
+  pub seven-leaf : (d : ℕ) → at + 6 ≤ bits p → 64 ≤ s → seen < 32 → tree d seen p at ≡ got (leaf (s / 2 % 32)) (at + 6)
+  seven-leaf d h b l =
+      let e : at + 1 + 5 ≡ at + 6 = omega arith in
+      tree-leaf seen p at d (first-bit (omega arith)) (leaf-bit p at s is b) l
+      ∙ token-got p (at + 1) (field-got 5 p (at + 1) (omega arith))
+      ∙ ap₂ (λ (t n : ℕ). got (leaf t) n) (sym (leaf-token p at s is b)) e
+
+  pub seven-deep : (d : ℕ) → at < bits p → s < 64 → d ≡ 0 → tree d seen p at ≡ refused 7 at
+  seven-deep d h b z = tree-deep seen p at d (first-bit h) (fork-bit p at s is b) z
+
+  pub seven-refused : (d : ℕ) {k j : ℕ} → at < bits p → s < 64 → (d ≡ 0 → ⊥) → tree (d - 1) seen p (at + 1) ≡ refused k j → tree d seen p at ≡ refused k j
+  seven-refused d h b z r = fork-refused seen p at d (first-bit h) (fork-bit p at s is b) z r
+
+  pub seven-fork : (d : ℕ) {j : ℕ} {l : Tree} → at < bits p → s < 64 → (d ≡ 0 → ⊥) → tree (d - 1) seen p (at + 1) ≡ got l j
+      → tree d seen p at ≡ after (tree (d - 1) (seen + leaves l) p j) (λ r e. got (fork l r) e)
+  seven-fork d h b z r = fork-left seen p at d (first-bit h) (fork-bit p at s is b) z r
+
+  -- a 0 branch that is a leaf
+  pub seven-left : (d : ℕ) → at + 7 ≤ bits p → s < 64 → 32 ≤ s → seen < 32 → (d ≡ 0 → ⊥)
+      → tree d seen p at ≡ after (tree (d - 1) (seen + 1) p (at + 7)) (λ r e. got (fork (leaf (s % 32)) r) e)
+  seven-left d h b m l z =
+      let e : at + 1 + 1 + 5 ≡ at + 7 = omega arith in
+      seven-fork d (omega arith) b z
+      (tree-leaf seen p (at + 1) (d - 1) (field-got 1 p (at + 1) (omega arith)) (left-bit p at s is b m) l
+      ∙ token-got p (at + 1 + 1) (field-got 5 p (at + 1 + 1) (omega arith))
+      ∙ ap₂ (λ (t n : ℕ). got (leaf t) n) (sym (left-token p at s is b m)) e)
+
+-- when a 0 branch that is a leaf is taken at once
+pub at-once : (s seen e total : ℕ) → ((leb 32 s && ltb seen 32) && leb e total) ≡ true → (32 ≤ s) × (seen < 32) × (e ≤ total)
+at-once s seen e total h = go (leb 32 s) (ltb seen 32) (leb e total) refl refl refl h
+  where
+    go : (a b c : Bool) → leb 32 s ≡ a → ltb seen 32 ≡ b → leb e total ≡ c → ((a && b) && c) ≡ true → (32 ≤ s) × (seen < 32) × (e ≤ total)
+    go true true true x y z h = (leb-true _ _ x, ltb-true _ _ y, leb-true _ _ z)
+    go true true false x y z h = absurd (false≢true h)
+    go true false c x y z h = absurd (false≢true h)
+    go false b c x y z h = absurd (false≢true h)
 
 -- ---- what an answer says
 pub grown-done : (base seen : ℕ) (o : Outcome Tree) {r : Grown} {place mid count : ℕ} → r ≡ asGrown base seen o → r ≡ Done place mid count

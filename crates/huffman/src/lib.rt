@@ -2,7 +2,7 @@
 use bitstream::Field;
 ghost use mathlib.Core.Path.{_≡_};
 ghost use Prim.Native.Nat.{ℕ, _+_, _-_, _*_, _/_, _<_, _≤_, _^_};
-ghost use lib.ListN.{length, take};
+ghost use lib.ListN.{length, getD, take};
 ghost use Rattle.bitstream.specs.Bits.{bits, bitAt, number};
 ghost use Rattle.bitstream.specs.Answer.{asField};
 ghost use Rattle.huffman.specs.Tree.{tree, huffmanTree};
@@ -22,32 +22,59 @@ enum Grown {
     Refused(u32, usize),
 }
 
+// The byte at an index, 0 past the end.
+fn byte_or_zero(packet: &[u8], i: usize) -> u8
+    ensures { λ r. ⌜ r ≡ getD (now (packet .entry)) i 0 ⌝ }
+{
+    if i < packet.len() {
+        return packet[i];
+    }
+    0
+}
+
+// The seven bits from the bit place `at` on, out of two bytes; past the end they are 0.
+fn seven_bits(packet: &[u8], at: usize) -> usize
+    requires { ⌜ at < bits (now packet) ⌝ }
+    ensures { λ r. ⌜ (r ≡ number (now (packet .entry)) at 7) × (r < 128) ⌝ }
+{
+    let first = packet[at / 8] as usize;
+    let second = byte_or_zero(packet, at / 8 + 1) as usize;
+    ((first * 256 + second) >> (9 - at % 8)) % 128
+}
+
 // The part of a tree at the bit place `at`, below which codes may grow by `depth` bits, with `seen` leaves before it.
 // Its nodes go to `out` at `base`: before it stand at most a leaf and a closed fork for each leaf seen, and the open forks above.
+// Seven bits at once are a leaf and its token, or a fork and a leaf that is its 0 branch.
 fn grow(packet: &[u8], at: usize, depth: usize, seen: usize, out: &mut [u8], base: usize) -> Grown
     requires { ⌜ (length (now packet) ≤ 2 ^ 58) × (97 ≤ length (now out)) × (depth ≤ 32) × (seen ≤ 32) × (base ≤ 2 * seen + (32 - depth)) ⌝ }
     ensures { λ r. ⌜ r ≡ asGrown base seen (tree depth seen (now (packet .entry)) at) ⌝ }
     ensures { λ r. ⌜ Stored base (now (out .entry)) (now (out .exit)) (tree depth seen (now (packet .entry)) at) ⌝ }
 {
-    let first = bitstream::read(packet, at, 1);
-    let Field::Got(b, next) = first else {
+    let total = packet.len() * 8;
+    if total <= at {
         return Grown::Refused(4, at);
-    };
-    if b == 1 {
+    }
+    let seven = seven_bits(packet, at);
+    if 64 <= seven {
         if 32 <= seen {
             return Grown::Refused(7, at);
         }
-        let token = bitstream::read(packet, next, 5);
-        let Field::Got(t, after) = token else {
-            return Grown::Refused(4, next);
-        };
-        out[base] = t as u8;
-        return Grown::Done(after, base + 1, seen + 1);
+        if total < at + 6 {
+            return Grown::Refused(4, at + 1);
+        }
+        out[base] = (seven / 2 % 32) as u8;
+        return Grown::Done(at + 6, base + 1, seen + 1);
     }
     if depth == 0 {
         return Grown::Refused(7, at);
     }
-    let left = grow(packet, next, depth - 1, seen, out, base + 1);
+    if (32 <= seven) & (seen < 32) & (at + 7 <= total) {
+        let mid = base + 2;
+        out[base + 1] = (seven % 32) as u8;
+        out[base] = 128 + mid as u8;
+        return grow(packet, at + 7, depth - 1, seen + 1, out, mid);
+    }
+    let left = grow(packet, at + 1, depth - 1, seen, out, base + 1);
     match left {
         Grown::Refused(k, e) => Grown::Refused(k, e),
         Grown::Done(place, mid, count) => {
