@@ -1,4 +1,5 @@
 pub mod Trees
+pub mod Two
 pub mod Grows
 pub mod Nodes
 pub mod Codes

@@ -12,8 +12,7 @@ use lib.Seq.{getD-set-same, getD-set-other}
 use borrow.Author.Tests.{ltb-true, ltb-false, lt-ltb, le-ltb, eqb-true, eqb-false}
 use Rattle.bitstream.specs.Bits.{bits, bitAt, number}
 use Rattle.bitstream.specs.Reading.{choose}
-use Rattle.bitstream.proofs.Numbers.{bit-lt, number-lt, number-part}
-use Rattle.bitstream.proofs.Bytes.{byte-number, byte-more}
+use Rattle.bitstream.proofs.Numbers.{bit-lt, number-lt}
 use Rattle.huffman.specs.Code.{Formed}
 use Rattle.huffman.specs.Answer.{branch}
 use Rattle.huffman.specs.Lookup.{stepped, walked, Lookup, Begun}
@@ -82,15 +81,6 @@ module _ (nodes p : List ℕ) (at : ℕ) where
 
   pub begun-six : (lookup : List ℕ) → Lookup nodes lookup → at + 6 ≤ bits p → Begun nodes p at (getD lookup (64 + number p at 6) 0)
   begun-six lookup g h = record { taken = 6; there = omega arith; is = g .each (number p at 6) (number-lt p at 6) }
-
--- ---- six bits out of two bytes
-module _ (p : List ℕ) (at : ℕ) where
-  pub six-of-two : getD p (at / 8) 0 < 256 → getD p (at / 8 + 1) 0 < 256 → (getD p (at / 8) 0 * 256 + getD p (at / 8 + 1) 0) / 2 ^ (10 - at % 8) % 64 ≡ number p at 6
-  six-of-two h l =
-      let e : at / 8 * 8 + at % 8 ≡ at = omega arith in
-      let w : at % 8 + 6 + (10 - at % 8) ≡ 16 = omega arith in
-      let two : getD p (at / 8) 0 * 256 + getD p (at / 8 + 1) 0 ≡ number p (at / 8 * 8) 16 = rw (← byte-number p (at / 8) h) (byte-more p (at / 8) 1 l) in
-      rw (two, ← w, number-part p (at / 8 * 8) (at % 8) 6 (10 - at % 8), e)
 
 -- ---- filling: the entries below 2 m are there, and an entry is small by its index
 pub record Filled (nodes lookup : List ℕ) (m : ℕ) : Type 0 where

@@ -113,7 +113,7 @@ leaf-token-lawful : Lawful leafToken
 unfolding leafToken
 leaf-token-lawful = bind-lawful (field-lawful 5) (λ t. pure-lawful (leaf t))
 
-tree-lawful : (d seen : ℕ) → Lawful (tree d seen)
+pub tree-lawful : (d seen : ℕ) → Lawful (tree d seen)
 unfolding tree
 tree-lawful zero seen = bind-lawful (leaf-bit-lawful zero seen) (λ _. leaf-token-lawful)
 tree-lawful (suc d) seen =

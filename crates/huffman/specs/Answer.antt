@@ -1,15 +1,14 @@
 -- What the code answers and leaves, as outcomes of the reading algebra.
-use Prim.Native.Nat.{ℕ, _+_, _-_}
+use Prim.Native.Nat.{ℕ, _+_, _-_, _*_}
 use mathlib.Core.Path.{_≡_}
 use mathlib.Core.List.{List, _++_}
+use mathlib.Core.Logic.{_⊎_}
 use lib.Dec.{eqb}
 use lib.ListN.{take, drop}
 use Rattle.bitstream.specs.Reading.{Outcome, got, refused, choose}
-use Rattle.huffman.specs.Tree.{Tree, leaves, size, flat, nodesOf}
+use Rattle.huffman.specs.Tree.{Tree, size, flat, nodesOf}
 use Rattle.huffman.specs.declared.Place.{Place}
 use Rattle.huffman.specs.declared.Place.the-variants.{Next, Refused}
-use Rattle.huffman.specs.declared.Grown.{Grown}
-use Rattle.huffman.specs.declared.Grown.the-variants as grown
 
 -- the place behind a tree, or the refusal
 abbrev pub asPlace : Outcome Tree → Place
@@ -21,10 +20,10 @@ abbrev pub nodesAfter : List ℕ → Outcome Tree → List ℕ
 nodesAfter old (got t e) = nodesOf t
 nodesAfter old (refused k e) = old
 
--- a part of a tree: the place behind it, the index behind its nodes, and how many leaves were seen with it
-abbrev pub asGrown : ℕ → ℕ → Outcome Tree → Grown
-asGrown base seen (got t e) = grown.Done e (base + size t) (seen + leaves t)
-asGrown base seen (refused k e) = grown.Refused k e
+-- what the answer r says of a part of a tree: 4 times the place behind it; or 4 times the place at fault, and 1 for number 4 or 2 for number 7
+abbrev pub Told : ℕ → Outcome Tree → Type 0
+Told r (got t e) = r ≡ 4 * e
+Told r (refused k e) = ((r ≡ 4 * e + 1) × (k ≡ 4)) ⊎ ((r ≡ 4 * e + 2) × (k ≡ 7))
 
 -- its nodes stand at base, and all else is as it was; after a refusal the nodes are open, and no caller looks at them
 abbrev pub Stored : ℕ → List ℕ → List ℕ → Outcome Tree → Type 0

@@ -2,12 +2,12 @@
 use bitstream::Field;
 ghost use mathlib.Core.Path.{_≡_};
 ghost use Prim.Native.Nat.{ℕ, _+_, _-_, _*_, _/_, _<_, _≤_, _^_};
-ghost use lib.ListN.{length, take};
+ghost use lib.ListN.{length, getD, take};
 ghost use Rattle.bitstream.specs.Bits.{bits, bitAt, number};
 ghost use Rattle.bitstream.specs.Answer.{asField};
 ghost use Rattle.huffman.specs.Tree.{tree, huffmanTree};
 ghost use Rattle.huffman.specs.Code.{tokenCode, treeOf, Formed};
-ghost use Rattle.huffman.specs.Answer.{asPlace, nodesAfter, asGrown, Stored, branch};
+ghost use Rattle.huffman.specs.Answer.{asPlace, nodesAfter, Told, Stored, branch};
 ghost use Rattle.huffman.specs.Lookup.{stepped, Lookup, Begun};
 
 // The bit place behind a tree, or the number of the refusal and the place of the field at fault.
@@ -16,45 +16,68 @@ pub enum Place {
     Refused(u32, usize),
 }
 
-// A part of a tree: the bit place behind it, the index behind its nodes, how many leaves were seen; or the refusal.
-enum Grown {
-    Done(usize, usize, usize),
-    Refused(u32, usize),
+// The byte at an index, 0 past the end.
+fn byte_or_zero(packet: &[u8], i: usize) -> u8
+    ensures { λ r. ⌜ r ≡ getD (now (packet .entry)) i 0 ⌝ }
+{
+    if i < packet.len() {
+        return packet[i];
+    }
+    0
+}
+
+// The seven bits from the bit place `at` on, out of two bytes; past the end they are 0.
+fn seven_bits(packet: &[u8], at: usize) -> usize
+    requires { ⌜ at < bits (now packet) ⌝ }
+    ensures { λ r. ⌜ (r ≡ number (now (packet .entry)) at 7) × (r < 128) ⌝ }
+{
+    let first = packet[at / 8] as usize;
+    let second = byte_or_zero(packet, at / 8 + 1) as usize;
+    ((first * 256 + second) >> (9 - at % 8)) % 128
 }
 
 // The part of a tree at the bit place `at`, below which codes may grow by `depth` bits, with `seen` leaves before it.
 // Its nodes go to `out` at `base`: before it stand at most a leaf and a closed fork for each leaf seen, and the open forks above.
-fn grow(packet: &[u8], at: usize, depth: usize, seen: usize, out: &mut [u8], base: usize) -> Grown
-    requires { ⌜ (length (now packet) ≤ 2 ^ 58) × (97 ≤ length (now out)) × (depth ≤ 32) × (seen ≤ 32) × (base ≤ 2 * seen + (32 - depth)) ⌝ }
-    ensures { λ r. ⌜ r ≡ asGrown base seen (tree depth seen (now (packet .entry)) at) ⌝ }
+// Seven bits at once are a leaf and its token, or a fork and a leaf that is its 0 branch. The answer is 4 times the place behind the part, from which
+// its leaves can be told: each has 7 bits with a fork's, and one fork is wanting. A refusal is 4 times the place at fault, and 1 for number 4 or 2 for number 7.
+fn grow(packet: &[u8], at: usize, depth: usize, seen: usize, out: &mut [u8], base: usize) -> usize
+    requires { ⌜ (length (now packet) ≤ 2 ^ 58) × (at ≤ bits (now packet)) × (97 ≤ length (now out)) × (depth ≤ 32) × (seen ≤ 32) × (base ≤ 2 * seen + (32 - depth)) ⌝ }
+    ensures { λ r. ⌜ Told r (tree depth seen (now (packet .entry)) at) ⌝ }
     ensures { λ r. ⌜ Stored base (now (out .entry)) (now (out .exit)) (tree depth seen (now (packet .entry)) at) ⌝ }
 {
-    let first = bitstream::read(packet, at, 1);
-    let Field::Got(b, next) = first else {
-        return Grown::Refused(4, at);
-    };
-    if b == 1 {
+    let total = packet.len() * 8;
+    if total <= at {
+        return 4 * at + 1;
+    }
+    let seven = seven_bits(packet, at);
+    if 64 <= seven {
         if 32 <= seen {
-            return Grown::Refused(7, at);
+            return 4 * at + 2;
         }
-        let token = bitstream::read(packet, next, 5);
-        let Field::Got(t, after) = token else {
-            return Grown::Refused(4, next);
-        };
-        out[base] = t as u8;
-        return Grown::Done(after, base + 1, seen + 1);
+        if total < at + 6 {
+            return 4 * (at + 1) + 1;
+        }
+        out[base] = (seven / 2 % 32) as u8;
+        return 4 * (at + 6);
     }
     if depth == 0 {
-        return Grown::Refused(7, at);
+        return 4 * at + 2;
     }
-    let left = grow(packet, next, depth - 1, seen, out, base + 1);
-    match left {
-        Grown::Refused(k, e) => Grown::Refused(k, e),
-        Grown::Done(place, mid, count) => {
-            out[base] = 128 + mid as u8;
-            grow(packet, place, depth - 1, count, out, mid)
-        }
+    if (32 <= seven) & (seen < 32) & (at + 7 <= total) {
+        let mid = base + 2;
+        out[base + 1] = (seven % 32) as u8;
+        out[base] = 128 + mid as u8;
+        return grow(packet, at + 7, depth - 1, seen + 1, out, mid);
     }
+    let left = grow(packet, at + 1, depth - 1, seen, out, base + 1);
+    if left % 4 != 0 {
+        return left;
+    }
+    let place = left / 4;
+    let leaves = (place - at) / 7;
+    let mid = base + 2 * leaves;
+    out[base] = 128 + mid as u8;
+    grow(packet, place, depth - 1, seen + leaves, out, mid)
 }
 
 // Fills `nodes` from the front of `from`.
@@ -75,16 +98,21 @@ pub fn read_tree(packet: &[u8], at: usize, nodes: &mut [u8]) -> Place
     ensures { λ r. ⌜ r ≡ asPlace (huffmanTree (now (packet .entry)) at) ⌝ }
     ensures { λ r. ⌜ now (nodes .exit) ≡ nodesAfter (now (nodes .entry)) (huffmanTree (now (packet .entry)) at) ⌝ }
 {
+    if packet.len() * 8 < at {
+        return Place::Refused(4, at);
+    }
     // A tree that is refused in the end may come to 97 nodes; an accepted one has at most 63.
     let mut scratch = [0u8; 97];
     let grown = grow(packet, at, 32, 0, &mut scratch, 0);
-    match grown {
-        Grown::Refused(k, e) => Place::Refused(k, e),
-        Grown::Done(end, _, _) => {
-            fill_from(nodes, &scratch);
-            Place::Next(end)
-        }
+    let place = grown / 4;
+    if grown % 4 == 1 {
+        return Place::Refused(4, place);
     }
+    if grown % 4 == 2 {
+        return Place::Refused(7, place);
+    }
+    fill_from(nodes, &scratch);
+    Place::Next(place)
 }
 
 // The bit at a place.

@@ -1,5 +1,4 @@
 // The quantization matrix of a type, a plane and a qi, from parameters that lie in slices.
-use bitstream::Field;
 ghost use mathlib.Core.Path.{_≡_};
 ghost use mathlib.Core.List.{List};
 ghost use Prim.Native.Nat.{ℕ, _+_, _-_, _*_, _≤_, _<_, _^_};
@@ -36,15 +35,19 @@ fn range_of(sizes: &[u16], first: usize, qi: usize) -> Range
     }
 }
 
-// The number of 8 bits at a place that has as many behind it.
+// The number of 8 bits at a place that has as many behind it, out of the two bytes that they stand in.
 fn byte_at(packet: &[u8], at: usize) -> usize
     requires { ⌜ (length (now packet) ≤ 2 ^ 58) × (at + 8 ≤ bits (now packet)) ⌝ }
     ensures { λ r. ⌜ r ≡ number (now (packet .entry)) at 8 ⌝ }
 {
-    match bitstream::read(packet, at, 8) {
-        Field::Got(value, _) => value as usize,
-        Field::Refused(_, _) => 0,
+    let index = at / 8;
+    let taken = at % 8;
+    let first = packet[index] as usize;
+    if taken == 0 {
+        return first;
     }
+    let second = packet[index + 1] as usize;
+    ((first * 256 + second) >> (8 - taken)) % 256
 }
 
 // The value between those of two base matrices.

@@ -1,9 +1,9 @@
 -- `huffman::six_bits` meets its contract. Assumes nothing.
 use borrow.Author.Needs.{needs}
-use Prim.Native.Nat.{_+_, _/_, _<_}
+use Prim.Native.Nat.{_+_, _-_, _/_, _%_, _<_}
 use lib.ListN.{getD}
 use native.Mathlib.Omega.{arith}
-use Rattle.huffman.proofs.Lookups.{six-of-two}
+use Rattle.huffman.proofs.Two.{bits-of-two}
 use Rattle.huffman.proofs.six_bits.Statement.{statement}
 use Rattle.huffman.proofs.six_bits.Tie as tie
 
@@ -41,7 +41,9 @@ shr-result : tie.Need-shr-result
 shr-result c = search needs
 
 returns : tie.Need-returns
-returns c = (six-of-two _ _ (first-fits c) (second-fits c), search needs)
+returns c =
+    let a = c .before .before .args in
+    (bits-of-two (a .packet .now) (a .at) 6 (10 - a .at % 8) (omega arith) (first-fits c) (second-fits c), search needs)
 
 pub six-bits-spec : {M : Type 1} → statement M
 six-bits-spec =
