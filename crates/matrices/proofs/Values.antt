@@ -2,8 +2,9 @@
 use Prim.Native.Nat.{ℕ, _+_, _-_, _*_, _/_, _%_, _^_, _≤_, _<_}
 use native.Mathlib.Omega.{arith}
 use native.Mathlib.Nat.{mul-le-mul, div-le-self}
-use mathlib.Core.Path.{_≡_}
+use mathlib.Core.Path.{_≡_, ap, _∙_, subst}
 use mathlib.Core.List.{List}
+use lib.Arith.{digits-div}
 use lib.ListN.{getD}
 use borrow.Author.Tests.{eq-eqb, ne-eqb}
 use Rattle.bitstream.specs.Bits.{number}
@@ -34,6 +35,20 @@ interpolated-lt r qi b₁ b₂ i h l =
       part-fits (qi - r .start) b₂ (omega (arith, i .from, i .to, i .low)) l,
       i .low,
     )
+
+-- between equal values stands the same
+between-same : (x y b : ℕ) → 1 ≤ x + y → (2 * x * b + 2 * y * b + (x + y)) / (2 * (x + y)) ≡ b
+between-same x y b h =
+    let e : 2 * x * b + 2 * y * b + (x + y) ≡ b * (2 * (x + y)) + (x + y) = omega arith in
+    ap (λ (t : ℕ). t / (2 * (x + y))) e ∙ digits-div b (omega arith)
+
+pub interpolated-same : (r : Range) (qi b : ℕ) → InRange r qi → interpolated r qi b b ≡ b
+unfolding interpolated
+interpolated-same r qi b i =
+    let x = r .start + r .size - qi in
+    let y = qi - r .start in
+    let e : x + y ≡ r .size = omega (arith, i .from, i .to) in
+    subst (λ (n : ℕ). (2 * x * b + 2 * y * b + n) / (2 * n) ≡ b) e (between-same x y b (omega (arith, e, i .some)))
 
 -- ---- the least value
 module _ (type c : ℕ) where

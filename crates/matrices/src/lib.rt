@@ -50,11 +50,14 @@ fn byte_at(packet: &[u8], at: usize) -> usize
     ((first * 256 + second) >> (8 - taken)) % 256
 }
 
-// The value between those of two base matrices.
+// The value between those of two base matrices. Equal ones, as in a set with one matrix at both ends, need no division.
 fn interpolate(range: Range, qi: usize, left: usize, right: usize) -> usize
     requires { ⌜ InRange range qi × (left < 256) × (right < 256) ⌝ }
     ensures { λ r. ⌜ (r ≡ interpolated range qi left right) × (r < 65536) ⌝ }
 {
+    if left == right {
+        return left;
+    }
     let start = range.start;
     let size = range.size;
     let before = 2 * (start + size - qi) * left;

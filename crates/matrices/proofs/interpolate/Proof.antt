@@ -1,12 +1,17 @@
 -- `matrices::interpolate` meets its contract. Assumes nothing.
 use Rattle.matrices.specs.Matrix.{interpolated}
-use Prim.Native.Nat.{_+_, _-_, _*_, _≤_}
+use Prim.Native.Nat.{ℕ, _+_, _-_, _*_, _≤_}
 use native.Mathlib.Omega.{arith}
-use mathlib.Core.Path.{refl}
-use Rattle.matrices.proofs.Values.{part-fits, interpolated-lt}
+use mathlib.Core.Path.{_≡_, refl, sym, subst}
+use Rattle.matrices.proofs.Values.{part-fits, interpolated-lt, interpolated-same}
 use borrow.Author.Needs.{needs}
 use Rattle.matrices.proofs.interpolate.Statement.{statement}
 use Rattle.matrices.proofs.interpolate.Tie as tie
+
+returns : tie.Need-returns
+returns c =
+    let a = c .before .args in
+    (subst (λ (b : ℕ). a .left ≡ interpolated (a .range) (a .qi) (a .left) b) (c .if1 .taken) (sym (interpolated-same (a .range) (a .qi) (a .left) (c .before .pre .0))), omega (arith, c .before .pre .1))
 
 add-before : tie.Need-add-before
 add-before c = search needs
@@ -27,7 +32,7 @@ fits c =
     )
 
 mul-before-2 : tie.Need-mul-before-2
-mul-before-2 c = omega (arith, fits c .0)
+mul-before-2 c = omega (arith, fits (c .before) .0)
 
 sub-behind : tie.Need-sub-behind
 sub-behind c = search needs
@@ -36,13 +41,13 @@ mul-behind : tie.Need-mul-behind
 mul-behind c = search needs
 
 mul-behind-2 : tie.Need-mul-behind-2
-mul-behind-2 c = omega (arith, fits c .1)
+mul-behind-2 c = omega (arith, fits (c .before) .1)
 
 add-result : tie.Need-add-result
-add-result c = omega (arith, fits c .0, fits c .1)
+add-result c = omega (arith, fits (c .before) .0, fits (c .before) .1)
 
 add-result-2 : tie.Need-add-result-2
-add-result-2 c = omega (arith, fits c .0, fits c .1)
+add-result-2 c = omega (arith, fits (c .before) .0, fits (c .before) .1)
 
 mul-result : tie.Need-mul-result
 mul-result c = search needs
@@ -50,16 +55,17 @@ mul-result c = search needs
 div-result : tie.Need-div-result
 div-result c = search needs
 
-returns : tie.Need-returns
+returns-2 : tie.Need-returns-2
 unfolding interpolated
-returns c =
-    let a = c .args in
-    (refl, interpolated-lt (a .range) (a .qi) (a .left) (a .right) (c .pre .0) (c .pre .1) (c .pre .2))
+returns-2 c =
+    let a = c .before .args in
+    (refl, interpolated-lt (a .range) (a .qi) (a .left) (a .right) (c .before .pre .0) (c .before .pre .1) (c .before .pre .2))
 
 pub interpolate-spec : {M : Type 1} → statement M
 interpolate-spec =
     tie.close
     (tie.spec
+    returns
     add-before
     sub-before
     mul-before
@@ -71,4 +77,4 @@ interpolate-spec =
     add-result-2
     mul-result
     div-result
-    returns)
+    returns-2)
