@@ -1,6 +1,5 @@
-use mathlib.Core.Path.{_≡_, sym, ap, _∙_}
+use mathlib.Core.Path.{_≡_, ap, _∙_}
 use native.Mathlib.Omega.{arith}
-use mir.Syntax.{w32}
 use Rattle.numeric.specs.Clamp.{positivePart}
 use Rattle.numeric.proofs.Known.{k-any}
 use Rattle.numeric.proofs.ClampLaws.{clamp-high, clamp-part}
