@@ -1,26 +1,27 @@
 -- `loop_filter::filter_block` meets its contract.
 -- Assumes nothing.
-use mathlib.Core.Path.{ap, _∙_}
+use mathlib.Core.Path.{refl, ap, _∙_}
 use Prim.Native.Nat.{_+_, _-_, _*_}
 use native.Mathlib.Omega.{arith}
 use Rattle.ways.specs.Loops.{when}
 use Rattle.ways.specs.Ways.{edge, edgesAt}
 use Rattle.loop_filter.specs.Filter.{filtered}
+use Rattle.loop_filter.specs.Edge.{in-row, in-column}
 use borrow.Author.Needs.{needs}
 use Rattle.loop_filter.proofs.filter_block.Statement.{statement}
 use Rattle.loop_filter.proofs.filter_block.Tie as tie
 
 edge-before-requires : tie.Need-edge-before-requires
-edge-before-requires c κs = search needs
+edge-before-requires c κs = let p = c .before .before .pre in (p .0, omega arith, omega arith, in-column refl (p .6))
 
 edge-before-requires-2 : tie.Need-edge-before-requires-2
-edge-before-requires-2 c κs = search needs
+edge-before-requires-2 c κs = let p = c .before .before .before .before .before .before .pre in (p .1, omega arith, omega arith, in-row refl (p .6))
 
 edge-behind-requires : tie.Need-edge-behind-requires
-edge-behind-requires c κs = let p = c .before .before .before .before .before .before .before .before .before .before .pre in (λ e. let h = p .3 e in omega arith, omega arith)
+edge-behind-requires c κs = let p = c .before .before .before .before .before .before .before .before .before .before .pre in (λ e. let h = p .3 e in omega arith, omega arith, in-column refl (p .6))
 
 edge-behind-requires-2 : tie.Need-edge-behind-requires-2
-edge-behind-requires-2 c κs = let p = c .before .before .before .before .before .before .before .before .before .before .before .before .before .before .pre in (λ e. let h = p .4 e in omega arith, omega arith)
+edge-behind-requires-2 c κs = let p = c .before .before .before .before .before .before .before .before .before .before .before .before .before .before .pre in (λ e. let h = p .4 e in omega arith, omega arith, in-row refl (p .6))
 
 same-length : tie.Need-same-length
 same-length c = search needs
