@@ -15,9 +15,9 @@ ghost use Rattle.loop_filter.specs.Flags.{codedAt, codedBy};
 ghost use Rattle.loop_filter.specs.Plane.{blockStep, rowSteps, planeSteps};
 
 // p1 and p2 as the filter makes them.
-pub struct NewPair {
-    pub p1: u8,
-    pub p2: u8,
+struct NewPair {
+    p1: u8,
+    p2: u8,
 }
 
 // R of four samples across an edge. 16 bits hold all that is made of samples here, so that a vector register holds 8 of them.
