@@ -6,6 +6,7 @@ use mathlib.Core.List.{List}
 use Prim.Native.Nat.{ℕ, suc, _+_, _-_, _*_, _≤_, _<_}
 use native.Mathlib.Nat.{mul-le-mul-left, mul-le-mul-right}
 use native.Mathlib.Omega.{arith}
+use native.Mathlib.Decide.{decLt}
 use borrow.Author.Tests.{lt-ltb, le-ltb, ltb-true}
 use lib.Dec.{T, ltb}
 use lib.IntN.{ℤ, pos, negsuc, negℤ, natAbs, _-ℤ_, +ℤ-idl}
@@ -24,13 +25,14 @@ module _ (L n : ℕ) where
   unfolding tentOf
   tent-low h = rw (lt-ltb n L h)
 
-  pub tent-middle : L ≤ n → n < 2 * L → 2 * L - n ≡ tentOf L n
+  pub tent-high : 2 * L - n ≤ n → 2 * L - n ≡ tentOf L n
   unfolding tentOf
-  tent-middle h l = rw (le-ltb n L h, lt-ltb n (2 * L) l)
-
-  pub tent-high : L ≤ n → 2 * L ≤ n → 0 ≡ tentOf L n
-  unfolding tentOf
-  tent-high h l = rw (le-ltb n L h, le-ltb n (2 * L) l)
+  tent-high h = go (decLt n L) (decLt n (2 * L))
+    where
+      go : Dec (n < L) → Dec (n < 2 * L) → 2 * L - n ≡ tentOf L n
+      go (yes l) d = absurd (omega arith)
+      go (no l) (yes k) = rw (le-ltb n L (omega arith), lt-ltb n (2 * L) k)
+      go (no l) (no k) = let z : 2 * L - n ≡ 0 = omega arith in rw (le-ltb n L (omega arith), le-ltb n (2 * L) (omega arith)) z
 
 -- ---- f of R, by its sign
 pub minus-ok : (z : ℤ) → ltZ z (pos 0) ≡ true → T (nonNeg (pos 0 -ℤ z))

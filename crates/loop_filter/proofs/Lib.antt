@@ -1,4 +1,5 @@
 pub mod Facts
+pub mod Edge
 pub mod Frame
 pub mod Zero
 pub mod Examples

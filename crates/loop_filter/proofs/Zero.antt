@@ -23,7 +23,7 @@ use Rattle.loop_filter.proofs.Facts.{tent-high}
 
 -- ---- f(R) is 0, and a sample is itself
 zero-tent : (n : ℕ) → tentOf 0 n ≡ 0
-zero-tent n = sym (tent-high 0 n (omega arith) (omega arith))
+zero-tent n = let e : 2 * 0 - n ≡ 0 = omega arith in sym (tent-high 0 n (omega arith)) ∙ e
 
 zero-limited : (z : ℤ) → limitedOf 0 z ≡ pos 0
 unfolding limitedOf

@@ -1,3 +1,4 @@
 pub mod Filter
+pub mod Edge
 pub mod Flags
 pub mod Plane

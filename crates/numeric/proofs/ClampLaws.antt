@@ -1,15 +1,14 @@
--- Laws of `clamp255`: its range, and the three places where a number can lie.
+-- Laws of `clamp255`: its range, and how the positive part gives it.
 -- Assumes nothing.
-use mathlib.Core.Path.{_≡_, refl, sym, subst}
+use mathlib.Core.Path.{_≡_, refl, subst}
 use mathlib.Core.Bool.{true, false}
-use Prim.Native.Nat.{ℕ, _≤_}
+use Prim.Native.Nat.{ℕ, _≤_, _<_}
 use native.Mathlib.Omega.{arith}
-use borrow.Author.Tests.{ltb-true, ltb-false}
+use borrow.Author.Tests.{ltb-true}
 use lib.Dec.{T}
 use lib.IntN.{ℤ, pos, negsuc, natAbs}
-use lib.Signed.{ltZ, nonNeg}
-use Rattle.numeric.proofs.Magnitude.{Size, size}
-use Rattle.numeric.specs.Clamp.{clamp255}
+use lib.Signed.{ltZ}
+use Rattle.numeric.specs.Clamp.{clamp255, positivePart}
 
 pub clamp-le : (z : ℤ) → clamp255 z ≤ 255
 unfolding clamp255
@@ -21,17 +20,22 @@ pub clamp-same : (n : ℕ) → n ≤ 255 → clamp255 (pos n) ≡ n
 unfolding clamp255
 clamp-same n h = omega arith
 
-pub clamp-low : (z : ℤ) → ltZ z (pos 0) ≡ true → 0 ≡ clamp255 z
-unfolding clamp255
-clamp-low (pos n) e = absurd (let h = ltb-true n 0 e in omega arith)
-clamp-low (negsuc n) e = refl
+pub part-low : (z : ℤ) → ltZ z (pos 0) ≡ true → 0 ≡ positivePart z
+unfolding positivePart
+part-low (pos n) e = absurd (let h = ltb-true n 0 e in omega arith)
+part-low (negsuc n) e = refl
 
-pub clamp-high : (z : ℤ) → ltZ (pos 255) z ≡ true → 255 ≡ clamp255 z
-unfolding clamp255
-clamp-high (pos n) e = let h = ltb-true 255 n e in omega arith
-clamp-high (negsuc n) e = absurd (subst T (sym e) tt)
+pub part-same : (z : ℤ) → ltZ z (pos 0) ≡ false → natAbs z ≡ positivePart z
+unfolding positivePart
+part-same (pos n) e = refl
+part-same (negsuc n) e = absurd (subst T e tt)
 
-pub clamp-mid : (z : ℤ) → ltZ z (pos 0) ≡ false → ltZ (pos 255) z ≡ false → T (nonNeg z) × Size z 255 × (natAbs z ≡ clamp255 z)
-unfolding clamp255
-clamp-mid (pos n) e k = let h = ltb-false 255 n k in (tt, size h, omega arith)
-clamp-mid (negsuc n) e k = absurd (subst T e tt)
+pub clamp-high : (z : ℤ) → 255 < positivePart z → 255 ≡ clamp255 z
+unfolding clamp255 positivePart
+clamp-high (pos n) h = omega arith
+clamp-high (negsuc n) h = absurd (omega arith)
+
+pub clamp-part : (z : ℤ) → positivePart z ≤ 255 → positivePart z ≡ clamp255 z
+unfolding clamp255 positivePart
+clamp-part (pos n) h = omega arith
+clamp-part (negsuc n) h = refl

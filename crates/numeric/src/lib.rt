@@ -4,7 +4,7 @@ ghost use lib.IntN.{pos, natAbs};
 ghost use lib.Signed.{_<ℤ_};
 ghost use Rattle.numeric.specs.Cut.{cut};
 ghost use Rattle.numeric.specs.Divide.{floorShift, towardZero, roundOver};
-ghost use Rattle.numeric.specs.Clamp.{clamp255};
+ghost use Rattle.numeric.specs.Clamp.{clamp255, positivePart};
 
 // The low 16 bits, read as two's complement.
 pub fn cut16(x: i32) -> i16
@@ -64,15 +64,23 @@ pub fn round_over_4(x: i32) -> i32
     round_over(x, 4)
 }
 
-// The nearest number from 0 to 255.
+// x, or 0 where it is negative.
+fn positive_part(x: i32) -> u32
+    ensures { λ r. ⌜ r ≡ positivePart x ⌝ }
+{
+    if x < 0 {
+        return 0;
+    }
+    x as u32
+}
+
+// The nearest number from 0 to 255. One bound after the other, so that a loop over samples becomes vector instructions.
 pub fn clamp_to_byte(x: i32) -> u8
     ensures { λ r. ⌜ r ≡ clamp255 x ⌝ }
 {
-    if x < 0 {
-        0
-    } else if 255 < x {
-        255
-    } else {
-        x as u8
+    let n = positive_part(x);
+    if 255 < n {
+        return 255;
     }
+    n as u8
 }

@@ -2,7 +2,7 @@
 use mathlib.Core.Path.{_≡_}
 use mathlib.Core.Bool.{cond}
 use mathlib.Core.List.{List}
-use Prim.Native.Nat.{ℕ, _+_, _*_, _≤_, _<_}
+use Prim.Native.Nat.{ℕ, _+_, _*_, _≤_, _<_, min}
 use lib.Dec.{leb}
 use lib.IntN.{ℤ, pos, negsuc, natAbs, _+ℤ_}
 use lib.ListN.{getD}
@@ -56,6 +56,11 @@ meanAt q s t c r = mean (fetch q s (t .x1 +ℤ pos c) (t .y1 +ℤ pos r)) (fetch
 -- 64 samples in a list, row by row
 pub record RowByRow (sample : ℕ → ℕ → ℕ) (t : List ℕ) : Type 0 where
   pub each : (c r : ℕ) → c < 8 → r < 8 → getD t (r * 8 + c) 0 ≡ sample c r
+
+-- a residual as the sum takes it: the nearest number from -255 to 255 (law `sum-near`)
+unfoldable pub nearBy : ℤ → ℤ
+nearBy (pos n) = pos (min n 255)
+nearBy (negsuc n) = negsuc (min n 254)
 
 -- a prediction with residual i of the block
 unfoldable pub withResidual : List ℤ → ℕ → ℕ → ℕ

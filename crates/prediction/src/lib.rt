@@ -17,7 +17,7 @@ ghost use Rattle.block_record.specs.Record.{VectorInRange, PredictionInRange};
 ghost use Rattle.ways.specs.Corner.{rowAt, blockAt};
 ghost use Rattle.prediction.specs.Motion.{subsampledAcross, subsampledUp, steps, down, upward, inside, fetch};
 ghost use Rattle.prediction.specs.Predicted.{mean, summed};
-ghost use Rattle.prediction.specs.Block.{Small, Lies, Near, fetchesOf, meanAt, RowByRow, meanOf, withResidual, startOf};
+ghost use Rattle.prediction.specs.Block.{Small, Lies, Near, fetchesOf, meanAt, RowByRow, nearBy, meanOf, withResidual, startOf};
 
 // The axes of a plane: is it subsampled across, and up?
 pub struct Axes {
@@ -178,11 +178,25 @@ fn fetch_block(s: &[u8], plane: Plane, t: Fetches) -> [u8; 64]
     m
 }
 
-// A prediction, the mean of p and q, with a residual.
+// The nearest number from -255 to 255. A residual farther off makes the same of any prediction.
+fn near(residual: i16) -> i16
+    ensures { λ r. ⌜ (r ≡ nearBy residual) × (natAbs r ≤ 255) ⌝ }
+{
+    if residual < -255 {
+        return -255;
+    }
+    if 255 < residual {
+        return 255;
+    }
+    residual
+}
+
+// A prediction, the mean of p and q, with a residual. 16 bits hold the sum, so that a vector register holds 8 of them.
 fn sum(p: u8, q: u8, residual: i16) -> u8
     ensures { λ r. ⌜ r ≡ clamp255 (pos (mean p q) +ℤ residual) ⌝ }
 {
-    numeric::clamp_to_byte(mean(p, q) as i32 + residual as i32)
+    let total = mean(p, q) as i16 + near(residual);
+    numeric::clamp_to_byte(total as i32)
 }
 
 // 8 samples from `at` on, predicted by what source has from a and from b on, with the residuals from k on.

@@ -21,7 +21,7 @@ sub-filter-edge : tie.Need-sub-filter-edge
 sub-filter-edge c = let h = c .before .before .before .pre .0 (not-false _ (c .before .if1 .left)) in omega arith
 
 filter-edge-requires : tie.Need-filter-edge-requires
-filter-edge-requires c κs = let h = c .before .before .before .pre .0 (not-false _ (c .before .if1 .left)) in omega arith
+filter-edge-requires c κs = let h = c .before .before .before .pre .0 (not-false _ (c .before .if1 .left)) in (omega arith, omega arith, c .before .before .before .pre .3)
 
 same-length : tie.Need-same-length
 same-length c = search needs

@@ -21,7 +21,7 @@ add-filter-edge : tie.Need-add-filter-edge
 add-filter-edge c = let h = c .before .before .before .pre .0 (not-false _ (c .before .if1 .left)) in omega arith
 
 filter-edge-requires : tie.Need-filter-edge-requires
-filter-edge-requires c κs = let h = c .before .before .before .pre .0 (not-false _ (c .before .if1 .left)) in omega arith
+filter-edge-requires c κs = let h = c .before .before .before .pre .0 (not-false _ (c .before .if1 .left)) in (omega arith, omega arith, c .before .before .before .pre .2)
 
 same-length : tie.Need-same-length
 same-length c = search needs

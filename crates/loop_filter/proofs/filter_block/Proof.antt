@@ -1,26 +1,43 @@
 -- `loop_filter::filter_block` meets its contract.
 -- Assumes nothing.
-use mathlib.Core.Path.{ap, _∙_}
+use mathlib.Core.Path.{refl, ap, _∙_}
 use Prim.Native.Nat.{_+_, _-_, _*_}
 use native.Mathlib.Omega.{arith}
 use Rattle.ways.specs.Loops.{when}
 use Rattle.ways.specs.Ways.{edge, edgesAt}
 use Rattle.loop_filter.specs.Filter.{filtered}
+use Rattle.loop_filter.specs.Edge.{Runs, in-row, in-column}
 use borrow.Author.Needs.{needs}
 use Rattle.loop_filter.proofs.filter_block.Statement.{statement}
 use Rattle.loop_filter.proofs.filter_block.Tie as tie
 
+-- how the edges run
+runs : (s : tie.Start) → Runs (s .args .row) 1 × Runs 1 (s .args .row)
+runs s = (in-column refl (s .pre .6), in-row refl (s .pre .6))
+
 edge-before-requires : tie.Need-edge-before-requires
-edge-before-requires c κs = search needs
+edge-before-requires c κs =
+    let s = c .before .before in
+    let r = runs s in
+    (search (s .pre .0, s .pre .1), omega arith, omega arith, search (r .0, r .1))
 
 edge-before-requires-2 : tie.Need-edge-before-requires-2
-edge-before-requires-2 c κs = search needs
+edge-before-requires-2 c κs =
+    let s = c .before .before .before .before .before .before in
+    let r = runs s in
+    (search (s .pre .0, s .pre .1), omega arith, omega arith, search (r .0, r .1))
 
 edge-behind-requires : tie.Need-edge-behind-requires
-edge-behind-requires c κs = let p = c .before .before .before .before .before .before .before .before .before .before .pre in (λ e. let h = p .3 e in omega arith, omega arith)
+edge-behind-requires c κs =
+    let s = c .before .before .before .before .before .before .before .before .before .before in
+    let r = runs s in
+    (λ e. let h = s .pre .3 e in omega arith, omega arith, search (r .0, r .1))
 
 edge-behind-requires-2 : tie.Need-edge-behind-requires-2
-edge-behind-requires-2 c κs = let p = c .before .before .before .before .before .before .before .before .before .before .before .before .before .before .pre in (λ e. let h = p .4 e in omega arith, omega arith)
+edge-behind-requires-2 c κs =
+    let s = c .before .before .before .before .before .before .before .before .before .before .before .before .before .before in
+    let r = runs s in
+    (λ e. let h = s .pre .4 e in omega arith, omega arith, search (r .0, r .1))
 
 same-length : tie.Need-same-length
 same-length c = search needs

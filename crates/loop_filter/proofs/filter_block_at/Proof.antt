@@ -87,6 +87,7 @@ filter-block-requires c κs =
       λ e. let h = there (s .args .x + 1) (s .args .a) (not (codedAt records (n + 1))) (sym (c .before .before .is-open .ensures) ∙ e) in omega arith,
       λ e. let h = r .over (there (s .args .y + 1) (s .args .u) (not (codedAt records (n + s .args .a))) (sym (c .before .is-open2 .ensures) ∙ e)) in omega arith,
       omega arith,
+      omega arith,
     )
 
 same-length : tie.Need-same-length

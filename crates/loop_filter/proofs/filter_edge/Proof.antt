@@ -1,78 +1,54 @@
--- `loop_filter::filter_edge` meets its contract. The loop's invariant: k of the 8 steps are made.
+-- `loop_filter::filter_edge` meets its contract.
 -- Assumes nothing.
-use mathlib.Core.Path.{_≡_, refl, sym, ap, _∙_}
-use mathlib.Core.List.{List}
-use Prim.Native.Nat.{ℕ, _+_, _-_, _*_, _≤_}
-use native.Mathlib.Nat.{mul-le-mul-right}
+use mathlib.Core.Path.{_≡_, sym, ap, _∙_}
+use Prim.Native.Nat.{ℕ, _≤_}
 use native.Mathlib.Omega.{arith}
-use lib.ListN.{length}
-use Rattle.ways.specs.Loops.{upTo}
-use Rattle.ways.specs.Ways.{acrossEdge, edge}
-use Rattle.ways.proofs.Steps.{upTo-more}
+use Rattle.ways.specs.Ways.{edge}
 use Rattle.loop_filter.specs.Filter.{filtered}
+use Rattle.loop_filter.proofs.Edge.{row-runs, column-runs}
 use borrow.Author.Needs.{needs}
 use Rattle.loop_filter.proofs.filter_edge.Statement.{statement}
 use Rattle.loop_filter.proofs.filter_edge.Tie as tie
 
-abbrev Inv-loop : tie.InvT-loop
-Inv-loop s₀ at along step limit k₀ s k = (k ≤ 8) × (length s ≡ length s₀) × (s ≡ upTo k (λ i. acrossEdge (filtered limit) (at + i * along) step) s₀)
+-- an edge along a row
+module _ (c : tie.Then1) where
+  in-row : (c .before .before .args .along ≡ 1) × (8 ≤ c .before .before .args .step)
+  in-row = let e : c .before .before .args .along ≡ 1 = omega arith in (e, row-runs _ _ (c .before .before .pre .2) e)
 
-abbrev μ-loop : tie.MeasureT-loop
-μ-loop s₀ at along step limit k₀ s k = 8 - k
+-- an edge along a column
+module _ (c : tie.Else1) where
+  in-column : (c .before .before .args .step ≡ 1) × (8 ≤ c .before .before .args .along)
+  in-column = column-runs _ _ (c .before .before .pre .2) (λ e. omega arith)
 
-loop-holds : tie.Need-loop-holds Inv-loop μ-loop
-unfolding upTo
-loop-holds c = (omega arith, refl, refl)
+filter-row-edge-requires : tie.Need-filter-row-edge-requires
+filter-row-edge-requires c κs = let h = in-row (c .before) in (omega (arith, h .0), omega arith, h .1)
 
--- the k-th step begins before the last one's place
-along : (c : tie.After-filter-across-arg Inv-loop μ-loop) → let a = c .before .before .before .before .args in c .before .before .loop .k * a .along ≤ 7 * a .along
-along c = mul-le-mul-right (c .before .before .before .before .args .along) (omega arith)
-
-mul-filter-across : tie.Need-mul-filter-across Inv-loop μ-loop
-mul-filter-across c = omega (arith, along c)
-
-add-filter-across : tie.Need-add-filter-across Inv-loop μ-loop
-add-filter-across c = omega (arith, along c)
-
-filter-across-requires : tie.Need-filter-across-requires Inv-loop μ-loop
-filter-across-requires c κs = omega (arith, along c)
-
-add-k : tie.Need-add-k Inv-loop μ-loop
-add-k c = search needs
-
-loop-less : tie.Need-loop-less Inv-loop μ-loop
-loop-less c = search needs
-
-loop-again : tie.Need-loop-again Inv-loop μ-loop
-loop-again c =
-    let l = c .before .before .before .before .before .loop in
-    let a = c .before .before .before .before .before .before .before .args in
-    let f : ℕ → List ℕ → List ℕ = λ i. acrossEdge (filtered (a .limit)) (a .at + i * a .along) (a .step) in
-    (omega arith, omega arith, c .before .before .filter-across .ensures ∙ ap (f (l .k)) (l .inv .2) ∙ sym (upTo-more (l .k) f (a .s .now)))
-
-same-length : tie.Need-same-length Inv-loop μ-loop
+same-length : tie.Need-same-length
 same-length c = search needs
 
-returns : tie.Need-returns Inv-loop μ-loop
-unfolding edge
+returns : tie.Need-returns
 returns c =
-    let l = c .before .loop in
-    let a = c .before .before .before .args in
-    let e : l .k ≡ 8 = omega arith in
-    l .inv .2 ∙ ap (λ (n : ℕ). upTo n (λ i. acrossEdge (filtered (a .limit)) (a .at + i * a .along) (a .step)) (a .s .now)) e
+    let a = c .before .before .before .before .before .before .args in
+    c .before .before .filter-row-edge .ensures ∙ ap (λ (n : ℕ). edge (filtered (a .limit)) (a .at) n (a .step) (a .s .now)) (sym (in-row (c .before .before .before .before) .0))
+
+filter-column-edge-requires : tie.Need-filter-column-edge-requires
+filter-column-edge-requires c κs = let h = in-column (c .before) in (omega (arith, h .0), omega arith, h .1)
+
+same-length-2 : tie.Need-same-length-2
+same-length-2 c = search needs
+
+returns-2 : tie.Need-returns-2
+returns-2 c =
+    let a = c .before .before .before .before .before .before .args in
+    c .before .before .filter-column-edge .ensures ∙ ap (λ (n : ℕ). edge (filtered (a .limit)) (a .at) (a .along) n (a .s .now)) (sym (in-column (c .before .before .before .before) .0))
 
 pub filter-edge-spec : {M : Type 1} → statement M
 filter-edge-spec =
     tie.close
     (tie.spec
-    Inv-loop
-    μ-loop
-    loop-holds
-    mul-filter-across
-    add-filter-across
-    filter-across-requires
-    add-k
-    loop-less
-    loop-again
+    filter-row-edge-requires
     same-length
-    returns)
+    returns
+    filter-column-edge-requires
+    same-length-2
+    returns-2)

@@ -3,7 +3,7 @@
 use mathlib.Core.Path.{_≡_, ap, _∙_, subst}
 use Prim.Native.Nat.{ℕ, _≤_}
 use lib.IntN.{pos, natAbs}
-use mir.Syntax.{w32}
+use mir.Syntax.{w16}
 use Rattle.numeric.proofs.Magnitude.{size}
 use Rattle.numeric.proofs.Known.{Known, k-of, k-lit, k-sub, k-bits, ask-sub, nat-of, test-lt, ask-up, ask-size}
 use Rattle.loop_filter.specs.Filter.{tentOf}
@@ -12,7 +12,7 @@ use borrow.Author.Needs.{needs}
 use Rattle.loop_filter.proofs.limited.Statement.{statement}
 use Rattle.loop_filter.proofs.limited.Tie as tie
 
-abbrev r : (s : tie.Start) → Known w32 (s .args .r) 256
+abbrev r : (s : tie.Start) → Known w16 (s .args .r) 256
 r s = k-of (s .fits .r) (size (s .pre .1))
 
 -- f of |R|
@@ -20,7 +20,7 @@ module _ (c : tie.After-tent) where
   tent-is : c .tent .result ≡ tentOf (c .before .before .args .limit) (natAbs (c .before .before .args .r))
   tent-is = let s = c .before .before in c .tent .ensures .0 ∙ ap (tentOf (s .args .limit)) (c .before .magnitude .ensures ∙ nat-of (r s))
 
-  abbrev t : Known w32 (pos (tentOf (c .before .before .args .limit) (natAbs (c .before .before .args .r)))) 127
+  abbrev t : Known w16 (pos (tentOf (c .before .before .args .limit) (natAbs (c .before .before .args .r)))) 127
   t = k-bits tent-is (subst (λ (n : ℕ). n ≤ 127) tent-is (c .tent .ensures .1)) tt
 
 magnitude-requires : tie.Need-magnitude-requires
@@ -30,7 +30,7 @@ tent-requires : tie.Need-tent-requires
 tent-requires c κs = search needs
 
 cast-t : tie.Need-cast-t
-cast-t c = ask-up w32 (tent-is c) (t c .bound .le) tt
+cast-t c = ask-up w16 (tent-is c) (t c .bound .le) tt
 
 sub-result : tie.Need-sub-result
 sub-result c = ask-sub (k-lit 0 tt) (t (c .before)) tt

@@ -1,7 +1,7 @@
 -- `loop_filter::response` meets its contract.
 -- Assumes nothing.
 use native.Mathlib.Omega.{arith}
-use mir.Syntax.{w32}
+use mir.Syntax.{w16}
 use lib.IntN.{pos, _+ℤ_, _-ℤ_, _*ℤ_}
 use Rattle.numeric.proofs.Known.{Known, k-nat, k-lit, k-mul, ask-mul, k-add, ask-add, k-sub, ask-sub, k-shr, ask-size}
 use Rattle.loop_filter.specs.Filter.{responseOf}
@@ -10,32 +10,32 @@ use Rattle.loop_filter.proofs.response.Statement.{statement}
 use Rattle.loop_filter.proofs.response.Tie as tie
 
 module _ (c : tie.Start) where
-  abbrev p0 : Known w32 (pos (c .args .p0)) 255
+  abbrev p0 : Known w16 (pos (c .args .p0)) 255
   p0 = k-nat _ 255 (omega arith) tt
 
-  abbrev p1 : Known w32 (pos (c .args .p1)) 255
+  abbrev p1 : Known w16 (pos (c .args .p1)) 255
   p1 = k-nat _ 255 (omega arith) tt
 
-  abbrev p2 : Known w32 (pos (c .args .p2)) 255
+  abbrev p2 : Known w16 (pos (c .args .p2)) 255
   p2 = k-nat _ 255 (omega arith) tt
 
-  abbrev q3 : Known w32 (pos (c .args .p3)) 255
+  abbrev q3 : Known w16 (pos (c .args .p3)) 255
   q3 = k-nat _ 255 (omega arith) tt
 
-  abbrev three-p1 : Known w32 (pos 3 *ℤ pos (c .args .p1)) 765
+  abbrev three-p1 : Known w16 (pos 3 *ℤ pos (c .args .p1)) 765
   three-p1 = k-mul (k-lit 3 tt) p1 tt
 
-  abbrev three-p2 : Known w32 (pos 3 *ℤ pos (c .args .p2)) 765
+  abbrev three-p2 : Known w16 (pos 3 *ℤ pos (c .args .p2)) 765
   three-p2 = k-mul (k-lit 3 tt) p2 tt
 
   -- the sum, a term at a time
-  abbrev sum1 : Known w32 (pos (c .args .p0) -ℤ pos 3 *ℤ pos (c .args .p1)) 1020
+  abbrev sum1 : Known w16 (pos (c .args .p0) -ℤ pos 3 *ℤ pos (c .args .p1)) 1020
   sum1 = k-sub p0 three-p1 tt
 
-  abbrev sum2 : Known w32 (pos (c .args .p0) -ℤ pos 3 *ℤ pos (c .args .p1) +ℤ pos 3 *ℤ pos (c .args .p2)) 1785
+  abbrev sum2 : Known w16 (pos (c .args .p0) -ℤ pos 3 *ℤ pos (c .args .p1) +ℤ pos 3 *ℤ pos (c .args .p2)) 1785
   sum2 = k-add sum1 three-p2 tt
 
-  abbrev sum3 : Known w32 (pos (c .args .p0) -ℤ pos 3 *ℤ pos (c .args .p1) +ℤ pos 3 *ℤ pos (c .args .p2) -ℤ pos (c .args .p3)) 2040
+  abbrev sum3 : Known w16 (pos (c .args .p0) -ℤ pos 3 *ℤ pos (c .args .p1) +ℤ pos 3 *ℤ pos (c .args .p2) -ℤ pos (c .args .p3)) 2040
   sum3 = k-sub sum2 q3 tt
 
 cast-result : tie.Need-cast-result
