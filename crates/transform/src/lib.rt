@@ -1,8 +1,9 @@
 // The residual of a block: its coefficients dequantised, and the inverse transform.
 ghost use mathlib.Core.Path.{_≡_};
+ghost use mathlib.Core.Bool.{true};
 ghost use mathlib.Core.List.{map};
 ghost use Prim.Native.Nat.{_+_, _*_, _≤_, _<_};
-ghost use lib.IntN.{natAbs, _+ℤ_, _-ℤ_};
+ghost use lib.IntN.{pos, natAbs, _+ℤ_, _-ℤ_};
 ghost use lib.ListN.{length, getD, replicate};
 ghost use Rattle.transform.specs.Line.{times, timesC4, firstTerms, lastTerms, outputs, Within, transformedLine};
 ghost use Rattle.transform.specs.Block.{lineAt, putLine, transformLine, rows, columns, inverse};
@@ -201,13 +202,38 @@ fn transform_line(s: &mut [i16], at: usize, step: usize)
     put_line(s, at, step, l);
 }
 
+fn is_zero(l: Line) -> bool
+    ensures { λ r. ⌜ (r ≡ true → l ≡ record { x0 = pos 0; x1 = pos 0; x2 = pos 0; x3 = pos 0; x4 = pos 0; x5 = pos 0; x6 = pos 0; x7 = pos 0 }) ⌝ }
+{
+    (l.x0 == 0)
+        & (l.x1 == 0)
+        & (l.x2 == 0)
+        & (l.x3 == 0)
+        & (l.x4 == 0)
+        & (l.x5 == 0)
+        & (l.x6 == 0)
+        & (l.x7 == 0)
+}
+
+// A row in place. One of zeros, as most are, stays as it is.
+fn transform_row(s: &mut [i16], at: usize)
+    requires { ⌜ at + 7 < length (now s) ⌝ }
+    ensures { λ _. ⌜ now (s .exit) ≡ transformLine (now (s .entry)) at 1 ⌝ }
+{
+    let l = line_at(s, at, 1);
+    if is_zero(l) {
+        return;
+    }
+    put_line(s, at, 1, transformed_line(l));
+}
+
 fn transform_rows(s: &mut [i16])
     requires { ⌜ length (now s) ≡ 64 ⌝ }
     ensures { λ _. ⌜ now (s .exit) ≡ rows 8 (now (s .entry)) ⌝ }
 {
     let mut i: usize = 0;
     while i < 8 {
-        transform_line(s, i * 8, 1);
+        transform_row(s, i * 8);
         i += 1;
     }
 }

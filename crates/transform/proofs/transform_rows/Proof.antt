@@ -23,11 +23,11 @@ loop-holds : tie.Need-loop-holds Inv-loop μ-loop
 unfolding rows
 loop-holds c = (omega arith, refl, refl)
 
-mul-transform-line : tie.Need-mul-transform-line Inv-loop μ-loop
-mul-transform-line c = omega arith
+mul-transform-row : tie.Need-mul-transform-row Inv-loop μ-loop
+mul-transform-row c = omega arith
 
-transform-line-requires : tie.Need-transform-line-requires Inv-loop μ-loop
-transform-line-requires c κs = omega arith
+transform-row-requires : tie.Need-transform-row-requires Inv-loop μ-loop
+transform-row-requires c κs = omega arith
 
 add-i : tie.Need-add-i Inv-loop μ-loop
 add-i c = omega arith
@@ -40,8 +40,8 @@ loop-again c =
     let h = c .before .before .before .before in
     let n = h .loop .i in (
       omega arith,
-      c .before .transform-line .kept .0 ∙ h .loop .inv .1,
-      c .before .transform-line .ensures ∙ ap (λ (l : List ℤ). transformLine l (n * 8) 1) (h .loop .inv .2) ∙ more n (h .before .args .s .now),
+      c .before .transform-row .kept .0 ∙ h .loop .inv .1,
+      c .before .transform-row .ensures ∙ ap (λ (l : List ℤ). transformLine l (n * 8) 1) (h .loop .inv .2) ∙ more n (h .before .args .s .now),
     )
 
 same-length : tie.Need-same-length Inv-loop μ-loop
@@ -59,8 +59,8 @@ transform-rows-spec =
     Inv-loop
     μ-loop
     loop-holds
-    mul-transform-line
-    transform-line-requires
+    mul-transform-row
+    transform-row-requires
     add-i
     loop-less
     loop-again
