@@ -3,9 +3,10 @@ ghost use mathlib.Core.Path.{_≡_};
 ghost use mathlib.Core.Bool.{true};
 ghost use mathlib.Core.List.{map};
 ghost use Prim.Native.Nat.{_+_, _*_, _≤_, _<_};
-ghost use lib.IntN.{pos, natAbs, _+ℤ_, _-ℤ_};
+ghost use lib.IntN.{pos, _+ℤ_, _-ℤ_};
 ghost use lib.ListN.{length, getD, replicate};
-ghost use Rattle.transform.specs.Line.{times, timesC4, firstTerms, lastTerms, outputs, Within, transformedLine};
+ghost use Rattle.numeric.specs.Cut.{cut};
+ghost use Rattle.transform.specs.Line.{times, timesC4, firstTerms, lastTerms, outputs, transformedLine};
 ghost use Rattle.transform.specs.Block.{lineAt, putLine, transformLine, rows, columns, inverse};
 ghost use Rattle.transform.specs.Residual.{zigZag, dequantized, dcOnly, rounded, values, residual};
 
@@ -35,41 +36,58 @@ pub struct Line {
     pub x7: i16,
 }
 
-// Four terms of a line's outputs.
+// Four terms of a line's outputs, cut to 16 bits.
 pub struct Terms {
-    pub t0: i32,
-    pub t1: i32,
-    pub t2: i32,
-    pub t3: i32,
+    pub t0: i16,
+    pub t1: i16,
+    pub t2: i16,
+    pub t3: i16,
 }
 
-fn times(c: u16, x: i16) -> i32
-    ensures { λ r. ⌜ (r ≡ times c x) × (natAbs r ≤ 32768) ⌝ }
+// Lines are computed in 16 bits throughout, and a factor from 32768 on is 65536 less: then eight columns go together, in vectors of 16 bits.
+fn times(c: u16, x: i16) -> i16
+    ensures { λ r. ⌜ r ≡ times c x ⌝ }
 {
-    (x as i32 * c as i32) >> 16
+    let w = x as i32;
+    if c < 32768 {
+        return ((w * c as i32) >> 16) as i16;
+    }
+    (((w * (c as i32 - 65536)) >> 16) + w) as i16
 }
 
-fn times_c4(x: i32) -> i32
-    ensures { λ r. ⌜ (r ≡ timesC4 x) × (natAbs r ≤ 32768) ⌝ }
+fn times_c4(x: i32) -> i16
+    ensures { λ r. ⌜ r ≡ timesC4 x ⌝ }
 {
     times(C4, numeric::cut16(x))
 }
 
-fn weighted_sum(c: u16, x: i16, d: u16, y: i16) -> i32
-    ensures { λ r. ⌜ (r ≡ times c x +ℤ times d y) × (natAbs r ≤ 65536) ⌝ }
+fn sum(x: i16, y: i16) -> i16
+    ensures { λ r. ⌜ r ≡ cut (x +ℤ y) ⌝ }
 {
-    times(c, x) + times(d, y)
+    numeric::cut16(x as i32 + y as i32)
 }
 
-fn weighted_difference(c: u16, x: i16, d: u16, y: i16) -> i32
-    ensures { λ r. ⌜ (r ≡ times c x -ℤ times d y) × (natAbs r ≤ 65536) ⌝ }
+fn difference(x: i16, y: i16) -> i16
+    ensures { λ r. ⌜ r ≡ cut (x -ℤ y) ⌝ }
 {
-    times(c, x) - times(d, y)
+    numeric::cut16(x as i32 - y as i32)
+}
+
+fn weighted_sum(c: u16, x: i16, d: u16, y: i16) -> i16
+    ensures { λ r. ⌜ r ≡ cut (times c x +ℤ times d y) ⌝ }
+{
+    sum(times(c, x), times(d, y))
+}
+
+fn weighted_difference(c: u16, x: i16, d: u16, y: i16) -> i16
+    ensures { λ r. ⌜ r ≡ cut (times c x -ℤ times d y) ⌝ }
+{
+    difference(times(c, x), times(d, y))
 }
 
 // What outputs 0 to 3, and 7 to 4, begin with.
 fn first_terms(l: Line) -> Terms
-    ensures { λ r. ⌜ (r ≡ firstTerms l) × Within r ⌝ }
+    ensures { λ r. ⌜ (r .t0 ≡ cut (firstTerms l .t0)) × (r .t1 ≡ cut (firstTerms l .t1)) × (r .t2 ≡ cut (firstTerms l .t2)) × (r .t3 ≡ cut (firstTerms l .t3)) ⌝ }
 {
     let x0 = l.x0 as i32;
     let x4 = l.x4 as i32;
@@ -80,16 +98,16 @@ fn first_terms(l: Line) -> Terms
     let c = weighted_difference(C6, x2, C2, x6);
     let d = weighted_sum(C2, x2, C6, x6);
     Terms {
-        t0: a + d,
-        t1: b + c,
-        t2: b - c,
-        t3: a - d,
+        t0: sum(a, d),
+        t1: sum(b, c),
+        t2: difference(b, c),
+        t3: difference(a, d),
     }
 }
 
 // What is added in outputs 0 to 3, and subtracted in 7 to 4.
 fn last_terms(l: Line) -> Terms
-    ensures { λ r. ⌜ (r ≡ lastTerms l) × Within r ⌝ }
+    ensures { λ r. ⌜ (r .t0 ≡ cut (lastTerms l .t0)) × (r .t1 ≡ cut (lastTerms l .t1)) × (r .t2 ≡ cut (lastTerms l .t2)) × (r .t3 ≡ cut (lastTerms l .t3)) ⌝ }
 {
     let x1 = l.x1;
     let x3 = l.x3;
@@ -99,19 +117,18 @@ fn last_terms(l: Line) -> Terms
     let k = weighted_difference(C3, x5, C5, x3);
     let g = weighted_sum(C5, x5, C3, x3);
     let h = weighted_sum(C1, x1, C7, x7);
-    let k4 = times_c4(e - k);
-    let g4 = times_c4(h - g);
+    let k4 = times(C4, difference(e, k));
+    let g4 = times(C4, difference(h, g));
     Terms {
-        t0: h + g,
-        t1: g4 + k4,
-        t2: g4 - k4,
-        t3: e + k,
+        t0: sum(h, g),
+        t1: sum(g4, k4),
+        t2: difference(g4, k4),
+        t3: sum(e, k),
     }
 }
 
 // The outputs: the first terms with the last ones added, and the same with them subtracted.
 fn outputs(f: Terms, g: Terms) -> Line
-    requires { ⌜ Within f × Within g ⌝ }
     ensures { λ r. ⌜ r ≡ outputs f g ⌝ }
 {
     let f0 = f.t0;
@@ -123,14 +140,14 @@ fn outputs(f: Terms, g: Terms) -> Line
     let g2 = g.t2;
     let g3 = g.t3;
     Line {
-        x0: numeric::cut16(f0 + g0),
-        x1: numeric::cut16(f1 + g1),
-        x2: numeric::cut16(f2 + g2),
-        x3: numeric::cut16(f3 + g3),
-        x4: numeric::cut16(f3 - g3),
-        x5: numeric::cut16(f2 - g2),
-        x6: numeric::cut16(f1 - g1),
-        x7: numeric::cut16(f0 - g0),
+        x0: sum(f0, g0),
+        x1: sum(f1, g1),
+        x2: sum(f2, g2),
+        x3: sum(f3, g3),
+        x4: difference(f3, g3),
+        x5: difference(f2, g2),
+        x6: difference(f1, g1),
+        x7: difference(f0, g0),
     }
 }
 
@@ -203,7 +220,7 @@ fn transform_line(s: &mut [i16], at: usize, step: usize)
 }
 
 fn is_zero(l: Line) -> bool
-    ensures { λ r. ⌜ (r ≡ true → l ≡ record { x0 = pos 0; x1 = pos 0; x2 = pos 0; x3 = pos 0; x4 = pos 0; x5 = pos 0; x6 = pos 0; x7 = pos 0 }) ⌝ }
+    ensures { λ r. ⌜ (r ≡ true → l ≡ record { x0 = pos 0; x1 = pos 0; x2 = pos 0; x3 = pos 0; x4 = pos 0; x5 = pos 0; x6 = pos 0; x7 = pos 0 }) × (l ≡ record { x0 = pos 0; x1 = pos 0; x2 = pos 0; x3 = pos 0; x4 = pos 0; x5 = pos 0; x6 = pos 0; x7 = pos 0 } → r ≡ true) ⌝ }
 {
     (l.x0 == 0)
         & (l.x1 == 0)

@@ -60,9 +60,11 @@ module _ (l : Line) where
 
 returns : tie.Need-returns
 returns c =
-    let h = c .struct-told8 .given in
-    all-0 (c .before .before .before .before .before .before .before .before .before .before .before .before .before .before .before .before .args .l)
-    (h .0 .1) (h .1 .0 .1) (h .1 .1 .0 .1) (h .1 .1 .1 .0 .1) (h .1 .1 .1 .1 .0 .1) (h .1 .1 .1 .1 .1 .0 .1) (h .1 .1 .1 .1 .1 .1 .0 .1) (h .1 .1 .1 .1 .1 .1 .1 .0 .1)
+    let l = c .before .before .before .before .before .before .before .before .before .before .before .before .before .before .before .before .args .l in
+    let h = c .struct-told8 .given in (
+      all-0 l (h .0 .1) (h .1 .0 .1) (h .1 .1 .0 .1) (h .1 .1 .1 .0 .1) (h .1 .1 .1 .1 .0 .1) (h .1 .1 .1 .1 .1 .0 .1) (h .1 .1 .1 .1 .1 .1 .0 .1) (h .1 .1 .1 .1 .1 .1 .1 .0 .1),
+      λ e. ap (λ (m : Line). t6 m && test (m .x7)) e,
+    )
 
 pub is-zero-spec : {M : Type 1} → statement M
 is-zero-spec = tie.close (tie.spec returns)

@@ -19,7 +19,7 @@ same-length c = search needs
 returns : tie.Need-returns
 returns c =
     let b = c .before .before .before .before .args in
-    sym (zeros-stay (b .s .now) (b .at) 1 (sym (c .before .before .line-at .ensures) ∙ c .before .is-zero .ensures (c .if1 .taken)))
+    sym (zeros-stay (b .s .now) (b .at) 1 (sym (c .before .before .line-at .ensures) ∙ c .before .is-zero .ensures .0 (c .if1 .taken)))
 
 transformed-line-requires : tie.Need-transformed-line-requires
 transformed-line-requires c κs = search needs
