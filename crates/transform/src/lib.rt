@@ -2,7 +2,7 @@
 ghost use mathlib.Core.Path.{_≡_};
 ghost use mathlib.Core.Bool.{true};
 ghost use mathlib.Core.List.{map};
-ghost use Prim.Native.Nat.{_+_, _*_, _≤_, _<_};
+ghost use Prim.Native.Nat.{ℕ, _+_, _*_, _≤_, _<_};
 ghost use lib.IntN.{pos, _+ℤ_, _-ℤ_};
 ghost use lib.ListN.{length, getD, replicate};
 ghost use Rattle.numeric.specs.Cut.{cut};
@@ -275,70 +275,70 @@ fn inverse_transform(s: &mut [i16])
     transform_columns(s);
 }
 
-// The position in zig-zag order of each coefficient in natural order.
-const ZIG_ZAG: [u8; 64] = [
+// The index in natural order of each position in zig-zag order.
+const NATURAL: [u8; 64] = [
     0,
     1,
-    5,
-    6,
-    14,
-    15,
-    27,
-    28,
-    2,
-    4,
-    7,
-    13,
-    16,
-    26,
-    29,
-    42,
-    3,
     8,
-    12,
-    17,
-    25,
-    30,
-    41,
-    43,
+    16,
     9,
-    11,
-    18,
-    24,
-    31,
-    40,
-    44,
-    53,
+    2,
+    3,
     10,
-    19,
-    23,
+    17,
+    24,
     32,
-    39,
-    45,
-    52,
-    54,
-    20,
-    22,
+    25,
+    18,
+    11,
+    4,
+    5,
+    12,
+    19,
+    26,
     33,
-    38,
-    46,
-    51,
-    55,
-    60,
-    21,
-    34,
-    37,
-    47,
-    50,
-    56,
-    59,
-    61,
-    35,
-    36,
+    40,
     48,
+    41,
+    34,
+    27,
+    20,
+    13,
+    6,
+    7,
+    14,
+    21,
+    28,
+    35,
+    42,
     49,
+    56,
     57,
+    50,
+    43,
+    36,
+    29,
+    22,
+    15,
+    23,
+    30,
+    37,
+    44,
+    51,
     58,
+    59,
+    52,
+    45,
+    38,
+    31,
+    39,
+    46,
+    53,
+    60,
+    61,
+    54,
+    47,
+    55,
     62,
     63,
 ];
@@ -347,24 +347,6 @@ fn dequantized(c: i16, q: u16) -> i16
     ensures { λ r. ⌜ r ≡ dequantized c q ⌝ }
 {
     numeric::cut16(c as i32 * q as i32)
-}
-
-// The dequantised values in natural order, from the 64 coefficients in zig-zag order that start at `at`. The first is DC's, whose quantizer is `q`.
-fn dequantize(coefs: &[i16], at: usize, dc: i16, q: u16, matrix: &[u16], out: &mut [i16])
-    requires { ⌜ (at + 64 ≤ length (now coefs)) × (length (now matrix) ≡ 64) × (length (now out) ≡ 64) ⌝ }
-    ensures { λ _. ⌜ now (out .exit) ≡ values (now (coefs .entry)) at dc q (now (matrix .entry)) ⌝ }
-{
-    let first = dequantized(dc, q);
-    out[0] = first;
-    let order = ZIG_ZAG;
-    let mut i: usize = 1;
-    while i < 64 {
-        let place = order[i] as usize;
-        let z = at + place;
-        let x = dequantized(coefs[z], matrix[i]);
-        out[i] = x;
-        i += 1;
-    }
 }
 
 fn dc_only(c: i16, q: u16) -> i16
@@ -381,6 +363,44 @@ fn fill(s: &mut [i16], v: i16)
     while i < 64 {
         s[i] = v;
         i += 1;
+    }
+}
+
+// How many of the 64 coefficients that start at `at` may be other than 0: all from there on are 0. Eight are tested at a time, the last first.
+fn used(coefs: &[i16], at: usize) -> usize
+    requires { ⌜ at + 64 ≤ length (now coefs) ⌝ }
+    ensures { λ n. ⌜ (n ≤ 64) × ((k : ℕ) → n ≤ k → k < 64 → getD (now (coefs .entry)) (at + k) (pos 0) ≡ pos 0) ⌝ }
+{
+    let mut g: usize = 8;
+    while g > 0 {
+        let start = at + (g - 1) * 8;
+        let l = line_at(coefs, start, 1);
+        if !is_zero(l) {
+            return g * 8;
+        }
+        g -= 1;
+    }
+    0
+}
+
+// The dequantised values in natural order, from the 64 coefficients in zig-zag order that start at `at`. The first is DC's, whose quantizer is `q`.
+// Zeros first, then the values of those that are used, each to its place.
+fn dequantize(coefs: &[i16], at: usize, dc: i16, q: u16, matrix: &[u16], out: &mut [i16])
+    requires { ⌜ (at + 64 ≤ length (now coefs)) × (length (now matrix) ≡ 64) × (length (now out) ≡ 64) ⌝ }
+    ensures { λ _. ⌜ now (out .exit) ≡ values (now (coefs .entry)) at dc q (now (matrix .entry)) ⌝ }
+{
+    fill(out, 0);
+    let first = dequantized(dc, q);
+    out[0] = first;
+    let n = used(coefs, at);
+    let natural = NATURAL;
+    let mut p: usize = 1;
+    while p < n {
+        let i = natural[p] as usize;
+        let z = at + p;
+        let x = dequantized(coefs[z], matrix[i]);
+        out[i] = x;
+        p += 1;
     }
 }
 
