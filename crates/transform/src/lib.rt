@@ -404,10 +404,11 @@ fn dequantize(coefs: &[i16], at: usize, dc: i16, q: u16, matrix: &[u16], out: &m
     }
 }
 
+// In 16 bits throughout: x + 8 may be more than they hold.
 fn rounded(x: i16) -> i16
     ensures { λ r. ⌜ r ≡ rounded x ⌝ }
 {
-    ((x as i32 + 8) >> 4) as i16
+    ((x >> 3) + 1) >> 1
 }
 
 fn round_all(s: &mut [i16])
