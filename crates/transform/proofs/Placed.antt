@@ -9,9 +9,10 @@ use native.Mathlib.Omega.{arith}
 use borrow.Author.Tests.{lt-ltb, le-ltb, ltb-true, ltb-false}
 use lib.Dec.{ltb}
 use lib.IntN.{ℤ, pos, _*ℤ_, zero-*ℤ}
-use lib.ListN.{getD, set, replicate}
+use lib.ListN.{length, getD, set, replicate}
 use Rattle.numeric.specs.Cut.{mod16, read16, cut}
 use Rattle.transform.specs.Residual.{zigZag, dequantized, tabulated, valueAt, values}
+use Rattle.transform.proofs.Turned.{length-tabulated}
 use Rattle.transform.proofs.ZigZag.{naturalOrder, natural-lt, position-lt, position-of-natural, natural-of-position}
 
 -- ---- lists that are tabulated
@@ -58,6 +59,10 @@ module _ (coefs : List ℤ) (at : ℕ) (dc : ℤ) (q : ℕ) (matrix : List ℕ) 
   unfoldable pub partly : ℕ → List ℤ
   partly p = tabulated (placed p) 0 64
 
+  pub partly-length : (p : ℕ) → length (partly p) ≡ 64
+  unfolding partly
+  partly-length p = length-tabulated (placed p) 0 64
+
   -- DC's
   pub first-placed : set (replicate 64 (pos 0)) 0 (dequantized dc q) ≡ partly 1
   unfolding partly zigZag
@@ -98,6 +103,10 @@ module _ (coefs : List ℤ) (at : ℕ) (dc : ℤ) (q : ℕ) (matrix : List ℕ) 
       ∙ sym (zero-value (getD matrix k 0))
       ∙ ap (λ (x : ℤ). dequantized x (getD matrix k 0)) (sym (h b))
       ∙ value-is k (le-trans l b)
+
+  pub values-length : length (values coefs at dc q matrix) ≡ 64
+  unfolding values
+  values-length = length-tabulated value 0 64
 
   -- all that are not zeros
   pub all-placed : (p n : ℕ) → 1 ≤ p → n ≤ p → ((k : ℕ) → n ≤ k → k < 64 → getD coefs (at + k) (pos 0) ≡ pos 0) → partly p ≡ values coefs at dc q matrix

@@ -2,13 +2,13 @@
 ghost use mathlib.Core.Path.{_≡_};
 ghost use mathlib.Core.Bool.{true};
 ghost use mathlib.Core.List.{map};
-ghost use Prim.Native.Nat.{ℕ, _+_, _*_, _≤_, _<_};
+ghost use Prim.Native.Nat.{ℕ, _+_, _*_, _/_, _%_, _≤_, _<_};
 ghost use lib.IntN.{pos, _+ℤ_, _-ℤ_};
 ghost use lib.ListN.{length, getD, replicate};
 ghost use Rattle.numeric.specs.Cut.{cut};
 ghost use Rattle.transform.specs.Line.{times, timesC4, firstTerms, lastTerms, outputs, transformedLine};
 ghost use Rattle.transform.specs.Block.{lineAt, putLine, transformLine, rows, columns, inverse};
-ghost use Rattle.transform.specs.Residual.{zigZag, dequantized, dcOnly, rounded, values, residual};
+ghost use Rattle.transform.specs.Residual.{zigZag, dequantized, dcOnly, rounded, tabulated, values, residual};
 
 const C1: u16 = 64277;
 
@@ -232,25 +232,15 @@ fn is_zero(l: Line) -> bool
         & (l.x7 == 0)
 }
 
-// A row in place. One of zeros, as most are, stays as it is.
-fn transform_row(s: &mut [i16], at: usize)
-    requires { ⌜ at + 7 < length (now s) ⌝ }
-    ensures { λ _. ⌜ now (s .exit) ≡ transformLine (now (s .entry)) at 1 ⌝ }
-{
-    let l = line_at(s, at, 1);
-    if is_zero(l) {
-        return;
-    }
-    put_line(s, at, 1, transformed_line(l));
-}
-
-fn transform_rows(s: &mut [i16])
-    requires { ⌜ length (now s) ≡ 64 ⌝ }
-    ensures { λ _. ⌜ now (s .exit) ≡ rows 8 (now (s .entry)) ⌝ }
+// The rows of a block, from the block turned: row i from column i, so that eight rows go together as eight columns do.
+fn transform_rows(turned: &[i16], out: &mut [i16])
+    requires { ⌜ (length (now turned) ≡ 64) × (length (now out) ≡ 64) ⌝ }
+    ensures { λ _. ⌜ now (out .exit) ≡ rows 8 (tabulated (λ i. getD (now (turned .entry)) (i % 8 * 8 + i / 8) (pos 0)) 0 64) ⌝ }
 {
     let mut i: usize = 0;
     while i < 8 {
-        transform_row(s, i * 8);
+        let l = transformed_line(line_at(turned, i, 8));
+        put_line(out, i * 8, 1, l);
         i += 1;
     }
 }
@@ -266,13 +256,13 @@ fn transform_columns(s: &mut [i16])
     }
 }
 
-// The inverse transform of 64 values, in place: rows, then columns.
-fn inverse_transform(s: &mut [i16])
-    requires { ⌜ length (now s) ≡ 64 ⌝ }
-    ensures { λ _. ⌜ now (s .exit) ≡ inverse (now (s .entry)) ⌝ }
+// The inverse transform of 64 values, from the block turned: rows, then columns.
+fn inverse_transform(turned: &[i16], out: &mut [i16])
+    requires { ⌜ (length (now turned) ≡ 64) × (length (now out) ≡ 64) ⌝ }
+    ensures { λ _. ⌜ now (out .exit) ≡ inverse (tabulated (λ i. getD (now (turned .entry)) (i % 8 * 8 + i / 8) (pos 0)) 0 64) ⌝ }
 {
-    transform_rows(s);
-    transform_columns(s);
+    transform_rows(turned, out);
+    transform_columns(out);
 }
 
 // The index in natural order of each position in zig-zag order.
@@ -383,11 +373,11 @@ fn used(coefs: &[i16], at: usize) -> usize
     0
 }
 
-// The dequantised values in natural order, from the 64 coefficients in zig-zag order that start at `at`. The first is DC's, whose quantizer is `q`.
+// The dequantised values, turned, from the 64 coefficients in zig-zag order that start at `at`. The first is DC's, whose quantizer is `q`.
 // Zeros first, then the values of those that are used, each to its place.
 fn dequantize(coefs: &[i16], at: usize, dc: i16, q: u16, matrix: &[u16], out: &mut [i16])
     requires { ⌜ (at + 64 ≤ length (now coefs)) × (length (now matrix) ≡ 64) × (length (now out) ≡ 64) ⌝ }
-    ensures { λ _. ⌜ now (out .exit) ≡ values (now (coefs .entry)) at dc q (now (matrix .entry)) ⌝ }
+    ensures { λ _. ⌜ now (out .exit) ≡ tabulated (λ i. getD (values (now (coefs .entry)) at dc q (now (matrix .entry))) (i % 8 * 8 + i / 8) (pos 0)) 0 64 ⌝ }
 {
     fill(out, 0);
     let first = dequantized(dc, q);
@@ -399,7 +389,8 @@ fn dequantize(coefs: &[i16], at: usize, dc: i16, q: u16, matrix: &[u16], out: &m
         let i = natural[p] as usize;
         let z = at + p;
         let x = dequantized(coefs[z], matrix[i]);
-        out[i] = x;
+        let j = i % 8 * 8 + i / 8;
+        out[j] = x;
         p += 1;
     }
 }
@@ -440,7 +431,8 @@ pub fn residual(
         fill(out, dc_only(dc, q));
         return;
     }
-    dequantize(coefs, at, dc, q, matrix, out);
-    inverse_transform(out);
+    let mut turned = [0i16; 64];
+    dequantize(coefs, at, dc, q, matrix, &mut turned);
+    inverse_transform(&turned, out);
     round_all(out);
 }
