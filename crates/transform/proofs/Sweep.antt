@@ -6,9 +6,7 @@ use Prim.Native.Nat.{ℕ, zero, suc, _+_, _<_}
 use native.Mathlib.Nat.{add-zero, zero-add, add-suc, suc-add, le-of-suc-le-suc, not-suc-le-zero}
 use native.Mathlib.Numerals.{add-one}
 use native.Mathlib.Omega.{arith}
-use lib.IntN.{ℤ}
 use lib.ListN.{length, getD, set, replicate}
-use Rattle.transform.specs.Residual.{tabulated}
 
 -- the first n places changed, the first of which is place i
 abbrev pub changed : {A : Type 0} → (ℕ → A → A) → ℕ → ℕ → List A → List A
@@ -50,9 +48,3 @@ all-same v i zero [] e = refl
 all-same v i zero (x ∷ xs) e = absurd (omega arith)
 all-same v i (suc n) [] e = absurd (omega arith)
 all-same {A} v i (suc n) (x ∷ xs) e = ap (λ (l : List A). v ∷ l) (all-same v (suc i) n xs (omega arith))
-
-pub all-tabulated : (g : ℕ → ℤ) (i n : ℕ) (xs : List ℤ) → length xs ≡ n → changed (λ k x. g k) i n xs ≡ tabulated g i n
-all-tabulated g i zero [] e = refl
-all-tabulated g i zero (x ∷ xs) e = absurd (omega arith)
-all-tabulated g i (suc n) [] e = absurd (omega arith)
-all-tabulated g i (suc n) (x ∷ xs) e = ap (λ (l : List ℤ). g i ∷ l) (all-tabulated g (suc i) n xs (omega arith))

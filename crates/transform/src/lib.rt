@@ -1,12 +1,14 @@
 // The residual of a block: its coefficients dequantised, and the inverse transform.
 ghost use mathlib.Core.Path.{_≡_};
+ghost use mathlib.Core.Bool.{true};
 ghost use mathlib.Core.List.{map};
-ghost use Prim.Native.Nat.{_+_, _*_, _≤_, _<_};
-ghost use lib.IntN.{natAbs, _+ℤ_, _-ℤ_};
+ghost use Prim.Native.Nat.{ℕ, _+_, _*_, _/_, _%_, _≤_, _<_};
+ghost use lib.IntN.{pos, _+ℤ_, _-ℤ_};
 ghost use lib.ListN.{length, getD, replicate};
-ghost use Rattle.transform.specs.Line.{times, timesC4, firstTerms, lastTerms, outputs, Within, transformedLine};
+ghost use Rattle.numeric.specs.Cut.{cut};
+ghost use Rattle.transform.specs.Line.{times, timesC4, firstTerms, lastTerms, outputs, transformedLine};
 ghost use Rattle.transform.specs.Block.{lineAt, putLine, transformLine, rows, columns, inverse};
-ghost use Rattle.transform.specs.Residual.{zigZag, dequantized, dcOnly, rounded, values, residual};
+ghost use Rattle.transform.specs.Residual.{zigZag, dequantized, dcOnly, rounded, tabulated, values, residual};
 
 const C1: u16 = 64277;
 
@@ -34,41 +36,58 @@ pub struct Line {
     pub x7: i16,
 }
 
-// Four terms of a line's outputs.
+// Four terms of a line's outputs, cut to 16 bits.
 pub struct Terms {
-    pub t0: i32,
-    pub t1: i32,
-    pub t2: i32,
-    pub t3: i32,
+    pub t0: i16,
+    pub t1: i16,
+    pub t2: i16,
+    pub t3: i16,
 }
 
-fn times(c: u16, x: i16) -> i32
-    ensures { λ r. ⌜ (r ≡ times c x) × (natAbs r ≤ 32768) ⌝ }
+// Lines are computed in 16 bits throughout, and a factor from 32768 on is 65536 less: then eight columns go together, in vectors of 16 bits.
+fn times(c: u16, x: i16) -> i16
+    ensures { λ r. ⌜ r ≡ times c x ⌝ }
 {
-    (x as i32 * c as i32) >> 16
+    let w = x as i32;
+    if c < 32768 {
+        return ((w * c as i32) >> 16) as i16;
+    }
+    (((w * (c as i32 - 65536)) >> 16) + w) as i16
 }
 
-fn times_c4(x: i32) -> i32
-    ensures { λ r. ⌜ (r ≡ timesC4 x) × (natAbs r ≤ 32768) ⌝ }
+fn times_c4(x: i32) -> i16
+    ensures { λ r. ⌜ r ≡ timesC4 x ⌝ }
 {
     times(C4, numeric::cut16(x))
 }
 
-fn weighted_sum(c: u16, x: i16, d: u16, y: i16) -> i32
-    ensures { λ r. ⌜ (r ≡ times c x +ℤ times d y) × (natAbs r ≤ 65536) ⌝ }
+fn sum(x: i16, y: i16) -> i16
+    ensures { λ r. ⌜ r ≡ cut (x +ℤ y) ⌝ }
 {
-    times(c, x) + times(d, y)
+    numeric::cut16(x as i32 + y as i32)
 }
 
-fn weighted_difference(c: u16, x: i16, d: u16, y: i16) -> i32
-    ensures { λ r. ⌜ (r ≡ times c x -ℤ times d y) × (natAbs r ≤ 65536) ⌝ }
+fn difference(x: i16, y: i16) -> i16
+    ensures { λ r. ⌜ r ≡ cut (x -ℤ y) ⌝ }
 {
-    times(c, x) - times(d, y)
+    numeric::cut16(x as i32 - y as i32)
+}
+
+fn weighted_sum(c: u16, x: i16, d: u16, y: i16) -> i16
+    ensures { λ r. ⌜ r ≡ cut (times c x +ℤ times d y) ⌝ }
+{
+    sum(times(c, x), times(d, y))
+}
+
+fn weighted_difference(c: u16, x: i16, d: u16, y: i16) -> i16
+    ensures { λ r. ⌜ r ≡ cut (times c x -ℤ times d y) ⌝ }
+{
+    difference(times(c, x), times(d, y))
 }
 
 // What outputs 0 to 3, and 7 to 4, begin with.
 fn first_terms(l: Line) -> Terms
-    ensures { λ r. ⌜ (r ≡ firstTerms l) × Within r ⌝ }
+    ensures { λ r. ⌜ (r .t0 ≡ cut (firstTerms l .t0)) × (r .t1 ≡ cut (firstTerms l .t1)) × (r .t2 ≡ cut (firstTerms l .t2)) × (r .t3 ≡ cut (firstTerms l .t3)) ⌝ }
 {
     let x0 = l.x0 as i32;
     let x4 = l.x4 as i32;
@@ -79,16 +98,16 @@ fn first_terms(l: Line) -> Terms
     let c = weighted_difference(C6, x2, C2, x6);
     let d = weighted_sum(C2, x2, C6, x6);
     Terms {
-        t0: a + d,
-        t1: b + c,
-        t2: b - c,
-        t3: a - d,
+        t0: sum(a, d),
+        t1: sum(b, c),
+        t2: difference(b, c),
+        t3: difference(a, d),
     }
 }
 
 // What is added in outputs 0 to 3, and subtracted in 7 to 4.
 fn last_terms(l: Line) -> Terms
-    ensures { λ r. ⌜ (r ≡ lastTerms l) × Within r ⌝ }
+    ensures { λ r. ⌜ (r .t0 ≡ cut (lastTerms l .t0)) × (r .t1 ≡ cut (lastTerms l .t1)) × (r .t2 ≡ cut (lastTerms l .t2)) × (r .t3 ≡ cut (lastTerms l .t3)) ⌝ }
 {
     let x1 = l.x1;
     let x3 = l.x3;
@@ -98,19 +117,18 @@ fn last_terms(l: Line) -> Terms
     let k = weighted_difference(C3, x5, C5, x3);
     let g = weighted_sum(C5, x5, C3, x3);
     let h = weighted_sum(C1, x1, C7, x7);
-    let k4 = times_c4(e - k);
-    let g4 = times_c4(h - g);
+    let k4 = times(C4, difference(e, k));
+    let g4 = times(C4, difference(h, g));
     Terms {
-        t0: h + g,
-        t1: g4 + k4,
-        t2: g4 - k4,
-        t3: e + k,
+        t0: sum(h, g),
+        t1: sum(g4, k4),
+        t2: difference(g4, k4),
+        t3: sum(e, k),
     }
 }
 
 // The outputs: the first terms with the last ones added, and the same with them subtracted.
 fn outputs(f: Terms, g: Terms) -> Line
-    requires { ⌜ Within f × Within g ⌝ }
     ensures { λ r. ⌜ r ≡ outputs f g ⌝ }
 {
     let f0 = f.t0;
@@ -122,14 +140,14 @@ fn outputs(f: Terms, g: Terms) -> Line
     let g2 = g.t2;
     let g3 = g.t3;
     Line {
-        x0: numeric::cut16(f0 + g0),
-        x1: numeric::cut16(f1 + g1),
-        x2: numeric::cut16(f2 + g2),
-        x3: numeric::cut16(f3 + g3),
-        x4: numeric::cut16(f3 - g3),
-        x5: numeric::cut16(f2 - g2),
-        x6: numeric::cut16(f1 - g1),
-        x7: numeric::cut16(f0 - g0),
+        x0: sum(f0, g0),
+        x1: sum(f1, g1),
+        x2: sum(f2, g2),
+        x3: sum(f3, g3),
+        x4: difference(f3, g3),
+        x5: difference(f2, g2),
+        x6: difference(f1, g1),
+        x7: difference(f0, g0),
     }
 }
 
@@ -201,13 +219,28 @@ fn transform_line(s: &mut [i16], at: usize, step: usize)
     put_line(s, at, step, l);
 }
 
-fn transform_rows(s: &mut [i16])
-    requires { ⌜ length (now s) ≡ 64 ⌝ }
-    ensures { λ _. ⌜ now (s .exit) ≡ rows 8 (now (s .entry)) ⌝ }
+fn is_zero(l: Line) -> bool
+    ensures { λ r. ⌜ (r ≡ true → l ≡ record { x0 = pos 0; x1 = pos 0; x2 = pos 0; x3 = pos 0; x4 = pos 0; x5 = pos 0; x6 = pos 0; x7 = pos 0 }) × (l ≡ record { x0 = pos 0; x1 = pos 0; x2 = pos 0; x3 = pos 0; x4 = pos 0; x5 = pos 0; x6 = pos 0; x7 = pos 0 } → r ≡ true) ⌝ }
+{
+    (l.x0 == 0)
+        & (l.x1 == 0)
+        & (l.x2 == 0)
+        & (l.x3 == 0)
+        & (l.x4 == 0)
+        & (l.x5 == 0)
+        & (l.x6 == 0)
+        & (l.x7 == 0)
+}
+
+// The rows of a block, from the block turned: row i from column i, so that eight rows go together as eight columns do.
+fn transform_rows(turned: &[i16], out: &mut [i16])
+    requires { ⌜ (length (now turned) ≡ 64) × (length (now out) ≡ 64) ⌝ }
+    ensures { λ _. ⌜ now (out .exit) ≡ rows 8 (tabulated (λ i. getD (now (turned .entry)) (i % 8 * 8 + i / 8) (pos 0)) 0 64) ⌝ }
 {
     let mut i: usize = 0;
     while i < 8 {
-        transform_line(s, i * 8, 1);
+        let l = transformed_line(line_at(turned, i, 8));
+        put_line(out, i * 8, 1, l);
         i += 1;
     }
 }
@@ -223,79 +256,79 @@ fn transform_columns(s: &mut [i16])
     }
 }
 
-// The inverse transform of 64 values, in place: rows, then columns.
-fn inverse_transform(s: &mut [i16])
-    requires { ⌜ length (now s) ≡ 64 ⌝ }
-    ensures { λ _. ⌜ now (s .exit) ≡ inverse (now (s .entry)) ⌝ }
+// The inverse transform of 64 values, from the block turned: rows, then columns.
+fn inverse_transform(turned: &[i16], out: &mut [i16])
+    requires { ⌜ (length (now turned) ≡ 64) × (length (now out) ≡ 64) ⌝ }
+    ensures { λ _. ⌜ now (out .exit) ≡ inverse (tabulated (λ i. getD (now (turned .entry)) (i % 8 * 8 + i / 8) (pos 0)) 0 64) ⌝ }
 {
-    transform_rows(s);
-    transform_columns(s);
+    transform_rows(turned, out);
+    transform_columns(out);
 }
 
-// The position in zig-zag order of each coefficient in natural order.
-const ZIG_ZAG: [u8; 64] = [
+// The index in natural order of each position in zig-zag order.
+const NATURAL: [u8; 64] = [
     0,
     1,
-    5,
-    6,
-    14,
-    15,
-    27,
-    28,
-    2,
-    4,
-    7,
-    13,
-    16,
-    26,
-    29,
-    42,
-    3,
     8,
-    12,
-    17,
-    25,
-    30,
-    41,
-    43,
+    16,
     9,
-    11,
-    18,
-    24,
-    31,
-    40,
-    44,
-    53,
+    2,
+    3,
     10,
-    19,
-    23,
+    17,
+    24,
     32,
-    39,
-    45,
-    52,
-    54,
-    20,
-    22,
+    25,
+    18,
+    11,
+    4,
+    5,
+    12,
+    19,
+    26,
     33,
-    38,
-    46,
-    51,
-    55,
-    60,
-    21,
-    34,
-    37,
-    47,
-    50,
-    56,
-    59,
-    61,
-    35,
-    36,
+    40,
     48,
+    41,
+    34,
+    27,
+    20,
+    13,
+    6,
+    7,
+    14,
+    21,
+    28,
+    35,
+    42,
     49,
+    56,
     57,
+    50,
+    43,
+    36,
+    29,
+    22,
+    15,
+    23,
+    30,
+    37,
+    44,
+    51,
     58,
+    59,
+    52,
+    45,
+    38,
+    31,
+    39,
+    46,
+    53,
+    60,
+    61,
+    54,
+    47,
+    55,
     62,
     63,
 ];
@@ -304,24 +337,6 @@ fn dequantized(c: i16, q: u16) -> i16
     ensures { λ r. ⌜ r ≡ dequantized c q ⌝ }
 {
     numeric::cut16(c as i32 * q as i32)
-}
-
-// The dequantised values in natural order, from the 64 coefficients in zig-zag order that start at `at`. The first is DC's, whose quantizer is `q`.
-fn dequantize(coefs: &[i16], at: usize, dc: i16, q: u16, matrix: &[u16], out: &mut [i16])
-    requires { ⌜ (at + 64 ≤ length (now coefs)) × (length (now matrix) ≡ 64) × (length (now out) ≡ 64) ⌝ }
-    ensures { λ _. ⌜ now (out .exit) ≡ values (now (coefs .entry)) at dc q (now (matrix .entry)) ⌝ }
-{
-    let first = dequantized(dc, q);
-    out[0] = first;
-    let order = ZIG_ZAG;
-    let mut i: usize = 1;
-    while i < 64 {
-        let place = order[i] as usize;
-        let z = at + place;
-        let x = dequantized(coefs[z], matrix[i]);
-        out[i] = x;
-        i += 1;
-    }
 }
 
 fn dc_only(c: i16, q: u16) -> i16
@@ -341,10 +356,50 @@ fn fill(s: &mut [i16], v: i16)
     }
 }
 
+// How many of the 64 coefficients that start at `at` may be other than 0: all from there on are 0. Eight are tested at a time, the last first.
+fn used(coefs: &[i16], at: usize) -> usize
+    requires { ⌜ at + 64 ≤ length (now coefs) ⌝ }
+    ensures { λ n. ⌜ (n ≤ 64) × ((k : ℕ) → n ≤ k → k < 64 → getD (now (coefs .entry)) (at + k) (pos 0) ≡ pos 0) ⌝ }
+{
+    let mut g: usize = 8;
+    while g > 0 {
+        let start = at + (g - 1) * 8;
+        let l = line_at(coefs, start, 1);
+        if !is_zero(l) {
+            return g * 8;
+        }
+        g -= 1;
+    }
+    0
+}
+
+// The dequantised values, turned, from the 64 coefficients in zig-zag order that start at `at`. The first is DC's, whose quantizer is `q`.
+// Zeros first, then the values of those that are used, each to its place.
+fn dequantize(coefs: &[i16], at: usize, dc: i16, q: u16, matrix: &[u16], out: &mut [i16])
+    requires { ⌜ (at + 64 ≤ length (now coefs)) × (length (now matrix) ≡ 64) × (length (now out) ≡ 64) ⌝ }
+    ensures { λ _. ⌜ now (out .exit) ≡ tabulated (λ i. getD (values (now (coefs .entry)) at dc q (now (matrix .entry))) (i % 8 * 8 + i / 8) (pos 0)) 0 64 ⌝ }
+{
+    fill(out, 0);
+    let first = dequantized(dc, q);
+    out[0] = first;
+    let n = used(coefs, at);
+    let natural = NATURAL;
+    let mut p: usize = 1;
+    while p < n {
+        let i = natural[p] as usize;
+        let z = at + p;
+        let x = dequantized(coefs[z], matrix[i]);
+        let j = i % 8 * 8 + i / 8;
+        out[j] = x;
+        p += 1;
+    }
+}
+
+// In 16 bits throughout: x + 8 may be more than they hold.
 fn rounded(x: i16) -> i16
     ensures { λ r. ⌜ r ≡ rounded x ⌝ }
 {
-    ((x as i32 + 8) >> 4) as i16
+    ((x >> 3) + 1) >> 1
 }
 
 fn round_all(s: &mut [i16])
@@ -376,7 +431,8 @@ pub fn residual(
         fill(out, dc_only(dc, q));
         return;
     }
-    dequantize(coefs, at, dc, q, matrix, out);
-    inverse_transform(out);
+    let mut turned = [0i16; 64];
+    dequantize(coefs, at, dc, q, matrix, &mut turned);
+    inverse_transform(&turned, out);
     round_all(out);
 }

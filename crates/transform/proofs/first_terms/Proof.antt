@@ -3,10 +3,12 @@ use mathlib.Core.Path.{_≡_, ap, ap₂, _∙_}
 use lib.IntN.{ℤ, _+ℤ_, _-ℤ_}
 use mir.Syntax.{w16, w32}
 use mir.Val.{toZ, ofZ}
-use Rattle.numeric.proofs.Known.{Known, k-wide, ask-wide, back, k-got, k-add, k-sub, ask-add, ask-sub, ask-size}
+use Rattle.numeric.specs.Cut.{mod16, cut}
+use Rattle.numeric.proofs.Known.{Known, k-wide, ask-wide, back, k-add, k-sub, ask-add, ask-sub}
 use Rattle.transform.specs.declared.Line.{Line}
 use Rattle.transform.specs.Line as L
 use Rattle.transform.specs.Line.{C2, C6, times, timesC4, firstTerms}
+use Rattle.transform.proofs.Low16.{add-same, sub-same, low}
 use Rattle.transform.proofs.first_terms.Statement.{statement}
 use Rattle.transform.proofs.first_terms.Tie as tie
 
@@ -33,38 +35,45 @@ module _ (c : tie.After-struct-told4) where
   x6 : toZ w16 (ofZ w16 (l .x6)) ≡ l .x6
   x6 = back w16 (l .x6) (c .struct-told4 .given .1 .1 .1 .1 .1 .1 .0 .1)
 
--- the four calls
-A-is : (c : tie.After-times-c4) → c .times-c4 .result ≡ L.a (l (c .before))
+-- the first four calls
+A-is : (c : tie.After-times-c4) → toZ w16 (ofZ w16 (c .times-c4 .result)) ≡ L.a (l (c .before))
 unfolding L.a
-A-is c = c .times-c4 .ensures .0 ∙ ap timesC4 (sum (c .before) .reads)
+A-is c = back w16 (c .times-c4 .result) (c .times-c4 .ok) ∙ c .times-c4 .ensures ∙ ap timesC4 (sum (c .before) .reads)
 
-B-is : (c : tie.After-times-c42) → c .times-c42 .result ≡ L.b (l (c .before .before))
+B-is : (c : tie.After-times-c42) → toZ w16 (ofZ w16 (c .times-c42 .result)) ≡ L.b (l (c .before .before))
 unfolding L.b
-B-is c = c .times-c42 .ensures .0 ∙ ap timesC4 (difference (c .before .before) .reads)
+B-is c = back w16 (c .times-c42 .result) (c .times-c42 .ok) ∙ c .times-c42 .ensures ∙ ap timesC4 (difference (c .before .before) .reads)
 
-C-is : (c : tie.After-weighted-difference) → c .weighted-difference .result ≡ L.c (l (c .before .before .before))
+C-is : (c : tie.After-weighted-difference) → toZ w16 (ofZ w16 (c .weighted-difference .result)) ≡ cut (L.c (l (c .before .before .before)))
 unfolding L.c
-C-is c = c .weighted-difference .ensures .0 ∙ ap₂ (λ (u v : ℤ). times C6 u -ℤ times C2 v) (x2 (c .before .before .before)) (x6 (c .before .before .before))
+C-is c =
+    back w16 (c .weighted-difference .result) (c .weighted-difference .ok)
+    ∙ c .weighted-difference .ensures
+    ∙ ap₂ (λ (u v : ℤ). cut (times C6 u -ℤ times C2 v)) (x2 (c .before .before .before)) (x6 (c .before .before .before))
 
-D-is : (c : tie.After-weighted-sum) → c .weighted-sum .result ≡ L.d (l (c .before .before .before .before))
+D-is : (c : tie.After-weighted-sum) → toZ w16 (ofZ w16 (c .weighted-sum .result)) ≡ cut (L.d (l (c .before .before .before .before)))
 unfolding L.d
-D-is c = c .weighted-sum .ensures .0 ∙ ap₂ (λ (u v : ℤ). times C2 u +ℤ times C6 v) (x2 (c .before .before .before .before)) (x6 (c .before .before .before .before))
+D-is c =
+    back w16 (c .weighted-sum .result) (c .weighted-sum .ok)
+    ∙ c .weighted-sum .ensures
+    ∙ ap₂ (λ (u v : ℤ). cut (times C2 u +ℤ times C6 v)) (x2 (c .before .before .before .before)) (x6 (c .before .before .before .before))
 
+-- and their low 16 bits
 module _ (c : tie.After-weighted-sum) where
   abbrev m : Line
   m = l (c .before .before .before .before)
 
-  abbrev a : Known w32 (L.a m) 32768
-  a = k-got (c .before .before .before .times-c4 .ok) (A-is (c .before .before .before)) (c .before .before .before .times-c4 .ensures .1)
+  a : mod16 (toZ w16 (ofZ w16 (c .before .before .before .times-c4 .result))) ≡ mod16 (L.a m)
+  a = ap mod16 (A-is (c .before .before .before))
 
-  abbrev b : Known w32 (L.b m) 32768
-  b = k-got (c .before .before .times-c42 .ok) (B-is (c .before .before)) (c .before .before .times-c42 .ensures .1)
+  b : mod16 (toZ w16 (ofZ w16 (c .before .before .times-c42 .result))) ≡ mod16 (L.b m)
+  b = ap mod16 (B-is (c .before .before))
 
-  abbrev d : Known w32 (L.d m) 65536
-  d = k-got (c .weighted-sum .ok) (D-is c) (c .weighted-sum .ensures .1)
+  k : mod16 (toZ w16 (ofZ w16 (c .before .weighted-difference .result))) ≡ mod16 (L.c m)
+  k = low _ (L.c m) (C-is (c .before))
 
-  abbrev k : Known w32 (L.c m) 65536
-  k = k-got (c .before .weighted-difference .ok) (C-is (c .before)) (c .before .weighted-difference .ensures .1)
+  d : mod16 (toZ w16 (ofZ w16 (c .weighted-sum .result))) ≡ mod16 (L.d m)
+  d = low _ (L.d m) (D-is c)
 
 cast-x0 : tie.Need-cast-x0
 cast-x0 c = ask-wide {z = c .before .before .args .l .x0} (record { sfits = c .struct-told .given .0 .1 })
@@ -90,27 +99,31 @@ weighted-difference-requires c κs = search needs
 weighted-sum-requires : tie.Need-weighted-sum-requires
 weighted-sum-requires c κs = search needs
 
-add-t10 : tie.Need-add-t10
-add-t10 c = ask-add (a c) (d c) tt
+sum-requires : tie.Need-sum-requires
+sum-requires c κs = search needs
 
-add-t11 : tie.Need-add-t11
-add-t11 c = ask-add (b c) (k c) tt
+sum-requires-2 : tie.Need-sum-requires-2
+sum-requires-2 c κs = search needs
 
-sub-t12 : tie.Need-sub-t12
-sub-t12 c = ask-sub (b c) (k c) tt
+difference-requires : tie.Need-difference-requires
+difference-requires c κs = search needs
 
-sub-t13 : tie.Need-sub-t13
-sub-t13 c = ask-sub (a c) (d c) tt
+difference-requires-2 : tie.Need-difference-requires-2
+difference-requires-2 c κs = search needs
 
 returns : tie.Need-returns
 unfolding firstTerms
 returns c =
-    let t0 = k-add (a c) (d c) tt in
-    let t1 = k-add (b c) (k c) tt in
-    let t2 = k-sub (b c) (k c) tt in
-    let t3 = k-sub (a c) (d c) tt in (
-      λ i. record { t0 = t0 .reads i; t1 = t1 .reads i; t2 = t2 .reads i; t3 = t3 .reads i },
-      record { t0 = ask-size t0 131072 tt; t1 = ask-size t1 131072 tt; t2 = ask-size t2 131072 tt; t3 = ask-size t3 131072 tt },
+    let s = c .before .before .before .before in
+    let l = m s in
+    let t0 = c .before .before .before .sum in
+    let t1 = c .before .before .sum2 in
+    let t2 = c .before .difference in
+    let t3 = c .difference2 in (
+      back w16 (t0 .result) (t0 .ok) ∙ t0 .ensures ∙ add-same _ _ (L.a l) (L.d l) (a s) (d s),
+      back w16 (t1 .result) (t1 .ok) ∙ t1 .ensures ∙ add-same _ _ (L.b l) (L.c l) (b s) (k s),
+      back w16 (t2 .result) (t2 .ok) ∙ t2 .ensures ∙ sub-same _ _ (L.b l) (L.c l) (b s) (k s),
+      back w16 (t3 .result) (t3 .ok) ∙ t3 .ensures ∙ sub-same _ _ (L.a l) (L.d l) (a s) (d s),
     )
 
 pub first-terms-spec : {M : Type 1} → statement M
@@ -125,8 +138,8 @@ first-terms-spec =
     times-c4-requires-2
     weighted-difference-requires
     weighted-sum-requires
-    add-t10
-    add-t11
-    sub-t12
-    sub-t13
+    sum-requires
+    sum-requires-2
+    difference-requires
+    difference-requires-2
     returns)

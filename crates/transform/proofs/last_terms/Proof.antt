@@ -1,12 +1,14 @@
 use borrow.Author.Needs.{needs}
 use mathlib.Core.Path.{_≡_, ap, ap₂, _∙_}
 use lib.IntN.{ℤ, _+ℤ_, _-ℤ_}
-use mir.Syntax.{w16, w32}
+use mir.Syntax.{w16}
 use mir.Val.{toZ, ofZ}
-use Rattle.numeric.proofs.Known.{Known, back, k-got, k-add, k-sub, ask-add, ask-sub, ask-size}
+use Rattle.numeric.specs.Cut.{mod16, cut}
+use Rattle.numeric.proofs.Known.{back}
 use Rattle.transform.specs.declared.Line.{Line}
 use Rattle.transform.specs.Line as L
-use Rattle.transform.specs.Line.{C1, C3, C5, C7, times, timesC4, lastTerms}
+use Rattle.transform.specs.Line.{C1, C3, C4, C5, C7, times, timesC4, lastTerms}
+use Rattle.transform.proofs.Low16.{add-same, sub-same, low}
 use Rattle.transform.proofs.last_terms.Statement.{statement}
 use Rattle.transform.proofs.last_terms.Tie as tie
 
@@ -26,54 +28,57 @@ module _ (c : tie.After-struct-told4) where
   x7 : toZ w16 (ofZ w16 (l .x7)) ≡ l .x7
   x7 = back w16 (l .x7) (c .struct-told4 .given .1 .1 .1 .1 .1 .1 .1 .0 .1)
 
--- the first four calls
-E-is : (c : tie.After-weighted-difference) → c .weighted-difference .result ≡ L.e (l (c .before))
+-- the low 16 bits of the first four calls
+e : (c : tie.After-weighted-difference) → mod16 (toZ w16 (ofZ w16 (c .weighted-difference .result))) ≡ mod16 (L.e (l (c .before)))
 unfolding L.e
-E-is c = c .weighted-difference .ensures .0 ∙ ap₂ (λ (u v : ℤ). times C7 u -ℤ times C1 v) (x1 (c .before)) (x7 (c .before))
+e c =
+    low _ _
+    (back w16 (c .weighted-difference .result) (c .weighted-difference .ok)
+    ∙ c .weighted-difference .ensures
+    ∙ ap₂ (λ (u v : ℤ). cut (times C7 u -ℤ times C1 v)) (x1 (c .before)) (x7 (c .before)))
 
-K-is : (c : tie.After-weighted-difference2) → c .weighted-difference2 .result ≡ L.k (l (c .before .before))
+k : (c : tie.After-weighted-difference2) → mod16 (toZ w16 (ofZ w16 (c .weighted-difference2 .result))) ≡ mod16 (L.k (l (c .before .before)))
 unfolding L.k
-K-is c = c .weighted-difference2 .ensures .0 ∙ ap₂ (λ (u v : ℤ). times C3 u -ℤ times C5 v) (x5 (c .before .before)) (x3 (c .before .before))
+k c =
+    low _ _
+    (back w16 (c .weighted-difference2 .result) (c .weighted-difference2 .ok)
+    ∙ c .weighted-difference2 .ensures
+    ∙ ap₂ (λ (u v : ℤ). cut (times C3 u -ℤ times C5 v)) (x5 (c .before .before)) (x3 (c .before .before)))
 
-G-is : (c : tie.After-weighted-sum) → c .weighted-sum .result ≡ L.g (l (c .before .before .before))
+g : (c : tie.After-weighted-sum) → mod16 (toZ w16 (ofZ w16 (c .weighted-sum .result))) ≡ mod16 (L.g (l (c .before .before .before)))
 unfolding L.g
-G-is c = c .weighted-sum .ensures .0 ∙ ap₂ (λ (u v : ℤ). times C5 u +ℤ times C3 v) (x5 (c .before .before .before)) (x3 (c .before .before .before))
+g c =
+    low _ _
+    (back w16 (c .weighted-sum .result) (c .weighted-sum .ok)
+    ∙ c .weighted-sum .ensures
+    ∙ ap₂ (λ (u v : ℤ). cut (times C5 u +ℤ times C3 v)) (x5 (c .before .before .before)) (x3 (c .before .before .before)))
 
-H-is : (c : tie.After-weighted-sum2) → c .weighted-sum2 .result ≡ L.h (l (c .before .before .before .before))
+h : (c : tie.After-weighted-sum2) → mod16 (toZ w16 (ofZ w16 (c .weighted-sum2 .result))) ≡ mod16 (L.h (l (c .before .before .before .before)))
 unfolding L.h
-H-is c = c .weighted-sum2 .ensures .0 ∙ ap₂ (λ (u v : ℤ). times C1 u +ℤ times C7 v) (x1 (c .before .before .before .before)) (x7 (c .before .before .before .before))
+h c =
+    low _ _
+    (back w16 (c .weighted-sum2 .result) (c .weighted-sum2 .ok)
+    ∙ c .weighted-sum2 .ensures
+    ∙ ap₂ (λ (u v : ℤ). cut (times C1 u +ℤ times C7 v)) (x1 (c .before .before .before .before)) (x7 (c .before .before .before .before)))
 
-module _ (c : tie.After-weighted-sum2) where
-  abbrev m : Line
-  m = l (c .before .before .before .before)
+-- the two products
+K4 : (c : tie.After-times) → toZ w16 (ofZ w16 (c .times .result)) ≡ L.K (l (c .before .before .before .before .before .before))
+unfolding L.K timesC4
+K4 c =
+    let m = l (c .before .before .before .before .before .before) in
+    let d = c .before .difference in
+    back w16 (c .times .result) (c .times .ok)
+    ∙ c .times .ensures
+    ∙ ap (times C4) (back w16 (d .result) (d .ok) ∙ d .ensures ∙ sub-same _ _ (L.e m) (L.k m) (e (c .before .before .before .before .before)) (k (c .before .before .before .before)))
 
-  abbrev e : Known w32 (L.e m) 65536
-  e = k-got (c .before .before .before .weighted-difference .ok) (E-is (c .before .before .before)) (c .before .before .before .weighted-difference .ensures .1)
-
-  abbrev k : Known w32 (L.k m) 65536
-  k = k-got (c .before .before .weighted-difference2 .ok) (K-is (c .before .before)) (c .before .before .weighted-difference2 .ensures .1)
-
-  abbrev g : Known w32 (L.g m) 65536
-  g = k-got (c .before .weighted-sum .ok) (G-is (c .before)) (c .before .weighted-sum .ensures .1)
-
-  abbrev h : Known w32 (L.h m) 65536
-  h = k-got (c .weighted-sum2 .ok) (H-is c) (c .weighted-sum2 .ensures .1)
-
--- the last two
-K4-is : (c : tie.After-times-c4) → c .times-c4 .result ≡ L.K (m (c .before))
-unfolding L.K
-K4-is c = c .times-c4 .ensures .0 ∙ ap timesC4 (k-sub (e (c .before)) (k (c .before)) tt .reads)
-
-G4-is : (c : tie.After-times-c42) → c .times-c42 .result ≡ L.G (m (c .before .before))
-unfolding L.G
-G4-is c = c .times-c42 .ensures .0 ∙ ap timesC4 (k-sub (h (c .before .before)) (g (c .before .before)) tt .reads)
-
-module _ (c : tie.After-times-c42) where
-  abbrev k4 : Known w32 (L.K (m (c .before .before))) 32768
-  k4 = k-got (c .before .times-c4 .ok) (K4-is (c .before)) (c .before .times-c4 .ensures .1)
-
-  abbrev g4 : Known w32 (L.G (m (c .before .before))) 32768
-  g4 = k-got (c .times-c42 .ok) (G4-is c) (c .times-c42 .ensures .1)
+G4 : (c : tie.After-times2) → toZ w16 (ofZ w16 (c .times2 .result)) ≡ L.G (l (c .before .before .before .before .before .before .before .before))
+unfolding L.G timesC4
+G4 c =
+    let m = l (c .before .before .before .before .before .before .before .before) in
+    let d = c .before .difference2 in
+    back w16 (c .times2 .result) (c .times2 .ok)
+    ∙ c .times2 .ensures
+    ∙ ap (times C4) (back w16 (d .result) (d .ok) ∙ d .ensures ∙ sub-same _ _ (L.h m) (L.g m) (h (c .before .before .before .before)) (g (c .before .before .before .before .before)))
 
 weighted-difference-requires : tie.Need-weighted-difference-requires
 weighted-difference-requires c κs = search needs
@@ -87,39 +92,45 @@ weighted-sum-requires c κs = search needs
 weighted-sum-requires-2 : tie.Need-weighted-sum-requires-2
 weighted-sum-requires-2 c κs = search needs
 
-sub-times-c4 : tie.Need-sub-times-c4
-sub-times-c4 c = ask-sub (e c) (k c) tt
+difference-requires : tie.Need-difference-requires
+difference-requires c κs = search needs
 
-times-c4-requires : tie.Need-times-c4-requires
-times-c4-requires c κs = search needs
+times-requires : tie.Need-times-requires
+times-requires c κs = search needs
 
-sub-times-c4-2 : tie.Need-sub-times-c4-2
-sub-times-c4-2 c = ask-sub (h (c .before)) (g (c .before)) tt
+difference-requires-2 : tie.Need-difference-requires-2
+difference-requires-2 c κs = search needs
 
-times-c4-requires-2 : tie.Need-times-c4-requires-2
-times-c4-requires-2 c κs = search needs
+times-requires-2 : tie.Need-times-requires-2
+times-requires-2 c κs = search needs
 
-add-t12 : tie.Need-add-t12
-add-t12 c = ask-add (h (c .before .before)) (g (c .before .before)) tt
+sum-requires : tie.Need-sum-requires
+sum-requires c κs = search needs
 
-add-t13 : tie.Need-add-t13
-add-t13 c = ask-add (g4 c) (k4 c) tt
+sum-requires-2 : tie.Need-sum-requires-2
+sum-requires-2 c κs = search needs
 
-sub-t14 : tie.Need-sub-t14
-sub-t14 c = ask-sub (g4 c) (k4 c) tt
+difference-requires-3 : tie.Need-difference-requires-3
+difference-requires-3 c κs = search needs
 
-add-t15 : tie.Need-add-t15
-add-t15 c = ask-add (e (c .before .before)) (k (c .before .before)) tt
+sum-requires-3 : tie.Need-sum-requires-3
+sum-requires-3 c κs = search needs
 
 returns : tie.Need-returns
 unfolding lastTerms
 returns c =
-    let t0 = k-add (h (c .before .before)) (g (c .before .before)) tt in
-    let t1 = k-add (g4 c) (k4 c) tt in
-    let t2 = k-sub (g4 c) (k4 c) tt in
-    let t3 = k-add (e (c .before .before)) (k (c .before .before)) tt in (
-      λ i. record { t0 = t0 .reads i; t1 = t1 .reads i; t2 = t2 .reads i; t3 = t3 .reads i },
-      record { t0 = ask-size t0 131072 tt; t1 = ask-size t1 131072 tt; t2 = ask-size t2 131072 tt; t3 = ask-size t3 131072 tt },
+    let s = c .before .before .before .before in
+    let m = l (s .before .before .before .before .before .before .before .before) in
+    let t0 = c .before .before .before .sum in
+    let t1 = c .before .before .sum2 in
+    let t2 = c .before .difference3 in
+    let t3 = c .sum3 in
+    let k4 = ap mod16 (K4 (s .before .before)) in
+    let g4 = ap mod16 (G4 s) in (
+      back w16 (t0 .result) (t0 .ok) ∙ t0 .ensures ∙ add-same _ _ (L.h m) (L.g m) (h (s .before .before .before .before)) (g (s .before .before .before .before .before)),
+      back w16 (t1 .result) (t1 .ok) ∙ t1 .ensures ∙ add-same _ _ (L.G m) (L.K m) g4 k4,
+      back w16 (t2 .result) (t2 .ok) ∙ t2 .ensures ∙ sub-same _ _ (L.G m) (L.K m) g4 k4,
+      back w16 (t3 .result) (t3 .ok) ∙ t3 .ensures ∙ add-same _ _ (L.e m) (L.k m) (e (s .before .before .before .before .before .before .before)) (k (s .before .before .before .before .before .before)),
     )
 
 pub last-terms-spec : {M : Type 1} → statement M
@@ -130,12 +141,12 @@ last-terms-spec =
     weighted-difference-requires-2
     weighted-sum-requires
     weighted-sum-requires-2
-    sub-times-c4
-    times-c4-requires
-    sub-times-c4-2
-    times-c4-requires-2
-    add-t12
-    add-t13
-    sub-t14
-    add-t15
+    difference-requires
+    times-requires
+    difference-requires-2
+    times-requires-2
+    sum-requires
+    sum-requires-2
+    difference-requires-3
+    sum-requires-3
     returns)

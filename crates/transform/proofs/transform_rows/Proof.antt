@@ -1,33 +1,36 @@
-use mathlib.Core.Path.{_≡_, refl, ap, _∙_}
+use borrow.Author.Needs.{needs}
+use mathlib.Core.Path.{_≡_, sym, ap, subst, _∙_}
 use mathlib.Core.List.{List}
 use Prim.Native.Nat.{ℕ, _≤_, _+_, _*_, _-_}
-use native.Mathlib.Numerals.{add-one}
 use native.Mathlib.Omega.{arith}
 use lib.ListN.{length}
 use lib.IntN.{ℤ}
-use Rattle.transform.specs.Block.{rows, transformLine}
+use Rattle.transform.specs.Line.{transformedLine}
+use Rattle.transform.specs.Block.{rows}
+use Rattle.transform.proofs.Turned.{turned, Both, no-row, next-row, all-rows}
 use Rattle.transform.proofs.transform_rows.Statement.{statement}
 use Rattle.transform.proofs.transform_rows.Tie as tie
 
 abbrev Inv-loop : tie.InvT-loop
-Inv-loop s₀ i₀ s i = (i ≤ 8) × (length s ≡ length s₀) × (s ≡ rows i s₀)
+Inv-loop t out₀ i₀ out i = (i ≤ 8) × (length out ≡ 64) × Both (i * 8) out (rows i (turned t))
 
 abbrev μ-loop : tie.MeasureT-loop
-μ-loop s₀ i₀ s i = 8 - i
-
-more : (n : ℕ) (s : List ℤ) → transformLine (rows n s) (n * 8) 1 ≡ rows (n + 1) s
-unfolding rows
-more n s = rw add-one
+μ-loop t out₀ i₀ out i = 8 - i
 
 loop-holds : tie.Need-loop-holds Inv-loop μ-loop
-unfolding rows
-loop-holds c = (omega arith, refl, refl)
+loop-holds c = (omega arith, c .pre .1, no-row (c .args .out .now) (c .args .turned .now) (c .pre .1))
 
-mul-transform-line : tie.Need-mul-transform-line Inv-loop μ-loop
-mul-transform-line c = omega arith
+line-at-requires : tie.Need-line-at-requires Inv-loop μ-loop
+line-at-requires c κs = omega arith
 
-transform-line-requires : tie.Need-transform-line-requires Inv-loop μ-loop
-transform-line-requires c κs = omega arith
+transformed-line-requires : tie.Need-transformed-line-requires Inv-loop μ-loop
+transformed-line-requires c κs = search needs
+
+mul-put-line : tie.Need-mul-put-line Inv-loop μ-loop
+mul-put-line c = omega arith
+
+put-line-requires : tie.Need-put-line-requires Inv-loop μ-loop
+put-line-requires c κs = omega arith
 
 add-i : tie.Need-add-i Inv-loop μ-loop
 add-i c = omega arith
@@ -37,20 +40,26 @@ loop-less c = omega arith
 
 loop-again : tie.Need-loop-again Inv-loop μ-loop
 loop-again c =
-    let h = c .before .before .before .before in
-    let n = h .loop .i in (
+    let l = c .before .before .before .before .before .before .loop in
+    let t = c .before .before .before .before .before .before .before .args .turned .now in
+    let r = c .before .before .before .transformed-line in
+    let n = l .i in (
       omega arith,
-      c .before .transform-line .kept .0 ∙ h .loop .inv .1,
-      c .before .transform-line .ensures ∙ ap (λ (l : List ℤ). transformLine l (n * 8) 1) (h .loop .inv .2) ∙ more n (h .before .args .s .now),
+      c .before .put-line .kept .0 ∙ l .inv .1,
+      subst (λ (m : List ℤ). Both ((n + 1) * 8) m (rows (n + 1) (turned t))) (sym (c .before .put-line .ensures))
+          (next-row (l .out) t n (r .result) (omega arith) (r .ensures ∙ ap transformedLine (c .before .before .before .before .line-at .ensures)) (l .inv .2)),
     )
 
 same-length : tie.Need-same-length Inv-loop μ-loop
 same-length c = omega arith
 
 returns : tie.Need-returns Inv-loop μ-loop
+unfolding turned
 returns c =
-    let e : c .before .loop .i ≡ 8 = omega arith in
-    c .before .loop .inv .2 ∙ ap (λ (n : ℕ). rows n (c .before .before .args .s .now)) e
+    let l = c .before .loop in
+    let t = c .before .before .args .turned .now in
+    let e : l .i ≡ 8 = omega arith in
+    all-rows (l .out) t (subst (λ (n : ℕ). Both (n * 8) (l .out) (rows n (turned t))) e (l .inv .2))
 
 pub transform-rows-spec : {M : Type 1} → statement M
 transform-rows-spec =
@@ -59,8 +68,10 @@ transform-rows-spec =
     Inv-loop
     μ-loop
     loop-holds
-    mul-transform-line
-    transform-line-requires
+    line-at-requires
+    transformed-line-requires
+    mul-put-line
+    put-line-requires
     add-i
     loop-less
     loop-again

@@ -1,16 +1,19 @@
 use borrow.Author.Needs.{needs}
-use mathlib.Core.Path.{ap, _∙_}
-use mir.Syntax.{w32}
-use Rattle.numeric.proofs.Known.{Known, k-any, k-got, k-sub, ask-sub, ask-size}
+use mathlib.Core.Path.{_≡_, ap, ap₂, _∙_}
+use lib.IntN.{ℤ, _-ℤ_}
+use mir.Syntax.{w16}
+use mir.Val.{toZ, ofZ}
+use Rattle.numeric.specs.Cut.{cut}
+use Rattle.numeric.proofs.Known.{k-any, back}
 use Rattle.transform.specs.Line.{times}
 use Rattle.transform.proofs.weighted_difference.Statement.{statement}
 use Rattle.transform.proofs.weighted_difference.Tie as tie
 
-abbrev cx : (c : tie.After-times) → Known w32 (times (c .before .args .c) (c .before .args .x)) 32768
-cx c = k-got (c .times .ok) (c .times .ensures .0 ∙ ap (times (c .before .args .c)) (k-any (c .before .fits .x) .reads)) (c .times .ensures .1)
+cx : (c : tie.After-times) → toZ w16 (ofZ w16 (c .times .result)) ≡ times (c .before .args .c) (c .before .args .x)
+cx c = back w16 (c .times .result) (c .times .ok) ∙ c .times .ensures ∙ ap (times (c .before .args .c)) (k-any (c .before .fits .x) .reads)
 
-abbrev dy : (c : tie.After-times2) → Known w32 (times (c .before .before .args .d) (c .before .before .args .y)) 32768
-dy c = k-got (c .times2 .ok) (c .times2 .ensures .0 ∙ ap (times (c .before .before .args .d)) (k-any (c .before .before .fits .y) .reads)) (c .times2 .ensures .1)
+dy : (c : tie.After-times2) → toZ w16 (ofZ w16 (c .times2 .result)) ≡ times (c .before .before .args .d) (c .before .before .args .y)
+dy c = back w16 (c .times2 .result) (c .times2 .ok) ∙ c .times2 .ensures ∙ ap (times (c .before .before .args .d)) (k-any (c .before .before .fits .y) .reads)
 
 times-requires : tie.Need-times-requires
 times-requires c κs = search needs
@@ -18,11 +21,11 @@ times-requires c κs = search needs
 times-requires-2 : tie.Need-times-requires-2
 times-requires-2 c κs = search needs
 
-sub-result : tie.Need-sub-result
-sub-result c = ask-sub (cx (c .before)) (dy c) tt
+difference-requires : tie.Need-difference-requires
+difference-requires c κs = search needs
 
 returns : tie.Need-returns
-returns c = let r = k-sub (cx (c .before)) (dy c) tt in (r .reads, ask-size r 65536 tt)
+returns c = back w16 (c .difference .result) (c .difference .ok) ∙ c .difference .ensures ∙ ap₂ (λ (u v : ℤ). cut (u -ℤ v)) (cx (c .before .before)) (dy (c .before))
 
 pub weighted-difference-spec : {M : Type 1} → statement M
-weighted-difference-spec = tie.close (tie.spec times-requires times-requires-2 sub-result returns)
+weighted-difference-spec = tie.close (tie.spec times-requires times-requires-2 difference-requires returns)
