@@ -1,4 +1,4 @@
--- Laws of `clamp255`: its range, and the three places where a number can lie.
+-- Laws of `clamp255`: the three places where a number can lie.
 -- Assumes nothing.
 use mathlib.Core.Path.{_≡_, refl, sym, subst}
 use mathlib.Core.Bool.{true, false}
@@ -10,11 +10,6 @@ use lib.IntN.{ℤ, pos, negsuc, natAbs}
 use lib.Signed.{ltZ, nonNeg}
 use Rattle.numeric.proofs.Magnitude.{Size, size}
 use Rattle.numeric.specs.Clamp.{clamp255}
-
-pub clamp-le : (z : ℤ) → clamp255 z ≤ 255
-unfolding clamp255
-clamp-le (pos n) = omega arith
-clamp-le (negsuc n) = omega arith
 
 -- a number in the range is itself
 pub clamp-same : (n : ℕ) → n ≤ 255 → clamp255 (pos n) ≡ n
