@@ -18,7 +18,8 @@ use Rattle.ways.specs.Ways.{Picture}
 use Rattle.reconstruct.specs.Picture.{Blocks, Matrices, pictureOf}
 use Rattle.decoding.specs.declared.FrameAnswer.{FrameAnswer}
 use Rattle.decoding.specs.declared.Verdict.the-variants.{Accepted, Refused}
-use Rattle.decoding.specs.Memory.{Memory, format, cleared}
+use Rattle.headers.specs.Sizes.{format}
+use Rattle.decoding.specs.Memory.{Memory, cleared}
 
 -- what is kept from call to call
 pub record State : Type 0 where

@@ -17,7 +17,7 @@ use Rattle.ways.specs.Loops.{_∈_}
 use Rattle.ways.specs.Ways.{firstWay, secondWay, AlongCoded}
 use Rattle.decoding.specs.declared.Verdict.{Verdict}
 use Rattle.decoding.specs.declared.Verdict.the-variants.{Accepted, Refused}
-use Rattle.decoding.specs.Memory.{format}
+use Rattle.headers.specs.Sizes.{format}
 use Rattle.decoding.specs.Answer.{State, Done, Asked, state, picture}
 use Rattle.theora.specs.Call.{Call, said, byRules, FramePromise}
 
