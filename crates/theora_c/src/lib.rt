@@ -58,11 +58,7 @@ fn store(list: &mut [u64], numbers: &[u64]) -> u32
     requires { ⌜ length (now list) ≡ length (now numbers) ⌝ }
     ensures { λ r. ⌜ gives r (now (list .exit)) ≡ gives 0 (now (numbers .entry)) ⌝ }
 {
-    let mut i = 0;
-    while i < numbers.len() {
-        list[i] = numbers[i];
-        i += 1;
-    }
+    buffer::copy_longs(list, numbers);
     0
 }
 
