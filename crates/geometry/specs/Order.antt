@@ -6,6 +6,7 @@ use lib.Dec.{ltb, eqb}
 use Rattle.geometry.specs.declared.Place.{Place}
 use Rattle.geometry.specs.Sizes.{tiles}
 
+-- the place in column x and row y
 abbrev pub at : ℕ → ℕ → Place
 at x y = record { x = x; y = y }
 

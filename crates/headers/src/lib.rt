@@ -417,6 +417,7 @@ pub enum SizesAnswer {
     Refused(u32),
 }
 
+// The size call: "identification part of 8".
 pub fn sizes(s: Session) -> SizesAnswer
     ensures { λ r. ⌜ r ≡ sessionSizes s ⌝ }
 {

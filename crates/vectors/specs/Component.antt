@@ -30,6 +30,7 @@ width t = getD (0 ∷ 0 ∷ 2 ∷ 3 ∷ 4 ∷ []) (t - 3) 0
 unfoldable pub least : ℕ → ℕ
 least t = getD (2 ∷ 3 ∷ 4 ∷ 8 ∷ 16 ∷ []) (t - 3) 0
 
+-- the variable code, by its first three bits
 unfoldable pub variable : Parse ℤ
 variable = do
   t ← field 3
