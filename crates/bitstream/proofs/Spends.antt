@@ -2,9 +2,9 @@
 --     ends     what it gets ends at i + n or before
 --     short    it refuses by 4 only where fewer than i + n bits are there
 -- Assumes nothing.
-use Prim.Native.Nat.{ℕ, zero, suc, _+_, _-_, _*_, _≤_, _<_, _^_, min}
+use Prim.Native.Nat.{ℕ, zero, suc, _+_, _-_, _*_, _≤_, _<_, _^_}
 use native.Mathlib.Omega.{arith}
-use native.Mathlib.Nat.{le-refl, le-trans, add-zero, zero-mul, suc-mul}
+use native.Mathlib.Nat.{zero-mul, suc-mul}
 use mathlib.Core.Path.{_≡_, refl, sym, ap, _∙_}
 use mathlib.Core.List.{List, [], _∷_, _++_}
 use mathlib.Core.Bool.{Bool, true, false}
@@ -13,8 +13,8 @@ use lib.ListN.{length, take, drop, length-take, take-append-drop}
 use lib.Seq.{take-all, length-take-le}
 use Rattle.bitstream.specs.Answer.{readable}
 use borrow.Author.Tests.{leb-true, leb-false, eqb-true, eqb-false}
-use Rattle.bitstream.specs.Bits.{bits, bitAt, number}
-use Rattle.bitstream.specs.Reading.{Outcome, got, refused, Parse, after, pure, bind, here, refuse, guard, field, judged, whole, times, until, pick, many}
+use Rattle.bitstream.specs.Bits.{bits}
+use Rattle.bitstream.specs.Reading.{Outcome, got, refused, Parse, after, pure, bind, here, refuse, guard, field, judged, whole, until, pick, many}
 use Rattle.bitstream.proofs.Laws.{Lawful, got-more, refused-more, whole-cases}
 use Rattle.bitstream.proofs.Fields.{no-mix, field-cases, field-value, field-lt}
 
@@ -28,9 +28,6 @@ spends-more h s = record { ends = λ p i x e r. omega (arith, s .ends p i x e r)
 
 pub pure-spends : {A : Type 0} (a : A) → Spends 0 (pure a)
 pure-spends a = record { ends = λ p i x e r. let z : i ≡ e = cc in omega arith; short = λ p i e r. no-mix r }
-
-pub here-spends : Spends 0 here
-here-spends = record { ends = λ p i x e r. let z : i ≡ e = cc in omega arith; short = λ p i e r. no-mix r }
 
 pub refuse-spends : {A : Type 0} (k e : ℕ) → (k ≡ 4 → ⊥) → Spends 0 (refuse {A = A} k e)
 refuse-spends k e h = record { ends = λ p i x d r. no-mix (sym r); short = λ p i d r. absurd (h cc) }
@@ -110,11 +107,6 @@ whole-spends {A} {n} {m} s =
 pub pick-spends : {A : Type 0} {a : ℕ} (b : Bool) {m n : Parse A} → (b ≡ true → Spends a m) → (b ≡ false → Spends a n) → Spends a (pick b m n)
 pick-spends true sm sn = sm refl
 pick-spends false sm sn = sn refl
-
-pub times-spends : {A : Type 0} (n : ℕ) {a : ℕ} {m : Parse A} (done : List A) → Spends a m → Spends (n * a) (times n m done)
-unfolding times
-times-spends zero {a} done s = rw zero-mul (pure-spends done)
-times-spends (suc n) {a} done s = spends-more (rw suc-mul (omega arith)) (bind-spends s (λ x. times-spends n (done ++ x ∷ []) s))
 
 pub many-spends : {A : Type 0} (n : ℕ) {a : ℕ} {m : Parse A} → Spends a m → Spends (n * a) (many n m)
 unfolding many

@@ -6,10 +6,12 @@ use mathlib.Core.Bool.{Bool, true, false}
 use lib.Dec.{leb}
 use Rattle.bitstream.specs.Bits.{bits, number}
 
+-- what a reading comes to: a value and the place behind it, or the number of a refusal and the place of the field at fault
 pub data Outcome (A : Type 0) : Type 0 where
   got : A → ℕ → Outcome A
   refused : ℕ → ℕ → Outcome A
 
+-- a parser: from a packet and a bit place to an outcome
 abbrev pub Parse : Type 0 → Type 0
 Parse A = List ℕ → ℕ → Outcome A
 
@@ -28,6 +30,7 @@ bind m f p i = after (m p i) (λ a e. f a p e)
 
 infixl 10 _>>=_
 infixl 10 _>>_
+-- `bind` as a sign, for `do`
 abbrev pub _>>=_ : {A B : Type 0} → Parse A → (A → Parse B) → Parse B
 m >>= f = bind m f
 

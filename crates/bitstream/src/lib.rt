@@ -73,6 +73,7 @@ fn field_at(packet: &[u8], at: usize, width: usize) -> Field
     Field::Got(value, end)
 }
 
+// A reader of a packet that stands at a bit place.
 pub fn reader_at<'a>(packet: &'a [u8], place: usize) -> BitReader<'a>
     ensures { λ r. ⌜ (r .packet ≡ packet .entry) × (r .place ≡ place) ⌝ }
 {

@@ -3,7 +3,7 @@
 use mathlib.Core.Path.{_≡_, refl, sym, ap, _∙_, subst}
 use mathlib.Core.Bool.{Bool, true, false, cond}
 use mathlib.Core.List.{List, map}
-use Prim.Native.Nat.{ℕ, zero, suc, _+_, _-_, _*_, _/_, _%_, _^_, _≤_, _<_}
+use Prim.Native.Nat.{ℕ, zero, suc, _+_, _-_, _*_, _/_, _%_, _≤_, _<_}
 use native.Mathlib.Omega.{arith}
 use borrow.Author.Tests.{eq-eqb, ne-eqb}
 use lib.Dec.{T, eqb}
@@ -100,19 +100,10 @@ bit-flag zero h = refl
 bit-flag (suc zero) h = refl
 bit-flag (suc (suc m)) h = absurd (omega arith)
 
--- the lowest bit is the coded flag
-pub coded-bit : (r : BlockRecord) → packed r % 2 ≡ flag (r .coded)
-unfolding packed
-coded-bit r = let h = flag-lt (r .coded) in omega arith
-
 -- a block that is not coded is 0
 pub packed-uncoded : packed uncoded ≡ 0
 unfolding packed predictionNumber
 packed-uncoded = refl
-
-pub packed-lt : (r : BlockRecord) → InRange r → packed r < 2 ^ 32
-unfolding packed
-packed-lt r h = omega (arith, prediction-lt (r .prediction) (h .prediction), flag-lt (r .coded), h .qi-index)
 
 -- packing loses nothing
 pub unpacked-packed : (r : BlockRecord) → InRange r → unpacked (packed r) ≡ r
@@ -130,10 +121,6 @@ unpacked-packed r h =
       «qi_index» = (ap (λ (m : ℕ). m % 4) d ∙ f) i;
       prediction = (ap predictionAt g ∙ prediction-back (r .prediction) (h .prediction)) i;
     }
-
--- whether two records in range are equal can be seen on their numbers
-pub packed-same : (r s : BlockRecord) → InRange r → InRange s → packed r ≡ packed s → r ≡ s
-packed-same r s h k e = sym (unpacked-packed r h) ∙ ap unpacked e ∙ unpacked-packed s k
 
 -- ---- the reference of a packed record's prediction
 

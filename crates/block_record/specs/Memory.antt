@@ -11,6 +11,7 @@ pub record IsPacked (n : ℕ) : Type 0 where
   pub in-range : InRange (unpacked n)
   pub same : packed (unpacked n) ≡ n
 
+-- every number is that of a record; the records of all
 unfoldable pub AllPacked : List ℕ → Type 0
 AllPacked [] = Unit {0}
 AllPacked (n ∷ ns) = IsPacked n × AllPacked ns

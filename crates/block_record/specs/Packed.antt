@@ -16,12 +16,14 @@ biased z = natAbs (z +ℤ pos 32)
 abbrev pub unbiased : ℕ → ℤ
 unbiased n = pos n -ℤ pos 32
 
+-- a vector, x in the lower 6 bits, and back
 unfoldable pub vectorNumber : Vector → ℕ
 vectorNumber v = biased (v .x) + biased (v .y) * 64
 
 unfoldable pub vectorAt : ℕ → Vector
 vectorAt n = record { x = unbiased (n % 64); y = unbiased (n / 64 % 64) }
 
+-- which reference, in the lowest 2 bits, with its vector, and back
 unfoldable pub predictionNumber : Prediction → ℕ
 predictionNumber None = 0
 predictionNumber (Previous v) = vectorNumber v * 4 + 1
@@ -30,10 +32,12 @@ predictionNumber (Golden v) = vectorNumber v * 4 + 2
 unfoldable pub predictionAt : ℕ → Prediction
 predictionAt n = cond (eqb (n % 4) 0) None (cond (eqb (n % 4) 1) (Previous (vectorAt (n / 4))) (Golden (vectorAt (n / 4))))
 
+-- the bit of the coded flag
 abbrev pub flag : Bool → ℕ
 flag true = 1
 flag false = 0
 
+-- the whole record, and back
 unfoldable pub packed : BlockRecord → ℕ
 packed r = predictionNumber (r .prediction) * 8 + r .«qi_index» * 2 + flag (r .coded)
 

@@ -68,7 +68,7 @@ fn prediction_at(n: u32) -> Prediction
 }
 
 // A record as a number.
-pub fn pack(r: BlockRecord) -> u32
+fn pack(r: BlockRecord) -> u32
     requires { ⌜ InRange r ⌝ }
     ensures { λ n. ⌜ n ≡ packed r ⌝ }
 {

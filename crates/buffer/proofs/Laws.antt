@@ -1,12 +1,16 @@
--- Laws of clearing: the first of a list become z, one after the other, and when nothing but z is left. Assumes nothing.
+-- Laws of copying and of clearing: the first of a list become those of another, or z, one after the other, and when nothing but z is left. Assumes nothing.
 use mathlib.Core.Path.{_≡_, refl, sym, ap, _∙_}
 use mathlib.Core.List.{List, [], _∷_, _++_, append-nil}
 use Prim.Native.Nat.{ℕ, zero, suc, _+_, _-_, _≤_, _<_}
 use native.Mathlib.Nat.{not-suc-le-zero, le-of-suc-le-suc, zero-sub, sub-zero, suc-sub-suc}
 use native.Mathlib.Numerals.{add-one}
 use native.Mathlib.Omega.{arith}
-use lib.ListN.{length, set, take, drop, replicate, replicate-append-replicate}
-use lib.Seq.{drop-length}
+use lib.ListN.{length, getD, set, take, drop, replicate, replicate-append-replicate}
+use lib.Seq.{drop-length, take-suc, take-suc-set}
+
+-- one number more of s
+pub copied-more : (d s : List ℕ) (i : ℕ) → i < length d → i < length s → take i d ≡ take i s → take (i + 1) (set d i (getD s i 0)) ≡ take (i + 1) s
+copied-more d s i h l e = rw (add-one i) (take-suc-set d i (getD s i 0) h ∙ ap (λ (t : List ℕ). t ++ (getD s i 0 ∷ [])) e ∙ sym (take-suc s i 0 l))
 
 -- the first n are z
 abbrev pub cleared : {A : Type 0} → A → ℕ → List A → List A

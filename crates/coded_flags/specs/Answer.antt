@@ -30,5 +30,6 @@ blockFlags partly count full bits t = choose (eqb partly 1) (take count (drop (t
 abbrev pub takenNext : ℕ → ℕ → Taken → Taken
 takenNext partly count t = choose (eqb partly 1) (record { full = t .full; bits = t .bits + count }) (record { full = t .full + 1; bits = t .bits })
 
+-- how many blocks are coded, and how many of them are luma blocks
 abbrev pub listedOf : PixelFormat → ℕ → ℕ → List ℕ → Listed
 listedOf f w h flags = record { count = length (codedBlocks f w h flags); luma = codedLuma f w h flags }

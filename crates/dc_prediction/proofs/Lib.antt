@@ -1,4 +1,4 @@
--- Steps: one more step of `upTo`; a test of two flags.
+-- Steps: a test of two flags.
 -- Examples: worked examples.
 pub mod Steps
 pub mod Examples

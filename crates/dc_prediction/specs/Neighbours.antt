@@ -10,10 +10,12 @@ use Rattle.block_record.specs.Record.{referenceOf, uncoded}
 use Rattle.dc_prediction.specs.declared.Neighbour.{Neighbour}
 use Rattle.dc_prediction.specs.Means.{meanLDr, meanDlDDr, meanOfTwo, replaced}
 
+-- no neighbour
 abbrev pub nobody : Neighbour
 nobody = record { counts = false; dc = pos 0 }
 
 module _ (records : List BlockRecord) where
+  -- the record of block n; none is as one that is not coded
   abbrev pub recordAt : ℕ → BlockRecord
   recordAt n = getD records n uncoded
 

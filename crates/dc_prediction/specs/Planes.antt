@@ -2,13 +2,14 @@
 use mathlib.Core.Bool.{Bool, true, cond, _&&_}
 use mathlib.Core.List.{List, [], _∷_}
 use mathlib.Core.Path.{_≡_}
-use Prim.Native.Nat.{ℕ, zero, suc, _+_, _-_, _*_, _≤_, _<_}
+use Prim.Native.Nat.{ℕ, _+_, _-_, _*_, _≤_, _<_}
 use lib.Dec.{ltb}
 use lib.IntN.{ℤ, pos, _+ℤ_}
 use lib.ListN.{getD, set}
 use Rattle.numeric.specs.Cut.{cut}
 use Rattle.block_record.specs.declared.BlockRecord.{BlockRecord}
 use Rattle.block_record.specs.Record.{referenceOf}
+use Rattle.ways.specs.Loops.{upTo}
 use Rattle.dc_prediction.specs.declared.LastDc.{LastDc}
 use Rattle.dc_prediction.specs.Neighbours.{recordAt, neighbourBack, predicted}
 
@@ -23,11 +24,6 @@ stateOf dc last = record { dc = dc; last = last }
 -- "at first 0"
 abbrev pub atFirst : LastDc
 atFirst = record { values = pos 0 ∷ pos 0 ∷ pos 0 ∷ [] }
-
--- the steps 0, 1, .. n - 1, one after the other
-unfoldable pub upTo : {A : Type 0} → ℕ → (ℕ → A → A) → A → A
-upTo zero step a = a
-upTo (suc n) step a = step n (upTo n step a)
 
 module _ (records : List BlockRecord) where
   -- the prediction of block b, which is number x of its row, for the reference r; the row has `across` blocks, and `below` says whether a row lies below it

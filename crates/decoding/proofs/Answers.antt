@@ -15,7 +15,8 @@ use Rattle.frame_packet.specs.Frame.{Frame}
 use Rattle.frame_packet.proofs.Laws.{packet-readable}
 use Rattle.ways.specs.Ways.{firstWay}
 use Rattle.decoding.specs.declared.FrameAnswer.{FrameAnswer}
-use Rattle.decoding.specs.Memory.{Memory, format, cleared}
+use Rattle.headers.specs.Sizes.{format}
+use Rattle.decoding.specs.Memory.{Memory, cleared}
 use Rattle.decoding.specs.Answer.{Done, state, done, readBy, read, answerFor, decoded}
 use Rattle.decoding.proofs.Held.{trees-proper}
 

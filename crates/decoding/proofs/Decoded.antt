@@ -34,7 +34,8 @@ use Rattle.reconstruct.proofs.Facts.{in-at, coded-by}
 use Rattle.reconstruct.proofs.Same.{Alike, lists-same}
 use Rattle.decoding.specs.declared.FrameAnswer.{FrameAnswer}
 use Rattle.decoding.specs.declared.Verdict.the-variants.{Accepted}
-use Rattle.decoding.specs.Memory.{memory, format, blocks, cleared}
+use Rattle.headers.specs.Sizes.{format}
+use Rattle.decoding.specs.Memory.{memory, blocks, cleared}
 use Rattle.decoding.specs.Answer.{state, done, readBy, picture, sessionAfter, answerFor, decoded}
 use Rattle.decoding.specs.Made.{AllQi, BlocksLent}
 use Rattle.decoding.proofs.Held.{trees-held}

@@ -18,7 +18,8 @@ use Rattle.ways.specs.Ways.{Picture}
 use Rattle.reconstruct.specs.Picture.{Blocks, Matrices, pictureOf}
 use Rattle.decoding.specs.declared.FrameAnswer.{FrameAnswer}
 use Rattle.decoding.specs.declared.Verdict.the-variants.{Accepted, Refused}
-use Rattle.decoding.specs.Memory.{Memory, format, cleared}
+use Rattle.headers.specs.Sizes.{format}
+use Rattle.decoding.specs.Memory.{Memory, cleared}
 
 -- what is kept from call to call
 pub record State : Type 0 where
@@ -56,11 +57,13 @@ read s table packet = after (heldSetup table) (λ setup _. readBy s setup packet
 abbrev pub qiAt : Asked → ℕ → ℕ
 qiAt a index = getD (a .frame .header .qis) index 0
 
+-- what the packet says of the blocks, as the picture takes it
 abbrev pub blocksAsked : Asked → Blocks
 blocksAsked a =
     let b = a .frame .body in
     record { records = b .records; coded = b .coded; coefs = b .tokens .coefs; lasts = b .tokens .lasts }
 
+-- the matrix of a type, a plane and the number of a qi of the frame
 abbrev pub matricesAsked : Asked → Matrices
 matricesAsked a type plane index = matrixOf (a .setup .parameters) type plane (qiAt a index)
 

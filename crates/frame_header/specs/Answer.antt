@@ -21,10 +21,12 @@ asHeader h = record { kind = h .kind; qis = three (h .qis); count = length (h .q
 abbrev pub repeated : Header
 repeated = asHeader (record { kind = Repeat; qis = [] })
 
+-- the qi that were read, or the refusal
 abbrev pub asQis : Outcome (List ℕ) → QisRead
 asQis (got qis e) = record { done = At e; qis = three qis; count = length qis }
 asQis (refused k e) = record { done = Refused k e; qis = three []; count = 0 }
 
+-- a header that was read, or the refusal
 abbrev pub asRead : Outcome FrameHeader → HeaderRead
 asRead (got h e) = record { done = At e; header = asHeader h }
 asRead (refused k e) = record { done = Refused k e; header = repeated }

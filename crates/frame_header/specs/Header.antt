@@ -7,6 +7,7 @@ use Rattle.bitstream.specs.Reading.{Parse, pure, bind, pick, choose, field, jud
 use Rattle.frame_header.specs.declared.Kind.{Kind}
 use Rattle.frame_header.specs.declared.Kind.the-variants.{Intra, Inter}
 
+-- a bit or bits that must be 0
 abbrev pub isZero : ℕ → Bool
 isZero v = eqb v 0
 
@@ -37,6 +38,7 @@ qiList = do
 unfoldable pub reserved : ℕ → Parse ℕ
 reserved t = pick (eqb t 0) (judged 3 isZero 11) (pure 0)
 
+-- "type (0 intra)": 1 is inter
 unfoldable pub kindOf : ℕ → Kind
 kindOf t = choose (eqb t 0) Intra Inter
 
@@ -45,6 +47,7 @@ pub record FrameHeader : Type 0 where
   pub kind : Kind
   pub qis : List ℕ
 
+-- "Else bit 0; type (0 intra); qi 6 bits, up to two more ..; intra: 3 zero bits"
 unfoldable pub frameHeader : Bool → Parse FrameHeader
 frameHeader references = do
   t ← frameType references

@@ -27,7 +27,8 @@ use Rattle.modes.specs.Modes.{sentAlphabet, lumaCoded, modeOf, modesFrom, macro
 use Rattle.vectors.specs.Motion.{still, motion, predictionOf}
 use Rattle.vectors.specs.Vectors.{numberIn, codedIn, predictedAt, predictedFrom, macroBlock, macroBlocks, vectors}
 use Rattle.block_qi.specs.BlockQi.{steps, blockQi}
-use Rattle.token.specs.Token.{rowOf, valueOf, meaning, extra}
+use Rattle.numeric.specs.Sign.{withSign}
+use Rattle.token.specs.Token.{rowOf, meaning, extra}
 use Rattle.tokens.specs.Tokens.{token, unfinished, runOf, act, readFor, visit, pass, group, table, choices, atPosition, positionsFrom, ranks, start, readTokens}
 use Rattle.frame_packet.specs.Frame.{Frame, flagsOf, predictions, body, frame, framePacket}
 
@@ -68,5 +69,5 @@ nothing = refl
 ones-all : framePacket Chroma420 1 1 (replicate 80 (leaf 9)) false (0x10 ∷ 0x00 ∷ 0x00 ∷ 0x00 ∷ []) ≡ got (given Intra (16 ∷ []) (0 ∷ 1 ∷ 3 ∷ 2 ∷ 4 ∷ 5 ∷ []) (replicate 6 nowCoded) (replicate 384 (pos 1)) (replicate 6 63) 384) 28
 unfolding framePacket frame frameHeader frameType moreQis qiList reserved kindOf judged body flagsOf predictions
     intraFlags ones order flagged codedBlocks codedLuma setAt codedRecords rasterNumber frameOrder planeOrder inPlane inTurn ordered rowOfTiles tile present moved blocksOf blocksBefore total
-    blockQi steps readTokens positionsFrom atPosition choices table group ranks start pass visit readFor act runOf unfinished token tokenCode code extra meaning valueOf rowOf whole field number bitAt
+    blockQi steps readTokens positionsFrom atPosition choices table group ranks start pass visit readFor act runOf unfinished token tokenCode code extra meaning withSign rowOf whole field number bitAt
 ones-all = refl

@@ -32,6 +32,7 @@ pub record Frame : Type 0 where
   pub header : FrameHeader
   pub body : Body
 
+-- whether a frame is intra
 abbrev pub isIntra : Kind → Bool
 isIntra Intra = true
 isIntra Inter = false

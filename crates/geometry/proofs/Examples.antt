@@ -5,7 +5,7 @@ use native.Mathlib.Omega.{arith}
 use lib.ListN.{length}
 use Rattle.geometry.specs.declared.PixelFormat.the-variants.{Chroma420, Chroma444}
 use Rattle.geometry.specs.Sizes.{blocksOf, superBlocksOf, planeOf, total}
-use Rattle.geometry.specs.Order.{blockWalk, ordered, row, tile, inTurn, moved, present, find, blockNumber, macroNumber}
+use Rattle.geometry.specs.Order.{blockWalk, ordered, row, tile, inTurn, moved, present, find, blockNumber, codedMacros}
 use Rattle.geometry.specs.Rank.{rankIn}
 use Rattle.geometry.specs.Tile.{reach}
 use Rattle.geometry.proofs.Orders.{indexOf}
@@ -34,7 +34,7 @@ unfolding ordered row tile inTurn moved present find
 block-3-5 = refl
 
 -- 15 by 3 macro blocks: the third row begins with number 30
-pub macro-0-2 : macroNumber 15 3 0 2 ≡ 30
+pub macro-0-2 : find 0 2 (codedMacros 15 3) ≡ 30
 unfolding ordered row tile inTurn moved present find
 macro-0-2 = refl
 

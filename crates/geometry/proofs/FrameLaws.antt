@@ -10,7 +10,7 @@ use Rattle.geometry.specs.declared.Place.{Place}
 use Rattle.geometry.specs.declared.Block.{Block}
 use Rattle.geometry.specs.declared.Plane.{Plane}
 use Rattle.geometry.specs.Sizes.{across, up, planeBlocks, blocksBefore, blocksOf, planeOf}
-use Rattle.geometry.specs.Order.{at, inTurn, blockWalk, codedBlocks}
+use Rattle.geometry.specs.Order.{at, inTurn, blockWalk, blockOrder}
 use Rattle.geometry.specs.Rank.{rankIn}
 use Rattle.geometry.specs.Frame.{block, InFrame, inPlane, planeOrder, frameOrder}
 use Rattle.geometry.proofs.SizeLaws.{before-next}
@@ -37,7 +37,7 @@ numberOf f w h b = blocksBefore f w h (b .plane) + indexOf 4 (rankIn blockWalk) 
 module _ (f : PixelFormat) (w h : ℕ) where
   plane-length : (p : ℕ) → length (planeOrder f w h p) ≡ planeBlocks f w h p
   unfolding planeOrder
-  plane-length p = in-plane-length p (codedBlocks (across f w p) (up f h p)) ∙ block-order (across f w p) (up f h p) .all
+  plane-length p = in-plane-length p (blockOrder (across f w p) (up f h p)) ∙ block-order (across f w p) (up f h p) .all
 
   pub before-length : (p : ℕ) → length (inTurn (planeOrder f w h) p) ≡ blocksBefore f w h p
   unfolding blocksBefore
@@ -48,7 +48,7 @@ module _ (f : PixelFormat) (w h : ℕ) where
   frame-length = turn-total (planeOrder f w h) (planeBlocks f w h) plane-length 3
 
   -- block i of plane p
-  pub frame-at : (p i : ℕ) → p < 3 → i < planeBlocks f w h p → let q = getD (codedBlocks (across f w p) (up f h p)) i (at 0 0) in
+  pub frame-at : (p i : ℕ) → p < 3 → i < planeBlocks f w h p → let q = getD (blockOrder (across f w p) (up f h p)) i (at 0 0) in
       (blocksBefore f w h p + i < blocksOf f w h) × (getD (frameOrder f w h) (blocksBefore f w h p + i) (block 0 0 0) ≡ block p (q .x) (q .y))
   unfolding frameOrder planeOrder
   frame-at p i hp hi =
@@ -58,7 +58,7 @@ module _ (f : PixelFormat) (w h : ℕ) where
         omega (arith, frame-length),
         ap (λ (k : ℕ). getD (inTurn (planeOrder f w h) 3) (k + i) (block 0 0 0)) (sym e)
             ∙ turn-at (planeOrder f w h) 3 p i (block 0 0 0) hp l
-            ∙ in-plane-at p i (codedBlocks (across f w p) (up f h p)) (omega (arith, block-order (across f w p) (up f h p) .all)),
+            ∙ in-plane-at p i (blockOrder (across f w p) (up f h p)) (omega (arith, block-order (across f w p) (up f h p) .all)),
       )
 
   -- there: each block of the frame stands at its number
@@ -77,7 +77,7 @@ module _ (f : PixelFormat) (w h : ℕ) where
       let s = part-of (planeBlocks f w h) 3 i hi in
       let p = s .of in
       let t = block-order (across f w p) (up f h p) .back (s .rest) (s .rest-below) in
-      let q = getD (codedBlocks (across f w p) (up f h p)) (s .rest) (at 0 0) in
+      let q = getD (blockOrder (across f w p) (up f h p)) (s .rest) (at 0 0) in
       let e : getD (frameOrder f w h) i (block 0 0 0) ≡ block p (q .x) (q .y) =
       ap (λ (k : ℕ). getD (frameOrder f w h) k (block 0 0 0)) (sym (s .sum)) ∙ frame-at p (s .rest) (s .of-below) (s .rest-below) .1 in
       rw e (record { of-three = s .of-below; column = t .0; row = t .1 }, ap (λ (k : ℕ). blocksBefore f w h p + k) (t .2) ∙ s .sum)
@@ -86,16 +86,12 @@ module _ (f : PixelFormat) (w h : ℕ) where
   pub frame-once : (i j : ℕ) → i < blocksOf f w h → j < blocksOf f w h → getD (frameOrder f w h) i (block 0 0 0) ≡ getD (frameOrder f w h) j (block 0 0 0) → i ≡ j
   frame-once i j hi hj e = sym (frame-back i hi .1) ∙ ap (numberOf f w h) e ∙ frame-back j hj .1
 
-  -- so where a block stands is its number, and there is no other
-  pub the-number : (b : Block) (r : ℕ) → r < blocksOf f w h → getD (frameOrder f w h) r (block 0 0 0) ≡ b → r ≡ numberOf f w h b
-  the-number b r hr e = sym (frame-back r hr .1) ∙ ap (numberOf f w h) e
-
 -- ---- over the numbers that a program has in its variables: q is plane p
 module _ (f : PixelFormat) (w h p i : ℕ) (q : Plane) (hp : p < 3) (hl : blocksBefore f w h p ≤ i) (hu : i < blocksBefore f w h (suc p)) (e : q ≡ planeOf f w h p) where
   pub at-fits : (q .offset / 64 ≤ i) × (i - q .offset / 64 < q .up * q .across)
   at-fits = let n = before-next f w h p in rw e (omega arith, omega arith)
 
-  pub at-by : (s : Place) → s ≡ getD (codedBlocks (q .across) (q .up)) (i - q .offset / 64) (at 0 0) → block p (s .x) (s .y) ≡ getD (frameOrder f w h) i (block 0 0 0)
+  pub at-by : (s : Place) → s ≡ getD (blockOrder (q .across) (q .up)) (i - q .offset / 64) (at 0 0) → block p (s .x) (s .y) ≡ getD (frameOrder f w h) i (block 0 0 0)
   at-by s es =
       let n = before-next f w h p in
       let d : i - 64 * blocksBefore f w h p / 64 ≡ i - blocksBefore f w h p = omega arith in
@@ -108,7 +104,7 @@ module _ (f : PixelFormat) (w h : ℕ) (b : Block) (q : Plane) (k : InFrame f w 
   pub number-fits : (b .x < q .across) × (b .y < q .up)
   number-fits = rw e (k .column, k .row)
 
-  pub number-by : (n : ℕ) → n < q .up * q .across → getD (codedBlocks (q .across) (q .up)) n (at 0 0) ≡ at (b .x) (b .y)
+  pub number-by : (n : ℕ) → n < q .up * q .across → getD (blockOrder (q .across) (q .up)) n (at 0 0) ≡ at (b .x) (b .y)
       → (q .offset / 64 + n < blocksOf f w h) × (getD (frameOrder f w h) (q .offset / 64 + n) (block 0 0 0) ≡ b)
   number-by n hn en =
       let d : 64 * blocksBefore f w h (b .plane) / 64 ≡ blocksBefore f w h (b .plane) = omega arith in

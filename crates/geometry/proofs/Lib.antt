@@ -1,9 +1,9 @@
 -- What other crates cite:
 --   SizeLaws: blocks-each (6, 8, 12 to a macro block), sizes-small (bounds), before-planes, before-next (the planes in the buffer)
 --   PlaneOrders: block-order, macro-order (each place of a plane once: EachOnce)
---   FrameLaws: frame-length, frame-there, frame-back, frame-once, the-number (each block of the frame once)
+--   FrameLaws: frame-length, frame-there, frame-back, frame-once (each block of the frame once)
 --   SuperBlockLaws: frame-flat (the order is one super block after the other), super-end
---   MacroLaws: in-macro (a block and its macro block), macro-in-frame, frame-of-macro, element-in-frame, luma-macro (luma block i: macro block i / 4)
+--   MacroLaws: in-macro (a block and its macro block), frame-of-macro, element-in-frame, luma-macro (luma block i: macro block i / 4)
 --   RasterLaws: raster-number-below
 --   SampleLaws: sample-below, sample-once, sample-hit; plane-below, plane-once, plane-hit for one plane
 --   Raster: rows of w one after the other. Lists, Sums: lists in turn and their lengths

@@ -8,7 +8,7 @@ use borrow.Author.Tests.{eqb-true}
 use lib.Dec.{eqb}
 use lib.ListN.{getD}
 use Rattle.geometry.specs.declared.Place.{Place}
-use Rattle.geometry.specs.Order.{at, present, find, blockWalk, macroWalk, codedBlocks, codedMacros}
+use Rattle.geometry.specs.Order.{at, present, find, blockWalk, macroWalk, blockOrder, codedMacros}
 use Rattle.geometry.specs.Rank.{rankIn}
 use Rattle.geometry.specs.Tile.{reach}
 use Rattle.geometry.proofs.Tests.{both, upto, upto-at}
@@ -44,23 +44,23 @@ module _ (w h : ℕ) where
       (quarter w (reach 2 h (y / 4)) (x / 4) (y / 4) (rankIn blockWalk (2 * reach 2 w (x / 4)) (2 * reach 2 h (y / 4)) (x % 4) (y % 4))
       ∙ ap (λ (k : ℕ). 2 * (y / 4) * w + (2 * (x / 4) * reach 2 h (y / 4) + k)) (four (reach 2 w (x / 4)) (reach 2 h (y / 4)) (x % 4) (y % 4) (omega arith) (omega arith) (omega arith) (omega arith)))
 
-  pub macro-of : (i : ℕ) → i < 2 * h * (2 * w) → let p = getD (codedBlocks (2 * w) (2 * h)) i (at 0 0) in
+  pub macro-of : (i : ℕ) → i < 2 * h * (2 * w) → let p = getD (blockOrder (2 * w) (2 * h)) i (at 0 0) in
       (i / 4 < h * w) × (getD (codedMacros w h) (i / 4) (at 0 0) ≡ at (p .x / 2) (p .y / 2))
   macro-of i hi =
-      let p = getD (codedBlocks (2 * w) (2 * h)) i (at 0 0) in
+      let p = getD (blockOrder (2 * w) (2 * h)) i (at 0 0) in
       let b = block-order (2 * w) (2 * h) .back i hi in
       let t = macro-order w h .there (p .x / 2) (p .y / 2) (omega (arith, b .0)) (omega (arith, b .1)) in
       let e : i / 4 ≡ indexOf 2 (rankIn macroWalk) w h (p .x / 2) (p .y / 2) = ap (λ (k : ℕ). k / 4) (sym (b .2)) ∙ macro-index (p .x) (p .y) (b .0) (b .1) in
       (rw e (t .0), ap (λ (k : ℕ). getD (codedMacros w h) k (at 0 0)) e ∙ t .1)
 
   -- and back: the macro block's first luma block, over the numbers that a program has in its variables
-  pub macro-at-by : (i : ℕ) (p : Place) → i < h * w → p ≡ getD (codedBlocks (2 * w) (2 * h)) (4 * i) (at 0 0) → at (p .x / 2) (p .y / 2) ≡ getD (codedMacros w h) i (at 0 0)
+  pub macro-at-by : (i : ℕ) (p : Place) → i < h * w → p ≡ getD (blockOrder (2 * w) (2 * h)) (4 * i) (at 0 0) → at (p .x / 2) (p .y / 2) ≡ getD (codedMacros w h) i (at 0 0)
   macro-at-by i p hi e =
       let d : 4 * i / 4 ≡ i = omega arith in
       let m = macro-of (4 * i) (omega (arith, mul-mul-mul-comm 2 h 2 w)) .1 in
       ap (λ (q : Place). at (q .x / 2) (q .y / 2)) e ∙ sym m ∙ ap (λ (k : ℕ). getD (codedMacros w h) k (at 0 0)) d
 
-  pub macro-number-by : (x y r : ℕ) → r < 2 * h * (2 * w) → getD (codedBlocks (2 * w) (2 * h)) r (at 0 0) ≡ at (2 * x) (2 * y)
+  pub macro-number-by : (x y r : ℕ) → r < 2 * h * (2 * w) → getD (blockOrder (2 * w) (2 * h)) r (at 0 0) ≡ at (2 * x) (2 * y)
       → (r / 4 < h * w) × (getD (codedMacros w h) (r / 4) (at 0 0) ≡ at x y)
   macro-number-by x y r hr e =
       let dx : 2 * x / 2 ≡ x = omega arith in

@@ -11,7 +11,7 @@ use Rattle.geometry.specs.declared.PixelFormat.the-variants.{Chroma420, 
 use Rattle.geometry.specs.declared.Place.{Place}
 use Rattle.geometry.specs.declared.Block.{Block}
 use Rattle.geometry.specs.Sizes.{across, up, planeBlocks, blocksBefore, macroBlocksOf, blocksEach}
-use Rattle.geometry.specs.Order.{at, codedBlocks, codedMacros}
+use Rattle.geometry.specs.Order.{at, blockOrder, codedMacros}
 use Rattle.geometry.specs.Frame.{block, InFrame, frameOrder}
 use Rattle.geometry.specs.Macro.{fourOf, chromaOf, blocksOfMacro, macroOfChroma, macroIn, macroOf}
 use Rattle.geometry.proofs.SizeLaws.{before-luma}
@@ -205,17 +205,6 @@ module _ (f : PixelFormat) where
     pub in-macro : b .plane < 3 → List·Memᴰ b (blocksOfMacro f x y) ↔ (macroOf f b ≡ at x y)
     in-macro l = (λ d. macro-of-member d .1, λ e. subst (λ (q : Place). List·Memᴰ b (blocksOfMacro f (q .x) (q .y))) e (in-its-macro b l))
 
--- a block lies in the frame exactly where its macro block does
-pub macro-in-frame : (f : PixelFormat) (w h : ℕ) (b : Block) → InFrame f w h b → (macroOf f b .x < w) × (macroOf f b .y < h)
-unfolding macroOf
-macro-in-frame f w h b k = go f (b .plane) (k .column) (k .row)
-  where
-    go : (f : PixelFormat) (p : ℕ) → b .x < across f w p → b .y < up f h p → (macroIn f p (b .x) (b .y) .x < w) × (macroIn f p (b .x) (b .y) .y < h)
-    go f zero hx hy = (omega arith, omega arith)
-    go Chroma420 (suc p) hx hy = (hx, hy)
-    go Chroma422 (suc p) hx hy = (hx, omega arith)
-    go Chroma444 (suc p) hx hy = (omega arith, omega arith)
-
 pub frame-of-macro : (f : PixelFormat) (w h : ℕ) (b : Block) → b .plane < 3 → macroOf f b .x < w → macroOf f b .y < h → InFrame f w h b
 unfolding macroOf
 frame-of-macro f w h b l hx hy = let r = go f (b .plane) hx hy in record { of-three = l; column = r .0; row = r .1 }
@@ -249,7 +238,7 @@ pub luma-macro : (f : PixelFormat) (w h i : ℕ) → i < planeBlocks f w h 0 →
     (b .plane ≡ 0) × (i / 4 < macroBlocksOf w h) × (getD (codedMacros w h) (i / 4) (at 0 0) ≡ macroOf f b)
 unfolding macroOf
 luma-macro f w h i hi =
-    let q = getD (codedBlocks (2 * w) (2 * h)) i (at 0 0) in
+    let q = getD (blockOrder (2 * w) (2 * h)) i (at 0 0) in
     let z : blocksBefore f w h 0 + i ≡ i = omega (arith, before-luma f w h) in
     let e : getD (frameOrder f w h) i (block 0 0 0) ≡ block 0 (q .x) (q .y) =
     ap (λ (k : ℕ). getD (frameOrder f w h) k (block 0 0 0)) (sym z) ∙ frame-at f w h 0 i (omega arith) hi .1 in

@@ -4,7 +4,7 @@ use mathlib.Core.List.{List}
 use Prim.Native.Nat.{ℕ, _*_, _<_}
 use lib.ListN.{length, getD}
 use Rattle.geometry.specs.declared.Place.{Place}
-use Rattle.geometry.specs.Order.{at, ordered, find, codedBlocks, codedMacros, blockWalk, macroWalk}
+use Rattle.geometry.specs.Order.{at, ordered, find, blockOrder, codedMacros, blockWalk, macroWalk}
 use Rattle.geometry.specs.Rank.{rankIn}
 use Rattle.geometry.proofs.Orders.{Walk, indexOf, ordered-length, there, back, once, found}
 use Rattle.geometry.proofs.Walks.{block-walk, macro-walk}
@@ -27,7 +27,7 @@ each-once s walk rank ok w h = record {
   found = found s walk rank ok w h;
 }
 
-pub block-order : (w h : ℕ) → EachOnce (codedBlocks w h) (indexOf 4 (rankIn blockWalk) w h) w h
+pub block-order : (w h : ℕ) → EachOnce (blockOrder w h) (indexOf 4 (rankIn blockWalk) w h) w h
 block-order = each-once 4 blockWalk (rankIn blockWalk) block-walk
 
 pub macro-order : (w h : ℕ) → EachOnce (codedMacros w h) (indexOf 2 (rankIn macroWalk) w h) w h

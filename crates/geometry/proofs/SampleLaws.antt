@@ -6,10 +6,9 @@ use native.Mathlib.Omega.{arith}
 use Rattle.geometry.specs.declared.PixelFormat.{PixelFormat}
 use Rattle.geometry.specs.declared.Block.{Block}
 use Rattle.geometry.specs.declared.Plane.{Plane}
-use Rattle.geometry.specs.declared.Sample.{Sample}
 use Rattle.geometry.specs.Sizes.{across, up, planeBlocks, blocksBefore, blocksOf, planeOf}
 use Rattle.geometry.specs.Frame.{block, InFrame}
-use Rattle.geometry.specs.Sample.{sampleIn, sampleAt, LiesAt}
+use Rattle.geometry.specs.Sample.{Sample, sampleIn, sampleAt, LiesAt}
 use Rattle.geometry.proofs.Sums.{part-of, total-once}
 use Rattle.geometry.proofs.Raster.{raster-below, raster-once, raster-back}
 use Rattle.geometry.proofs.SizeLaws.{before-next, before-to}
@@ -88,10 +87,6 @@ module _ (f : PixelFormat) (w h : ℕ) where
             lies = omega (arith, t .3);
           },
         )
-
-    pub lies-by : (q : Plane) → q ≡ planeOf f w h p → let i = o - q .offset in let n = 8 * q .across in
-        (0 < n) × (q .offset ≤ o) × LiesAt f w h o (sample (block p (i % n / 8) (i / n / 8)) (i % n % 8) (i / n % 8))
-    lies-by q e = rw e lies-at
 
   -- every byte of the buffer is a sample
   pub sample-hit : (o : ℕ) → o < 64 * blocksOf f w h → (s : Sample) × LiesAt f w h o s

@@ -8,7 +8,6 @@ use Rattle.geometry.specs.declared.PixelFormat.the-variants.{Chroma420, 
 use Rattle.geometry.specs.declared.Plane.{Plane}
 use Rattle.geometry.specs.declared.FrameSizes.{FrameSizes}
 use Rattle.geometry.specs.Sizes.{chromaAcross, chromaUp, across, up, tiles, total, planeBlocks, planeSuperBlocks, macroBlocksOf, blocksOf, superBlocksOf, blocksBefore, planeOf, sizesOf, blocksEach}
-use Rattle.geometry.proofs.Products.{plane-small}
 
 -- the blocks before each plane
 module _ (f : PixelFormat) (w h : ℕ) where
@@ -74,9 +73,6 @@ pub record SizesSmall (f : PixelFormat) (w h : ℕ) : Type 0 where
   pub buffer : 64 * blocksOf f w h ≤ 3298434220800
 
 module _ (f : PixelFormat) (w h : ℕ) (hw : w ≤ 65535) (hh : h ≤ 65535) where
-  pub plane-blocks-small : (p : ℕ) → planeBlocks f w h p ≤ 17179344900
-  plane-blocks-small p = plane-small (up f h p) (across f w p) (up-small f h p hh) (across-small f w p hw)
-
   macros-small : macroBlocksOf w h ≤ 4294836225
   macros-small = mul-le-mul hh hw
 

@@ -7,8 +7,9 @@ use Rattle.geometry.specs.declared.PixelFormat.{PixelFormat}
 use Rattle.geometry.specs.declared.Place.{Place}
 use Rattle.geometry.specs.declared.Block.{Block}
 use Rattle.geometry.specs.Sizes.{across, up, total, planeSuperBlocks}
-use Rattle.geometry.specs.Order.{inTurn, blockWalk, codedBlocks, tileNo}
+use Rattle.geometry.specs.Order.{inTurn, blockWalk, blockOrder, tileNo}
 
+-- block (x, y) of plane p
 abbrev pub block : ℕ → ℕ → ℕ → Block
 block p x y = record { plane = p; x = x; y = y }
 
@@ -23,9 +24,11 @@ unfoldable pub inPlane : ℕ → List Place → List Block
 inPlane p [] = []
 inPlane p (q ∷ qs) = block p (q .x) (q .y) ∷ inPlane p qs
 
+-- the blocks of plane p in coded order
 unfoldable pub planeOrder : PixelFormat → ℕ → ℕ → ℕ → List Block
-planeOrder f w h p = inPlane p (codedBlocks (across f w p) (up f h p))
+planeOrder f w h p = inPlane p (blockOrder (across f w p) (up f h p))
 
+-- "Planes follow on": all blocks of the frame in coded order
 unfoldable pub frameOrder : PixelFormat → ℕ → ℕ → List Block
 frameOrder f w h = inTurn (planeOrder f w h) 3
 

@@ -6,6 +6,7 @@ use lib.Dec.{ltb, eqb}
 use Rattle.geometry.specs.declared.Place.{Place}
 use Rattle.geometry.specs.Sizes.{tiles}
 
+-- the place in column x and row y
 abbrev pub at : ℕ → ℕ → Place
 at x y = record { x = x; y = y }
 
@@ -51,8 +52,8 @@ unfoldable pub ordered : ℕ → List Place → ℕ → ℕ → List Place
 ordered s walk w h = inTurn (row s walk w h) (tiles s h)
 
 -- a plane of w by h blocks; a frame of w by h macro blocks
-abbrev pub codedBlocks : ℕ → ℕ → List Place
-codedBlocks w h = ordered 4 blockWalk w h
+abbrev pub blockOrder : ℕ → ℕ → List Place
+blockOrder w h = ordered 4 blockWalk w h
 
 abbrev pub codedMacros : ℕ → ℕ → List Place
 codedMacros w h = ordered 2 macroWalk w h
@@ -71,9 +72,6 @@ unfoldable pub find : ℕ → ℕ → List Place → ℕ
 find x y [] = 0
 find x y (p ∷ ps) = here (eqb (p .x) x) (eqb (p .y) y) (find x y ps)
 
--- the number of block (x, y) of a plane, of macro block (x, y) of a frame
+-- the number of block (x, y) of a plane
 abbrev pub blockNumber : ℕ → ℕ → ℕ → ℕ → ℕ
-blockNumber w h x y = find x y (codedBlocks w h)
-
-abbrev pub macroNumber : ℕ → ℕ → ℕ → ℕ → ℕ
-macroNumber w h x y = find x y (codedMacros w h)
+blockNumber w h x y = find x y (blockOrder w h)

@@ -3,7 +3,6 @@ use mathlib.Core.Path.{_≡_}
 use Prim.Native.Nat.{ℕ, _+_, _*_, _<_}
 use Rattle.geometry.specs.declared.PixelFormat.{PixelFormat}
 use Rattle.geometry.specs.declared.Block.{Block}
-use Rattle.geometry.specs.declared.Sample.{Sample}
 use Rattle.geometry.specs.Sizes.{across, blocksBefore}
 use Rattle.geometry.specs.Frame.{InFrame}
 
@@ -14,6 +13,12 @@ sampleIn a x y c r = (8 * y + r) * (8 * a) + (8 * x + c)
 -- column c and row r of block b of the frame
 unfoldable pub sampleAt : PixelFormat → ℕ → ℕ → Block → ℕ → ℕ → ℕ
 sampleAt f w h b c r = 64 * blocksBefore f w h (b .plane) + sampleIn (across f w (b .plane)) (b .x) (b .y) c r
+
+-- a sample: a column and a row, from the lower left, of a block
+pub record Sample : Type 0 where
+  pub block : Block
+  pub column : ℕ
+  pub row : ℕ
 
 -- sample s of the frame lies at o
 pub record LiesAt (f : PixelFormat) (w h o : ℕ) (s : Sample) : Type 0 where

@@ -5,11 +5,11 @@ ghost use mathlib.Core.Path.{_≡_};
 ghost use Prim.Native.Nat.{ℕ, suc, _+_, _*_, _/_, _≤_, _<_};
 ghost use lib.ListN.{length, getD};
 ghost use Rattle.geometry.specs.Sizes.{chromaAcross, chromaUp, tiles, planeSuperBlocks, macroBlocksOf, blocksOf, superBlocksOf, blocksBefore, blocksEach, planeOf, sizesOf};
-ghost use Rattle.geometry.specs.Order.{at, inTurn, tileNo, blockWalk, codedBlocks, codedMacros};
+ghost use Rattle.geometry.specs.Order.{at, inTurn, tileNo, blockWalk, blockOrder, codedMacros};
 ghost use Rattle.geometry.specs.Frame.{block, frameOrder, InFrame, superBlocksBefore, superBlockOf};
 ghost use Rattle.geometry.specs.Raster.{rasterNumber};
 ghost use Rattle.geometry.specs.Macro.{fourOf, blocksOfMacro, macroOf};
-ghost use Rattle.geometry.specs.Sample.{sampleAt, LiesAt};
+ghost use Rattle.geometry.specs.Sample.{sampleAt};
 
 // 4:2:0, 4:2:2 (half width), 4:4:4
 pub enum PixelFormat {
@@ -136,18 +136,18 @@ pub fn sizes(format: PixelFormat, w: u64, h: u64) -> FrameSizes
 }
 
 // The number of block (x, y) in the coded order of a plane of w by h blocks.
-pub fn place_number(w: u64, h: u64, x: u64, y: u64) -> u64
+fn place_number(w: u64, h: u64, x: u64, y: u64) -> u64
     requires { ⌜ (x < w) × (y < h) × (w ≤ 131070) × (h ≤ 131070) ⌝ }
-    ensures { λ r. ⌜ (r < h * w) × (getD (codedBlocks w h) r (at 0 0) ≡ at x y) ⌝ }
+    ensures { λ r. ⌜ (r < h * w) × (getD (blockOrder w h) r (at 0 0) ≡ at x y) ⌝ }
 {
     let t = tiles::tile_of(w, h, x, y);
     t.first + tiles::block_rank(t.u, t.v, x % 4, y % 4)
 }
 
 // The block that is number i there.
-pub fn place_at(w: u64, h: u64, i: u64) -> Place
+fn place_at(w: u64, h: u64, i: u64) -> Place
     requires { ⌜ (i < h * w) × (w ≤ 131070) × (h ≤ 131070) ⌝ }
-    ensures { λ r. ⌜ r ≡ getD (codedBlocks w h) i (at 0 0) ⌝ }
+    ensures { λ r. ⌜ r ≡ getD (blockOrder w h) i (at 0 0) ⌝ }
 {
     let t = tiles::tile_at(w, h, i);
     let p = tiles::block_in_corner(t.u, t.v, t.rest);
@@ -185,7 +185,7 @@ pub struct SuperBlock {
 }
 
 // Super block k of a plane of w by h blocks, in the plane's coded order.
-pub fn plane_super_block(w: u64, h: u64, k: u64) -> SuperBlock
+fn plane_super_block(w: u64, h: u64, k: u64) -> SuperBlock
     requires { ⌜ (k < tiles 4 h * tiles 4 w) × (w ≤ 131070) × (h ≤ 131070) ⌝ }
     ensures { λ r. ⌜ (r .first ≡ length (inTurn (tileNo 4 blockWalk w h) k)) × (r .count ≡ length (tileNo 4 blockWalk w h k)) × (r .count ≤ 16) ⌝ }
 {
@@ -351,13 +351,6 @@ pub fn macro_of_block(format: PixelFormat, b: Block) -> Place
     }
 }
 
-// A sample: a column and a row, from the lower left, of a block.
-pub struct Sample {
-    pub block: Block,
-    pub column: u64,
-    pub row: u64,
-}
-
 // Where column c and row r of block b lies in the buffer.
 pub fn sample_offset(format: PixelFormat, w: u64, h: u64, b: Block, c: u64, r: u64) -> u64
     requires { ⌜ (w ≤ 65535) × (h ≤ 65535) × InFrame format w h b × (c < 8) × (r < 8) ⌝ }
@@ -365,25 +358,4 @@ pub fn sample_offset(format: PixelFormat, w: u64, h: u64, b: Block, c: u64, r: u
 {
     let q = plane_of(format, w, h, b.plane);
     q.offset + ((8 * b.y + r) * (8 * q.across) + (8 * b.x + c))
-}
-
-// The sample that lies at o in the buffer.
-pub fn sample_of(format: PixelFormat, w: u64, h: u64, o: u64) -> Sample
-    requires { ⌜ (w ≤ 65535) × (h ≤ 65535) × (o < 64 * blocksOf format w h) ⌝ }
-    ensures { λ s. ⌜ LiesAt format w h o s ⌝ }
-{
-    let p = plane_with(format, w, h, o / 64);
-    let q = plane_of(format, w, h, p);
-    let i = o - q.offset;
-    let n = 8 * q.across;
-    let b = Block {
-        plane: p,
-        x: i % n / 8,
-        y: i / n / 8,
-    };
-    Sample {
-        block: b,
-        column: i % n % 8,
-        row: i / n % 8,
-    }
 }

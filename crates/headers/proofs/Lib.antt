@@ -3,3 +3,4 @@ pub mod Groups
 pub mod Fitting
 pub mod Accepted
 pub mod Examples
+pub mod Ends

@@ -33,5 +33,6 @@ rangesHold s =
     all (isPositive (s .fmbw) ∷ isPositive (s .fmbh) ∷ pictureInside (16 * s .fmbw) (s .picw) (s .picx)
     ∷ pictureInside (16 * s .fmbh) (s .pich) (s .picy) ∷ isPositive (s .frn) ∷ isPositive (s .frd) ∷ isFormat (s .pf) ∷ [])
 
+-- "the identification fields break 5, 6 or their widths": they do not
 unfoldable pub sessionFits : Session → Bool
 sessionFits s = widthsFit s && rangesHold s

@@ -12,6 +12,10 @@ use Rattle.headers.specs.Fits.{sessionFits}
 unfoldable pub formatOf : ℕ → PixelFormat
 formatOf pf = choose (eqb pf 0) PixelFormat.Chroma420 (choose (eqb pf 2) PixelFormat.Chroma422 PixelFormat.Chroma444)
 
+-- a session's pixel format
+abbrev pub format : Session → PixelFormat
+format s = formatOf (s .pf)
+
 -- the sizes of a session's frames, or number 8
 unfoldable pub sessionSizes : Session → SizesAnswer
-sessionSizes s = choose (sessionFits s) (SizesAnswer.Is (sizesOf (formatOf (s .pf)) (s .fmbw) (s .fmbh))) (SizesAnswer.Refused 8)
+sessionSizes s = choose (sessionFits s) (SizesAnswer.Is (sizesOf (format s) (s .fmbw) (s .fmbh))) (SizesAnswer.Refused 8)

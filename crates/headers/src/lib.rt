@@ -51,7 +51,7 @@ struct Value {
 }
 
 // `width` bits that must be `want`, else number k.
-pub fn read_exactly(packet: &[u8], at: usize, width: usize, want: u32, k: u32) -> Field
+fn read_exactly(packet: &[u8], at: usize, width: usize, want: u32, k: u32) -> Field
     requires { ⌜ (length (now packet) ≤ 2 ^ 58) × (width ≤ 32) ⌝ }
     ensures { λ r. ⌜ r ≡ asField (exactly width want k (now (packet .entry)) at) ⌝ }
 {
@@ -417,6 +417,7 @@ pub enum SizesAnswer {
     Refused(u32),
 }
 
+// The size call: "identification part of 8".
 pub fn sizes(s: Session) -> SizesAnswer
     ensures { λ r. ⌜ r ≡ sessionSizes s ⌝ }
 {

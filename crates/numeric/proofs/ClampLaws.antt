@@ -1,4 +1,4 @@
--- Laws of `clamp255`: its range, and how the positive part gives it.
+-- Laws of `clamp255`: a number in its range, and how the positive part gives it.
 -- Assumes nothing.
 use mathlib.Core.Path.{_≡_, refl, subst}
 use mathlib.Core.Bool.{true, false}
@@ -9,11 +9,6 @@ use lib.Dec.{T}
 use lib.IntN.{ℤ, pos, negsuc, natAbs}
 use lib.Signed.{ltZ}
 use Rattle.numeric.specs.Clamp.{clamp255, positivePart}
-
-pub clamp-le : (z : ℤ) → clamp255 z ≤ 255
-unfolding clamp255
-clamp-le (pos n) = omega arith
-clamp-le (negsuc n) = omega arith
 
 -- a number in the range is itself
 pub clamp-same : (n : ℕ) → n ≤ 255 → clamp255 (pos n) ≡ n

@@ -78,9 +78,6 @@ cut-same (negsuc n) f =
     let u : 65535 - (65535 - n) ≡ n = omega arith in
     rw (e, le-ltb (65535 - n) 32768 (omega arith), u)
 
-pub cut-cut : (z : ℤ) → cut (cut z) ≡ cut z
-cut-cut z = cut-same (cut z) (cut-fits z)
-
 -- ---- `cut` goes with sums: a number may be cut before it is added to
 
 mod-sub : (a b : ℕ) → mod16 (subℕ a (suc b)) ≡ (a % 65536 + (65535 - b % 65536)) % 65536

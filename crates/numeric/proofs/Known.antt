@@ -8,7 +8,7 @@ use Prim.Native.Nat.{ℕ, suc, _+_, _*_, _^_, _≤_, _<_}
 use native.Mathlib.Nat.{le-refl, le-trans, le-of-eq, lt-of-le-of-lt}
 use lib.Dec.{T, ltb, leb, ltb→lt, leb→le}
 use lib.IntN.{ℤ, pos, negsuc, _+ℤ_, _-ℤ_, _*ℤ_, natAbs}
-use lib.Signed.{nonNeg, natAbs-le, mag, quotZ, shrZ, ltZ, leZ}
+use lib.Signed.{nonNeg, natAbs-le, mag, quotZ, shrZ, ltZ}
 use mir.Syntax.{Width, w16, w32}
 use mir.Val.{bits, hbits, SFits, Fits, ofZ, toZ}
 use mir.ValLaws.{toZ-ofZ, toZ-pos}
@@ -20,10 +20,6 @@ pub record Known (w : Width) (z : ℤ) (b : ℕ) : Type 0 where
   pub bound : Size z b
 
 -- ---- the leaves
-
--- bits n, what they read as, and a bound: a variable that two arms gave
-abbrev pub k-raw : {w : Width} {z : ℤ} {b : ℕ} (n : ℕ) → toZ w n ≡ z → Size z b → Known w z b
-k-raw n e h = record { n = n; reads = e; bound = h }
 
 -- a parameter, `k-of (c .fits .x) h`, and any number that was written and fits
 abbrev pub k-of : {w : Width} {z : ℤ} {b : ℕ} → SFits w z → Size z b → Known w z b
@@ -104,19 +100,12 @@ module _ {w : Width} {x y : ℤ} {a b : ℕ} (p : Known w x a) (q : Known w y b)
   pub test-lt : {t : Bool} → ltZ (toZ w (p .n)) (toZ w (q .n)) ≡ t → ltZ x y ≡ t
   test-lt e = sym (ap₂ ltZ (p .reads) (q .reads)) ∙ e
 
-  pub test-le : {t : Bool} → leZ (toZ w (p .n)) (toZ w (q .n)) ≡ t → leZ x y ≡ t
-  test-le e = sym (ap₂ leZ (p .reads) (q .reads)) ∙ e
-
 -- ---- operations on one number
 
 module _ {w : Width} {x : ℤ} {a : ℕ} where
   -- a shift to the right by k, whose divisor is 2 ^ k, with a bound b of the result: `k-shr 3 256 p tt tt tt`
   abbrev pub k-shr : (k b : ℕ) → Known w x a → T (ltb 0 (2 ^ k)) → T (leb a (b * 2 ^ k)) → T (ltb b (2 ^ hbits w)) → Known w (shrZ x (2 ^ k)) b
   k-shr k b p t u v = k-made (ap (λ (z : ℤ). shrZ z (2 ^ k)) (p .reads)) (size-shr (2 ^ k) b (p .bound) t u) v
-
-  -- a division toward zero by d
-  abbrev pub k-quot : (d : ℕ) → Known w x a → T (ltb a (2 ^ hbits w)) → Known w (quotZ x (pos d)) a
-  k-quot d p t = k-made (ap (λ (z : ℤ). quotZ z (pos d)) (p .reads)) (size-quot d (p .bound)) t
 
   -- the same, with a bound b of the result: `k-div 32 86016 p tt tt`
   abbrev pub k-div : (d b : ℕ) → Known w x a → T (leb a (b * d)) → T (ltb b (2 ^ hbits w)) → Known w (quotZ x (pos d)) b

@@ -3,7 +3,7 @@
 -- Known: what a local's bits stand for, operation by operation. Most proofs about signed code are made of it.
 -- Search: the needs of straight-line signed code, by `search signed`.
 -- Linear: equations and tests of integers, by `omega`.
--- CutLaws, RoundLaws, ClampLaws: the laws of this crate's own definitions.
+-- CutLaws, RoundLaws, ClampLaws, SignLaws: the laws of this crate's own definitions.
 -- Examples: worked examples.
 pub mod Magnitude
 pub mod Known
@@ -12,4 +12,5 @@ pub mod Linear
 pub mod CutLaws
 pub mod RoundLaws
 pub mod ClampLaws
+pub mod SignLaws
 pub mod Examples

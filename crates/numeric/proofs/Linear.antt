@@ -1,14 +1,13 @@
--- Linear arithmetic over ℤ by `omega`: z is `up z` less `dn z`, two natural numbers of which one is 0. Each operation has a law on the parts, which goes into omega's list; `ext`, `less` and `not-less` bring an equation or a test of integers to the parts.
--- As x + y - y ≡ x: `ext (x +ℤ y -ℤ y) x (omega (arith, parts-add x y, parts-minus (x +ℤ y) y))`.
+-- Linear arithmetic over ℤ by `omega`: z is `up z` less `dn z`, two natural numbers of which one is 0. A sum has a law on the parts, which goes into omega's list; `ext` and `less` bring an equation or a test of integers to the parts.
+-- As x + y ≡ y + x: `ext (x +ℤ y) (y +ℤ x) (omega (arith, parts-add x y, parts-add y x))`.
 -- Assumes nothing.
-use mathlib.Core.Path.{_≡_, refl, sym, ap, _∙_, subst}
-use mathlib.Core.Bool.{true, false}
-use Prim.Native.Nat.{ℕ, zero, suc, _+_, _*_, _≤_, _<_}
+use mathlib.Core.Path.{_≡_, sym, ap, subst}
+use mathlib.Core.Bool.{true}
+use Prim.Native.Nat.{ℕ, suc, _+_, _<_}
 use native.Mathlib.Omega.{arith}
-use native.Mathlib.Nat.{zero-mul}
-use borrow.Author.Tests.{ltb-true, ltb-false}
+use borrow.Author.Tests.{ltb-true}
 use lib.Dec.{T}
-use lib.IntN.{ℤ, pos, negsuc, _+ℤ_, _-ℤ_, _*ℤ_, negℤ, natAbs, subℕ}
+use lib.IntN.{ℤ, pos, negsuc, _+ℤ_, subℕ}
 use lib.Signed.{ltZ}
 use Rattle.numeric.proofs.Magnitude.{sub-cases}
 
@@ -31,32 +30,6 @@ parts-add (pos a) (negsuc b) = omega (arith, parts-sub a (suc b))
 parts-add (negsuc a) (pos b) = omega (arith, parts-sub b (suc a))
 parts-add (negsuc a) (negsuc b) = omega arith
 
-pub up-neg : (z : ℤ) → up (negℤ z) ≡ dn z
-up-neg (pos zero) = refl
-up-neg (pos (suc n)) = refl
-up-neg (negsuc n) = refl
-
-pub dn-neg : (z : ℤ) → dn (negℤ z) ≡ up z
-dn-neg (pos zero) = refl
-dn-neg (pos (suc n)) = refl
-dn-neg (negsuc n) = refl
-
-pub parts-minus : (x y : ℤ) → up (x -ℤ y) + (dn x + up y) ≡ (up x + dn y) + dn (x -ℤ y)
-parts-minus x y = omega (arith, parts-add x (negℤ y), up-neg y, dn-neg y)
-
--- a product with a number that is not negative
-pub up-mul : (z : ℤ) (k : ℕ) → up (z *ℤ pos k) ≡ up z * k
-up-mul (pos n) k = refl
-up-mul (negsuc n) k = up-neg (pos (suc n * k)) ∙ sym (zero-mul k)
-
-pub dn-mul : (z : ℤ) (k : ℕ) → dn (z *ℤ pos k) ≡ dn z * k
-dn-mul (pos n) k = sym (zero-mul k)
-dn-mul (negsuc n) k = dn-neg (pos (suc n * k))
-
-pub abs-parts : (z : ℤ) → natAbs z ≡ up z + dn z
-abs-parts (pos n) = omega arith
-abs-parts (negsuc n) = omega arith
-
 -- ---- what a fact about integers is, on the parts
 
 pub ext : (x y : ℤ) → up x + dn y ≡ up y + dn x → x ≡ y
@@ -70,9 +43,3 @@ less (pos a) (pos b) e = let h = ltb-true a b e in omega arith
 less (pos a) (negsuc b) e = absurd (subst T (sym e) tt)
 less (negsuc a) (pos b) e = omega arith
 less (negsuc a) (negsuc b) e = let h = ltb-true b a e in omega arith
-
-pub not-less : (x y : ℤ) → ltZ x y ≡ false → up y + dn x ≤ up x + dn y
-not-less (pos a) (pos b) e = let h = ltb-false a b e in omega arith
-not-less (pos a) (negsuc b) e = omega arith
-not-less (negsuc a) (pos b) e = absurd (subst T e tt)
-not-less (negsuc a) (negsuc b) e = let h = ltb-false b a e in omega arith

@@ -80,19 +80,6 @@ pub mag≤abs : (z : ℤ) → mag z ≤ natAbs z
 mag≤abs (pos n) = le-refl n
 mag≤abs (negsuc n) = omega arith
 
-mag-subℕ : (a b : ℕ) → mag (subℕ a (suc b)) ≤ a + b
-mag-subℕ a b = sub-cases (λ (z : ℤ). mag z ≤ a + b) a (suc b) (λ h. omega arith) (λ h. omega arith)
-
-pub mag-add : (x y : ℤ) → mag (x +ℤ y) ≤ mag x + mag y + 1
-mag-add (pos a) (pos b) = omega arith
-mag-add (pos a) (negsuc b) = let h = mag-subℕ a b in omega arith
-mag-add (negsuc a) (pos b) = let h = mag-subℕ b a in omega arith
-mag-add (negsuc a) (negsuc b) = omega arith
-
-pub mag-shr-is : (z : ℤ) (m : ℕ) → mag (shrZ z m) ≡ mag z / m
-mag-shr-is (pos a) m = refl
-mag-shr-is (negsuc a) m = refl
-
 mag-neg : (r : ℕ) {a : ℕ} → r ≤ suc a → mag (negℤ (pos r)) ≤ a
 mag-neg zero h = zero-le
 mag-neg (suc r) h = le-of-suc-le-suc h
@@ -108,9 +95,6 @@ pub record Size (z : ℤ) (b : ℕ) : Type 0 where
 
 pub size : {z : ℤ} {b : ℕ} → natAbs z ≤ b → Size z b
 size h = record { le = h }
-
-pub size-pos : {n : ℕ} → Size (pos n) n
-size-pos {n} = size (le-refl n)
 
 pub size-up : {z : ℤ} {a b : ℕ} → Size z a → a ≤ b → Size z b
 size-up h k = size (le-trans (h .le) k)

@@ -1,3 +1,4 @@
 pub mod Cut
 pub mod Divide
 pub mod Clamp
+pub mod Sign

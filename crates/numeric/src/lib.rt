@@ -3,7 +3,7 @@ ghost use Prim.Native.Nat.{_+_, _*_, _^_, _≤_, _<_};
 ghost use lib.IntN.{pos, natAbs};
 ghost use lib.Signed.{_<ℤ_};
 ghost use Rattle.numeric.specs.Cut.{cut};
-ghost use Rattle.numeric.specs.Divide.{floorShift, towardZero, roundOver};
+ghost use Rattle.numeric.specs.Divide.{towardZero, roundOver};
 ghost use Rattle.numeric.specs.Clamp.{clamp255, positivePart};
 
 // The low 16 bits, read as two's complement.
@@ -18,16 +18,8 @@ pub fn cut16(x: i32) -> i16
     }
 }
 
-// x / 2^k, rounded down.
-pub fn floor_shift(x: i32, k: u32) -> i32
-    requires { ⌜ k < 32 ⌝ }
-    ensures { λ r. ⌜ (r ≡ floorShift x k) × (natAbs r ≤ natAbs x) ⌝ }
-{
-    x >> k
-}
-
 // x / d, toward zero.
-pub fn divide(x: i32, d: i32) -> i32
+fn divide(x: i32, d: i32) -> i32
     requires { ⌜ pos 0 <ℤ d ⌝ }
     ensures { λ r. ⌜ (r ≡ towardZero x (natAbs d)) × (natAbs r ≤ natAbs x) ⌝ }
 {

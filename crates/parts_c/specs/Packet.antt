@@ -30,6 +30,7 @@ pub record Returned : Type 0 where
 abbrev pub returned : ℕ → List ℕ → Work → Returned
 returned number answer memory = record { number = number; answer = answer; memory = memory }
 
+-- "its kind (intra, inter, repeat)" as a number
 abbrev pub kindNumber : Kind → ℕ
 kindNumber Intra = 0
 kindNumber Inter = 1

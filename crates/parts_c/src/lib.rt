@@ -209,18 +209,6 @@ fn numbers_of(got: FrameRead) -> [u64; 8]
     }
 }
 
-// Every number, in its place.
-fn store(answer: &mut [u64], numbers: &[u64])
-    requires { ⌜ length (now answer) ≡ length (now numbers) ⌝ }
-    ensures { λ _. ⌜ now (answer .exit) ≡ now (numbers .entry) ⌝ }
-{
-    let mut i: usize = 0;
-    while i < numbers.len() {
-        answer[i] = numbers[i];
-        i += 1;
-    }
-}
-
 // Whether every lent length is the right one.
 fn lengths_fit(
     format: PixelFormat,
@@ -320,7 +308,7 @@ fn read_by_nodes(
         active,
     );
     let numbers = numbers_of(got);
-    store(answer, &numbers);
+    buffer::copy_longs(answer, &numbers);
     let read = got.read;
     number_of(read)
 }

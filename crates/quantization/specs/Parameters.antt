@@ -57,6 +57,7 @@ pub record Begun : Type 0 where
   pub sizes : List ℕ
   pub indices : List ℕ
 
+-- one range more, of size v + 1, that ends at base matrix b
 abbrev pub withRange : Begun → ℕ → ℕ → Begun
 withRange s v b = record { reached = s .reached + (v + 1); sizes = s .sizes ++ (v + 1) ∷ []; indices = s .indices ++ b ∷ [] }
 
@@ -81,6 +82,7 @@ origin k =
     pick (eqb newqr 1) (pure 0)
     (pick (ltb k 3) (pure 1) (bind (field 1) (λ rpqr. pure (choose (eqb rpqr 1) 3 1))))))
 
+-- no ranges
 abbrev pub none : Ranges
 none = record { sizes = []; indices = [] }
 
@@ -88,6 +90,7 @@ none = record { sizes = []; indices = [] }
 unfoldable pub setFrom : ℕ → List Ranges → ℕ → Parse Ranges
 setFrom n done back = pick (eqb back 0) (newSet n) (pure (getD done (length done - back) none))
 
+-- the sets that are done, and k more, each by its origin
 unfoldable pub moreSets : ℕ → ℕ → List Ranges → Parse (List Ranges)
 moreSets zero n done = pure done
 moreSets (suc k) n done = do
@@ -95,6 +98,7 @@ moreSets (suc k) n done = do
   r ← setFrom n done back
   moreSets k n (done ++ r ∷ [])
 
+-- the parameters in the order of the header: AC scales, DC scales, NBMS, the base matrices, the six sets
 unfoldable pub quantization : Parse Quantization
 quantization = do
   ac ← scales

@@ -7,6 +7,7 @@ use Rattle.bitstream.specs.Bits.{bits, number}
 use Rattle.quantization.specs.Parameters.{Ranges, Quantization, none}
 use Rattle.quantization.specs.Answer.{Stored}
 
+-- the sum of a list
 abbrev pub total : List ℕ → ℕ
 total [] = 0
 total (n ∷ l) = n + total l

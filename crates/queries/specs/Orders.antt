@@ -11,15 +11,11 @@ use Rattle.geometry.specs.Frame.{frameOrder}
 use Rattle.geometry.specs.Macro.{macroOf}
 use Rattle.geometry.specs.Sample.{sampleAt}
 use Rattle.headers.specs.declared.Session.{Session}
-use Rattle.headers.specs.Sizes.{formatOf}
+use Rattle.headers.specs.Sizes.{format}
 use Rattle.queries.specs.declared.BlockAnswer.{BlockAnswer}
 use Rattle.queries.specs.declared.PlaceAnswer.{PlaceAnswer}
 use Rattle.queries.specs.declared.NumberAnswer.{NumberAnswer}
 use Rattle.queries.specs.Found.{Found, is, absent, refused, onSession, provided, element, position}
-
--- a session's pixel format
-abbrev pub format : Session → PixelFormat
-format s = formatOf (s .pf)
 
 -- block (x, y) of plane p; macro block (x, y)
 abbrev pub isBlock : Block → Block → Bool

@@ -20,7 +20,7 @@ use Rattle.block_record.specs.Record.{InRange, uncoded, referenceOf}
 use Rattle.transform.specs.Residual.{dcOnly, residual}
 use Rattle.dc_prediction.specs.Means.{meanLDlD, meanLDr, meanDlDDr, meanOfTwo, far, kept, replaced}
 use Rattle.dc_prediction.specs.Neighbours.{neighbourAt, neighbourBack, predicted as predictedFrom}
-use Rattle.dc_prediction.specs.Planes.{upTo as turns, prediction, codedStep, blockStep, row, plane, predictedDc}
+use Rattle.dc_prediction.specs.Planes.{prediction, codedStep, blockStep, row, plane, predictedDc}
 use Rattle.prediction.specs.Predicted.{predicted, summed}
 use Rattle.ways.specs.Loops.{upTo}
 use Rattle.reconstruct.specs.Picture.{Blocks, Matrices, rankOf, gathered, typeOf, blockResidual, dcOf, recordOf, residualOf, sampleOf}
@@ -42,12 +42,12 @@ unfolding frame rankOf
 ranks = (refl, refl)
 
 dcs : dcOf Chroma420 1 1 frame ≡ negsuc 0 ∷ negsuc 0 ∷ negsuc 0 ∷ negsuc 0 ∷ pos 0 ∷ pos 0 ∷ []
-unfolding one frame dcOf gathered upTo turns blocksOf total predictedDc plane row blockStep codedStep prediction neighbourBack neighbourAt predictedFrom replaced kept far meanLDlD meanLDr meanDlDDr meanOfTwo referenceOf cut read16 mod16
+unfolding one frame dcOf gathered upTo blocksOf total predictedDc plane row blockStep codedStep prediction neighbourBack neighbourAt predictedFrom replaced kept far meanLDlD meanLDr meanDlDDr meanOfTwo referenceOf cut read16 mod16
 dcs = refl
 
 -- luma 127, chroma 128
 samples : (sampleOf Chroma420 1 1 frame sixteen [] [] (block 0 1 1) 5 2 ≡ 127) × (sampleOf Chroma420 1 1 frame sixteen [] [] (block 2 0 0) 5 2 ≡ 128)
-unfolding one frame sixteen rankOf sampleOf residualOf recordOf blockResidual typeOf summed predicted residual dcOnly clamp255 rasterNumber blocksBefore dcOf gathered upTo turns blocksOf total predictedDc plane row blockStep codedStep prediction neighbourBack neighbourAt predictedFrom replaced kept far meanLDlD meanLDr meanDlDDr meanOfTwo referenceOf cut read16 mod16
+unfolding one frame sixteen rankOf sampleOf residualOf recordOf blockResidual typeOf summed predicted residual dcOnly clamp255 rasterNumber blocksBefore dcOf gathered upTo blocksOf total predictedDc plane row blockStep codedStep prediction neighbourBack neighbourAt predictedFrom replaced kept far meanLDlD meanLDr meanDlDDr meanOfTwo referenceOf cut read16 mod16
 samples = (refl, refl)
 
 -- such a list of coded blocks is what `reconstruct` asks for

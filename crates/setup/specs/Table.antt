@@ -48,7 +48,7 @@ Exactly false t = ((p : List ℕ) × Leaves setupHeader tableBytes p t) → ⊥
 unfoldable pub heldSetup : List ℕ → Outcome Setup
 heldSetup t = choose (isTable t) (setupHeader t 0) (refused 8 0)
 
--- the place of the first base matrix in a table memory that is genuine
+-- the place of the first base matrix in a table memory that is genuine; NotGenuine stands for number 8, the only one that `heldSetup` refuses by
 abbrev pub asTable : Outcome Setup → TableAnswer
 asTable (got s e) = Genuine (s .parameters .matricesAt)
 asTable (refused k e) = NotGenuine

@@ -78,7 +78,7 @@ fn read_trees(packet: &[u8], at: usize, nodes: &mut [u8]) -> Place
 
 // The whole header of a packet, into slices for the loop limits, the AC and the DC scales, the sizes and the indices of the quant ranges, and the trees' nodes.
 // The base matrices stay in the packet.
-pub fn load(
+fn load(
     packet: &[u8],
     limits: &mut [u16],
     ac: &mut [u16],

@@ -1,23 +1,20 @@
 -- What a loaded setup holds. Assumes nothing.
-use Prim.Native.Nat.{ℕ, zero, suc, _*_, _^_, _≤_, _<_}
+use Prim.Native.Nat.{ℕ, zero, suc, _^_, _≤_, _<_}
 use native.Mathlib.Nat.{pow-le-pow-right}
 use native.Mathlib.Omega.{arith}
 use mathlib.Core.Path.{_≡_, refl, sym, ap, _∙_, subst}
-use mathlib.Core.List.{List, [], _∷_, append-nil}
+use mathlib.Core.List.{List, [], _∷_}
 use mathlib.Core.Bool.{Bool, true, false, _&&_}
 use lib.Dec.{eqb}
-use lib.ListN.{length, getD, take, drop}
+use lib.ListN.{length, getD}
 use Rattle.bitstream.specs.Reading.{Outcome, got, refused, Parse, pure, bind, choose, field, many}
 use Rattle.bitstream.proofs.Fields.{no-mix, field-lt}
 use Rattle.bitstream.proofs.Laws.{bind-got}
 use Rattle.headers.specs.Judgement.{commonHeader}
-use Rattle.huffman.specs.Tree.{Tree, leaf, Proper, nodesOf, huffmanTree}
-use Rattle.huffman.specs.Code.{Formed}
+use Rattle.huffman.specs.Tree.{Tree, leaf, Proper, huffmanTree}
 use Rattle.huffman.proofs.Trees.{read-proper}
 use Rattle.quantization.specs.Parameters.{Quantization, quantization}
-use Rattle.quantization.specs.Layout.{laid}
 use Rattle.quantization.specs.Sound.{Holds}
-use Rattle.quantization.proofs.Layouts.{laid-length, laid-part}
 use Rattle.quantization.proofs.Soundness.{read-holds, many-long}
 use Rattle.setup.specs.Header.{Setup, loopLimits, setupHeader}
 use Rattle.setup.specs.Answer.{Stored, Loaded}
@@ -26,23 +23,7 @@ use Rattle.setup.specs.declared.TableAnswer.the-variants.{Genuine, NotGenuine}
 use Rattle.setup.specs.Table.{tableBytes, isTable, heldSetup, asTable}
 use Rattle.table_memory.specs.Kept.{clearFrom}
 use Rattle.table_memory.specs.Genuine.{endsClear, genuine}
-use Rattle.setup.proofs.Steps.{proper-padded}
 use Rattle.tables.specs.Tables.{treeOf, HoldsTrees}
-
--- ---- the trees in a slice
-module _ (trees : List Tree) (nodes : List ℕ) (h : HoldsTrees trees nodes) where
-  pub nodes-long : length nodes ≡ 5120
-  nodes-long = ap length (h .nodes-are) ∙ laid-length nodesOf trees ∙ omega (arith, h .eighty)
-
-  pub part-is : (k : ℕ) → k < 80 → (w : ℕ) → w ≡ 64 → take w (drop (k * 64) nodes) ≡ nodesOf (treeOf trees k)
-  part-is k l w z =
-      ap (λ (n : ℕ). take n (drop (k * 64) nodes)) z
-      ∙ ap (λ (x : List ℕ). take 64 (drop (k * 64) x)) (h .nodes-are ∙ sym (append-nil (laid nodesOf trees)))
-      ∙ laid-part nodesOf trees [] k (leaf 0) (omega (arith, h .eighty))
-      ∙ proper-padded (h .proper k l)
-
-  pub part-formed : (k : ℕ) → k < 80 → (w : ℕ) → w ≡ 64 → Formed (take w (drop (k * 64) nodes))
-  part-formed k l w z = record { tree = treeOf trees k; proper = h .proper k l; there = part-is k l w z }
 
 -- ---- every value of a list that was read is one that its parser gives
 many-each : {A : Type 0} (P : A → Type 0) (m : Parse A) → ((p : List ℕ) (i : ℕ) (a : A) (e : ℕ) → m p i ≡ got a e → P a)

@@ -1,12 +1,9 @@
--- What a frame reads from a setup that was loaded: a loop limit, and a token by one of the Huffman trees.
+-- What a frame reads from a setup that was loaded: a loop limit, and the Huffman trees.
 use Prim.Native.Nat.{ℕ, _<_}
 use mathlib.Core.Path.{_≡_}
 use mathlib.Core.List.{List}
 use lib.ListN.{length, getD}
-use Rattle.bitstream.specs.Answer.{asField}
-use Rattle.bitstream.specs.declared.Field.{Field}
 use Rattle.huffman.specs.Tree.{Tree, leaf, Proper, nodesOf}
-use Rattle.huffman.specs.Code.{tokenCode}
 use Rattle.quantization.specs.Layout.{laid}
 use Rattle.setup.specs.Header.{Setup}
 
@@ -27,11 +24,3 @@ pub record HoldsTrees (trees : List Tree) (nodes : List ℕ) : Type 0 where
   pub eighty : length trees ≡ 80
   pub proper : (k : ℕ) → k < 80 → Proper (treeOf trees k)
   pub nodes-are : nodes ≡ laid nodesOf trees
-
--- the slice holds the trees of some setup that was read
-abbrev pub TreesHeld : List ℕ → Type 0
-TreesHeld nodes = (trees : List Tree) × HoldsTrees trees nodes
-
--- the answer is the token by the tree of that number, of the trees in the slice
-abbrev pub TokenIs : (p : List ℕ) (at : ℕ) (nodes : List ℕ) (number : ℕ) → Field → Type 0
-TokenIs p at nodes number r = (trees : List Tree) → HoldsTrees trees nodes → r ≡ asField (tokenCode (treeOf trees number) p at)

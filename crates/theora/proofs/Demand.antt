@@ -17,7 +17,8 @@ use Rattle.ways.specs.Loops.{_∈_}
 use Rattle.ways.specs.Ways.{firstWay, secondWay}
 use Rattle.ways.proofs.Agree.{ways-agree}
 use Rattle.ways.proofs.Kept.{differs-along}
-use Rattle.decoding.specs.Memory.{format, blocks}
+use Rattle.headers.specs.Sizes.{format}
+use Rattle.decoding.specs.Memory.{blocks}
 use Rattle.theora.specs.Lengths.{lengthsOf, lengthsFit}
 use Rattle.decoding.specs.Answer.{State, Done, Asked, done, read, picture, answerFor, newBy, state}
 use Rattle.theora.specs.Call.{Call, lengthsHold, said, memoryAfter, byRules, FramePromise}

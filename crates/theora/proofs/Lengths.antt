@@ -12,7 +12,8 @@ use Rattle.headers.specs.Fits.{sessionFits}
 use Rattle.headers.proofs.Fitting.{fits-macro-blocks}
 use Rattle.setup.specs.Table.{tableBytes}
 use Rattle.theora.specs.declared.WorkLengths.{WorkLengths}
-use Rattle.decoding.specs.Memory.{format, blocks}
+use Rattle.headers.specs.Sizes.{format}
+use Rattle.decoding.specs.Memory.{blocks}
 use Rattle.theora.specs.Lengths.{superBlocks, macroBlocks, lengthsOf}
 
 -- "Table memory has one fixed length, at most 1,048,576 bytes"

@@ -17,7 +17,7 @@ use Rattle.ways.specs.Loops.{_∈_}
 use Rattle.ways.specs.Ways.{firstWay, secondWay, AlongCoded}
 use Rattle.decoding.specs.declared.Verdict.{Verdict}
 use Rattle.decoding.specs.declared.Verdict.the-variants.{Accepted, Refused}
-use Rattle.decoding.specs.Memory.{format}
+use Rattle.headers.specs.Sizes.{format}
 use Rattle.decoding.specs.Answer.{State, Done, Asked, state, picture}
 use Rattle.theora.specs.Call.{Call, said, byRules, FramePromise}
 
@@ -71,6 +71,6 @@ pub record Demand3 (start : State) (calls : List Call) : Type 0 where
   -- at every accepted call an uncoded block changes only along a coded one
   pub uncoded-kept : (t : Turn) → t ∈ turns (byRules firstWay) start calls → UncodedKept t
 
--- "For every list of frame calls from a fresh session": as an accepted identification header gives it. "At first golden and previous are any"
+-- demand 3, "For every list of frame calls from a fresh session": as an accepted identification header gives it. "At first golden and previous are any"
 abbrev pub Demand3Holds : Type 0
 Demand3Holds = (header : List ℕ) (s : Session) (e : ℕ) → identification header 0 ≡ got s e → (golden previous : List ℕ) (calls : List Call) → Demand3 (state s golden previous) calls

@@ -10,7 +10,8 @@ use Rattle.geometry.specs.Sizes.{superBlocksOf, macroBlocksOf}
 use Rattle.headers.specs.declared.Session.{Session}
 use Rattle.headers.specs.Fits.{all, sessionFits}
 use Rattle.setup.specs.Table.{tableBytes}
-use Rattle.decoding.specs.Memory.{Memory, memory, format, blocks}
+use Rattle.headers.specs.Sizes.{format}
+use Rattle.decoding.specs.Memory.{Memory, memory, blocks}
 use Rattle.theora.specs.declared.WorkLengths.{WorkLengths}
 use Rattle.theora.specs.declared.WorkAnswer.{WorkAnswer}
 

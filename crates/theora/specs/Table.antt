@@ -34,6 +34,7 @@ abbrev pub judgement : Outcome ℕ → List ℤ
 judgement (got n e) = pos 0 ∷ pos n ∷ []
 judgement (refused k e) = pos k ∷ []
 
+-- each row by the definitions
 unfoldable pub worked : List (List ℤ)
 worked =
     readings (threeThenFive (0xB1 ∷ []) 0)
@@ -52,6 +53,7 @@ worked =
     ∷ judgement (matrixCount (0xC0 ∷ 0x00 ∷ []) 0)
     ∷ []
 
+-- each row as the paper states it
 unfoldable pub paper : List (List ℤ)
 paper =
     -- "B1 hex read 3 then 5 bits: 5, 17"

@@ -92,6 +92,7 @@ abbrev pub sizesReturned : List ℕ → SizesAnswer → Returned
 sizesReturned old (SizesAnswer.Is n) = gives 0 (sizeNumbers n)
 sizesReturned old (SizesAnswer.Refused k) = gives k old
 
+-- a block is 3 numbers, a macro block's place 2, a number 1
 abbrev pub blockReturned : List ℕ → BlockAnswer → Returned
 blockReturned old (BlockAnswer.Is b) = gives 0 (b .plane ∷ b .x ∷ b .y ∷ [])
 blockReturned old BlockAnswer.Absent = gives 255 old
@@ -111,6 +112,7 @@ numberReturned old (NumberAnswer.Refused k) = gives k old
 abbrev pub sized : Bool → List ℕ → Returned → Returned
 sized lengths old x = choose lengths x (gives 1 old)
 
+-- the identification call: a packet, and the list of the session
 unfoldable pub identificationCall : List ℕ → List ℕ → Returned
 identificationCall packet old = sized (eqb (length old) 17) old (sessionReturned old (asIdentification (identification packet 0)))
 
@@ -118,24 +120,31 @@ identificationCall packet old = sized (eqb (length old) 17) old (sessionReturned
 unfoldable pub onList : ℕ → List ℕ → List ℕ → (Session → Returned) → Returned
 onList n session old call = sized (eqb (length session) 17 && eqb (length old) n) old (call (sessionOf session))
 
+-- the sizes of a session's frames
 abbrev pub sizesCall : List ℕ → List ℕ → Returned
 sizesCall session old = onList 16 session old (λ s. sizesReturned old (sessionSizes s))
 
+-- the block that is number i in coded order
 abbrev pub blockAtCall : List ℕ → ℕ → List ℕ → Returned
 blockAtCall session i old = onList 3 session old (λ s. blockReturned old (asBlock (blockAt s i)))
 
+-- the number of block (x, y) of plane p there
 abbrev pub blockNumberCall : List ℕ → ℕ → ℕ → ℕ → List ℕ → Returned
 blockNumberCall session p x y old = onList 1 session old (λ s. numberReturned old (asNumber (blockNumber s (block p x y))))
 
+-- the macro block that is number i in coded order
 abbrev pub macroBlockAtCall : List ℕ → ℕ → List ℕ → Returned
 macroBlockAtCall session i old = onList 2 session old (λ s. placeReturned old (asPlace (macroBlockAt s i)))
 
+-- the number of macro block (x, y) there
 abbrev pub macroBlockNumberCall : List ℕ → ℕ → ℕ → List ℕ → Returned
 macroBlockNumberCall session x y old = onList 1 session old (λ s. numberReturned old (asNumber (macroBlockNumber s x y)))
 
+-- the macro block of block (x, y) of plane p
 abbrev pub macroBlockOfCall : List ℕ → ℕ → ℕ → ℕ → List ℕ → Returned
 macroBlockOfCall session p x y old = onList 2 session old (λ s. placeReturned old (asPlace (macroBlockOf s (block p x y))))
 
+-- where column c and row r of block (x, y) of plane p lie in a plane buffer
 abbrev pub sampleOffsetCall : List ℕ → ℕ → ℕ → ℕ → ℕ → ℕ → List ℕ → Returned
 sampleOffsetCall session p x y c r old = onList 1 session old (λ s. numberReturned old (asNumber (sampleOffset s (block p x y) c r)))
 
@@ -167,6 +176,7 @@ matrixFound old (is m) = gives 0 m
 matrixFound old absent = gives 255 old
 matrixFound old (refused k) = gives k old
 
+-- the matrix of a type, a plane and a qi: 1 for another length, 8 for a memory that is not genuine, 255 for no such matrix, in this order
 unfoldable pub matrixCall : List ℕ → ℕ → ℕ → ℕ → List ℕ → Returned
 matrixCall table type plane qi old = sized (eqb (length old) 64) old (matrixFound old (tableMatrix table type plane qi))
 
@@ -180,6 +190,7 @@ abbrev pub lengthsReturned : List ℕ → WorkAnswer → Returned
 lengthsReturned old (WorkAnswer.Is l) = gives 0 (lengthNumbers l)
 lengthsReturned old (WorkAnswer.Refused k) = gives k old
 
+-- the lengths of work memory for a session's frames
 abbrev pub workLengthsCall : List ℕ → List ℕ → Returned
 workLengthsCall session old = onList 11 session old (λ s. lengthsReturned old (workLengths s))
 
@@ -211,6 +222,7 @@ pub record Answered : Type 0 where
 abbrev pub answers : ℕ → (session left : List ℕ) → Answered
 answers k session left = record { number = k; session = session; left = left }
 
+-- accepted: 0, the session with its flag set anew, and the header; refused: the number, and both lists as they were
 abbrev pub verdictReturned : (session old : List ℕ) → Header → Verdict → Answered
 verdictReturned session old h Verdict.Accepted = answers 0 (sessionNumbers (h .kind) session) (headerNumbers h)
 verdictReturned session old h (Verdict.Refused k) = answers k session old
@@ -224,9 +236,11 @@ pub record FrameReturned : Type 0 where
 abbrev pub frameGives : Answered → (new : List ℕ) → Memory → FrameReturned
 frameGives a new memory = record { answered = a; new = new; memory = memory }
 
+-- the state of a call: the session that its list says, golden and previous
 abbrev pub stateOf : (session golden previous : List ℕ) → State
 stateOf session golden previous = state (sessionOf session) golden previous
 
+-- what the rules leave, as a frame call returns it
 abbrev pub doneReturned : (session old : List ℕ) → Done → FrameReturned
 doneReturned session old d = frameGives (verdictReturned session old (d .answer .header) (d .answer .verdict)) (d .new) (d .memory)
 

@@ -58,11 +58,7 @@ fn store(list: &mut [u64], numbers: &[u64]) -> u32
     requires { ⌜ length (now list) ≡ length (now numbers) ⌝ }
     ensures { λ r. ⌜ gives r (now (list .exit)) ≡ gives 0 (now (numbers .entry)) ⌝ }
 {
-    let mut i = 0;
-    while i < numbers.len() {
-        list[i] = numbers[i];
-        i += 1;
-    }
+    buffer::copy_longs(list, numbers);
     0
 }
 
@@ -281,6 +277,7 @@ fn return_frame(answer: FrameAnswer, session: &mut [u64], list: &mut [u64]) -> u
 
 // ---- the calls
 
+// Reads an identification header; session receives the fresh session.
 #[no_mangle]
 pub extern "C" fn wedgepetal_identification(packet: &[u8], session: &mut [u64]) -> u32
     ensures { λ r. ⌜ gives r (now (session .exit)) ≡ identificationCall (now (packet .entry)) (now (session .entry)) ⌝ }
@@ -291,6 +288,7 @@ pub extern "C" fn wedgepetal_identification(packet: &[u8], session: &mut [u64]) 
     1
 }
 
+// The sizes of a session's frames.
 #[no_mangle]
 pub extern "C" fn wedgepetal_sizes(session: &[u64], sizes: &mut [u64]) -> u32
     ensures { λ r. ⌜ gives r (now (sizes .exit)) ≡ sizesCall (now (session .entry)) (now (sizes .entry)) ⌝ }
@@ -301,6 +299,7 @@ pub extern "C" fn wedgepetal_sizes(session: &[u64], sizes: &mut [u64]) -> u32
     1
 }
 
+// The block that is this number in coded order.
 #[no_mangle]
 pub extern "C" fn wedgepetal_block_at(session: &[u64], number: u64, block: &mut [u64]) -> u32
     ensures { λ r. ⌜ gives r (now (block .exit)) ≡ blockAtCall (now (session .entry)) number (now (block .entry)) ⌝ }
@@ -311,6 +310,7 @@ pub extern "C" fn wedgepetal_block_at(session: &[u64], number: u64, block: &mut 
     1
 }
 
+// The number in coded order of block (x, y) of a plane.
 #[no_mangle]
 pub extern "C" fn wedgepetal_block_number(
     session: &[u64],
@@ -330,6 +330,7 @@ pub extern "C" fn wedgepetal_block_number(
     1
 }
 
+// The macro block that is this number in coded order.
 #[no_mangle]
 pub extern "C" fn wedgepetal_macro_block_at(session: &[u64], number: u64, place: &mut [u64]) -> u32
     ensures { λ r. ⌜ gives r (now (place .exit)) ≡ macroBlockAtCall (now (session .entry)) number (now (place .entry)) ⌝ }
@@ -340,6 +341,7 @@ pub extern "C" fn wedgepetal_macro_block_at(session: &[u64], number: u64, place:
     1
 }
 
+// The number in coded order of macro block (x, y).
 #[no_mangle]
 pub extern "C" fn wedgepetal_macro_block_number(
     session: &[u64],
@@ -358,6 +360,7 @@ pub extern "C" fn wedgepetal_macro_block_number(
     1
 }
 
+// The macro block that block (x, y) of a plane belongs to.
 #[no_mangle]
 pub extern "C" fn wedgepetal_macro_block_of(
     session: &[u64],
@@ -377,6 +380,7 @@ pub extern "C" fn wedgepetal_macro_block_of(
     1
 }
 
+// Where in a plane buffer a sample of block (x, y) of a plane lies.
 #[no_mangle]
 pub extern "C" fn wedgepetal_sample_offset(
     session: &[u64],
@@ -398,6 +402,7 @@ pub extern "C" fn wedgepetal_sample_offset(
     1
 }
 
+// Reads a setup header into table memory.
 #[no_mangle]
 pub extern "C" fn wedgepetal_setup(packet: &[u8], table: &mut [u8]) -> u32
     ensures { λ r. ⌜ gives r (now (table .exit)) ≡ setupCall (now (packet .entry)) (now (table .entry)) ⌝ }
@@ -408,6 +413,7 @@ pub extern "C" fn wedgepetal_setup(packet: &[u8], table: &mut [u8]) -> u32
     }
 }
 
+// Whether some accepted setup packet leaves this table memory: 0 if so, else 8.
 #[no_mangle]
 pub extern "C" fn wedgepetal_table(table: &[u8]) -> u32
     ensures { λ r. ⌜ r ≡ tableCall (now (table .entry)) ⌝ }
@@ -421,6 +427,7 @@ pub extern "C" fn wedgepetal_table(table: &[u8]) -> u32
     1
 }
 
+// The loop limit of a qi.
 #[no_mangle]
 pub extern "C" fn wedgepetal_loop_limit(table: &[u8], qi: u64, limit: &mut [u64]) -> u32
     ensures { λ r. ⌜ gives r (now (limit .exit)) ≡ limitCall (now (table .entry)) qi (now (limit .entry)) ⌝ }
@@ -431,6 +438,7 @@ pub extern "C" fn wedgepetal_loop_limit(table: &[u8], qi: u64, limit: &mut [u64]
     1
 }
 
+// The quantization matrix of a type, a plane and a qi.
 #[no_mangle]
 pub extern "C" fn wedgepetal_matrix(
     table: &[u8],
@@ -449,6 +457,7 @@ pub extern "C" fn wedgepetal_matrix(
     1
 }
 
+// The lengths of work memory for a session's frames.
 #[no_mangle]
 pub extern "C" fn wedgepetal_work_lengths(session: &[u64], lengths: &mut [u64]) -> u32
     ensures { λ r. ⌜ gives r (now (lengths .exit)) ≡ workLengthsCall (now (session .entry)) (now (lengths .entry)) ⌝ }
@@ -459,6 +468,7 @@ pub extern "C" fn wedgepetal_work_lengths(session: &[u64], lengths: &mut [u64]) 
     1
 }
 
+// Decodes a frame packet into new.
 #[no_mangle]
 pub extern "C" fn wedgepetal_frame(
     session: &mut [u64],

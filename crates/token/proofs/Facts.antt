@@ -1,20 +1,19 @@
 -- What a token's extra bits are, as one number; and the code's arithmetic. Assumes nothing.
-use Prim.Native.Nat.{ℕ, zero, suc, _+_, _-_, _*_, _/_, _%_, _^_, _≤_, _<_}
+use Prim.Native.Nat.{ℕ, _+_, _*_, _/_, _%_, _^_, _≤_, _<_}
 use native.Mathlib.Omega.{arith}
 use native.Mathlib.Nat.{one-mul, mod-lt}
-use mathlib.Core.Path.{_≡_, refl, sym, ap, _∙_}
+use mathlib.Core.Path.{_≡_, sym, ap, _∙_}
 use mathlib.Core.List.{List}
-use lib.IntN.{pos, negsuc, negℤ, _-ℤ_}
 use lib.Pow.{pow-pos, pow-mono, shl-exact}
 use lib.Pow as P
-use borrow.Author.Tests.{lt-ltb, le-ltb, eq-eqb, ne-eqb}
-use Rattle.numeric.proofs.Magnitude.{sub-less}
-use Rattle.bitstream.specs.Bits.{bits, bitAt, number}
+use borrow.Author.Tests.{lt-ltb, le-ltb}
+use Rattle.bitstream.specs.Bits.{bits, number}
 use Rattle.bitstream.specs.Reading.{got, refused, field, whole}
 use Rattle.bitstream.proofs.Numbers.{number-lt, number-add}
 use Rattle.bitstream.proofs.Fields.{no-mix, field-got, field-end, field-cases, field-value}
 use Rattle.bitstream.proofs.Laws.{whole-got, whole-refused}
-use Rattle.token.specs.Token.{Row, rowOf, valueOf, meaning, extra}
+use Rattle.numeric.specs.Sign.{withSign}
+use Rattle.token.specs.Token.{Row, rowOf, meaning, extra}
 use Rattle.token.specs.Answer.{asToken, signOf, sizeOf, zerosOf}
 use Rattle.token.specs.declared.Token.the-variants.{EndOfBlock, ZeroRun, Coefficient}
 
@@ -67,7 +66,7 @@ module _ (t s n z e : ℕ) where
   unfolding meaning
   means-zeros l h = rw (le-ltb t 7 l, lt-ltb t 9 h)
 
-  pub means-value : 9 ≤ t → asToken (got (meaning t s n z) e) ≡ Coefficient z (valueOf s n) e
+  pub means-value : 9 ≤ t → asToken (got (meaning t s n z) e) ≡ Coefficient z (withSign s n) e
   unfolding meaning
   means-value h = rw (le-ltb t 7 (omega arith), le-ltb t 9 h)
 
@@ -80,16 +79,3 @@ shl-pos n h = rw (shl-one n h) (pow-pos n)
 
 pub low-is : (x n : ℕ) → n ≤ 12 → (x % ((1 * 2 ^ n) % 2 ^ 32) ≡ x % 2 ^ n) × (x % ((1 * 2 ^ n) % 2 ^ 32) ≤ 4095)
 low-is x n h = let e = shl-one n h in (ap (λ (m : ℕ). x % m) e, rw e (omega (arith, mod-lt x (pow-pos n), pow-mono h)))
-
--- ---- the sign
-pub value-plus : (s n : ℕ) → s ≡ 0 → valueOf s n ≡ pos n
-unfolding valueOf
-value-plus s n h = rw (eq-eqb s 0 h)
-
-zero-minus : (n : ℕ) → pos 0 -ℤ pos n ≡ negℤ (pos n)
-zero-minus zero = refl
-zero-minus (suc n) = let k : suc n - 1 ≡ n = omega arith in sub-less 0 (suc n) (omega arith) ∙ ap negsuc k
-
-pub value-minus : (s n : ℕ) → (s ≡ 0 → ⊥) → valueOf s n ≡ pos 0 -ℤ pos n
-unfolding valueOf
-value-minus s n h = rw (ne-eqb s 0 h) (sym (zero-minus n))

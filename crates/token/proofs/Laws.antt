@@ -1,11 +1,11 @@
 -- The laws of a token's extra bits, and how large what they mean is. Assumes nothing.
-use Prim.Native.Nat.{ℕ, zero, suc, _+_, _-_, _^_, _≤_, _<_}
+use Prim.Native.Nat.{ℕ, _+_, _-_, _^_, _≤_, _<_}
 use native.Mathlib.Omega.{arith}
 use mathlib.Core.Path.{_≡_, refl, ap, _∙_}
 use mathlib.Core.List.{List}
 use mathlib.Core.Bool.{Bool, true, false}
 use lib.Dec.{T, leb, ltb, eqb, leb→le}
-use lib.IntN.{pos, negℤ, natAbs}
+use lib.IntN.{natAbs}
 use lib.ListN.{getD, drop}
 use lib.Seq.{getD-drop}
 use borrow.Author.Tests.{ltb-true, ltb-false, eqb-true, eqb-false}
@@ -13,7 +13,9 @@ use Rattle.bitstream.specs.Reading.{got, bind, pure, field, choose}
 use Rattle.bitstream.proofs.Fields.{field-lt}
 use Rattle.bitstream.proofs.Laws.{Lawful, lawful, bind-got}
 use Rattle.bitstream.proofs.Spends.{Spends, spends-more, field-spends, bind-spends, pure-spends}
-use Rattle.token.specs.Token.{Meaning, endOfBlock, zeroRun, coefficient, counted, rows, rowOf, valueOf, meaning, extra}
+use Rattle.numeric.specs.Sign.{withSign}
+use Rattle.numeric.proofs.SignLaws.{sign-size}
+use Rattle.token.specs.Token.{Meaning, endOfBlock, zeroRun, coefficient, counted, rows, rowOf, meaning, extra}
 use Rattle.token.proofs.Rows.{every-at, bits-most}
 
 pub extra-lawful : (t : ℕ) → Lawful (extra t)
@@ -53,23 +55,14 @@ size-most t n h l =
     rw (← same) (every-at (λ r. leb (r .sizeBase + 2 ^ r .sizeBits) 581) (drop 9 rows) tt (t - 9)) in
     omega (arith, leb→le (rowOf t .sizeBase + 2 ^ rowOf t .sizeBits) 581 test)
 
-abs-value : (s n : ℕ) → natAbs (valueOf s n) ≡ n
-unfolding valueOf
-abs-value s n = go (eqb s 0) n
-  where
-    go : (b : Bool) (n : ℕ) → natAbs (choose b (pos n) (negℤ (pos n))) ≡ n
-    go true n = refl
-    go false zero = refl
-    go false (suc n) = refl
-
 pub meaning-sound : (t s n z : ℕ) → (7 ≤ t → t < 9 → 0 < n) → (9 ≤ t → n ≤ 580) → Sound (meaning t s n z)
 unfolding meaning
 meaning-sound t s n z f g = go (ltb t 7) (ltb t 9) refl refl
   where
-    go : (b c : Bool) → ltb t 7 ≡ b → ltb t 9 ≡ c → Sound (choose b (endOfBlock n) (choose c (zeroRun n) (coefficient z (valueOf s n))))
+    go : (b c : Bool) → ltb t 7 ≡ b → ltb t 9 ≡ c → Sound (choose b (endOfBlock n) (choose c (zeroRun n) (coefficient z (withSign s n))))
     go true c x y = tt
     go false true x y = f (ltb-false t 7 x) (ltb-true t 9 y)
-    go false false x y = rw (abs-value s n) (g (ltb-false t 9 y))
+    go false false x y = rw (sign-size s n) (g (ltb-false t 9 y))
 
 pub extra-sound : (t : ℕ) (p : List ℕ) (i : ℕ) {m : Meaning} {e : ℕ} → extra t p i ≡ got m e → Sound m
 unfolding extra

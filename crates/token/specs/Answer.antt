@@ -7,6 +7,7 @@ use Rattle.token.specs.declared.Token.{Token}
 use Rattle.token.specs.declared.Token.the-variants.{EndOfBlock, ZeroRun, Coefficient, Refused}
 use Rattle.token.specs.declared.Extra.{Extra}
 
+-- what a token means and the place behind it, or the refusal
 abbrev pub asToken : Outcome Meaning → Token
 asToken (got (endOfBlock n) e) = EndOfBlock n e
 asToken (got (zeroRun n) e) = ZeroRun n e

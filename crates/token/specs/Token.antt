@@ -1,9 +1,10 @@
 -- The 32 tokens of coefficients: the extra bits of each, and what it means.
 use Prim.Native.Nat.{ℕ, _+_}
 use mathlib.Core.List.{List, [], _∷_}
-use lib.Dec.{ltb, eqb}
+use lib.Dec.{ltb}
 use lib.ListN.{getD}
-use lib.IntN.{ℤ, pos, negℤ}
+use lib.IntN.{ℤ}
+use Rattle.numeric.specs.Sign.{withSign}
 use Rattle.bitstream.specs.Reading.{Parse, pure, field, choose, _>>=_, _>>_}
 
 -- What a token means for the block that it is read for
@@ -56,13 +57,9 @@ rows =
 unfoldable pub rowOf : ℕ → Row
 rowOf t = getD rows t (counted 0 0)
 
--- "Sign 1 is minus"
-unfoldable pub valueOf : ℕ → ℕ → ℤ
-valueOf sign size = choose (eqb sign 0) (pos size) (negℤ (pos size))
-
 -- what the token t means, by its sign, its size and its zeros: tokens 0 to 6 end blocks, 7 and 8 are zeros alone
 unfoldable pub meaning : ℕ → ℕ → ℕ → ℕ → Meaning
-meaning t sign size zeros = choose (ltb t 7) (endOfBlock size) (choose (ltb t 9) (zeroRun size) (coefficient zeros (valueOf sign size)))
+meaning t sign size zeros = choose (ltb t 7) (endOfBlock size) (choose (ltb t 9) (zeroRun size) (coefficient zeros (withSign sign size)))
 
 -- the extra bits of the token t: sign, size, zeros
 unfoldable pub extra : ℕ → Parse Meaning

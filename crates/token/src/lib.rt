@@ -4,7 +4,8 @@ ghost use mathlib.Core.Path.{_≡_};
 ghost use Prim.Native.Nat.{_+_, _<_, _≤_, _%_, _^_};
 ghost use lib.ListN.{length};
 ghost use Rattle.bitstream.specs.Reading.{got, whole};
-ghost use Rattle.token.specs.Token.{extra, valueOf, meaning, rowOf};
+ghost use Rattle.token.specs.Token.{extra, meaning, rowOf};
+ghost use Rattle.numeric.specs.Sign.{withSign};
 ghost use Rattle.token.specs.Answer.{asToken, asExtra, packedRows, Small, signOf, sizeOf, zerosOf};
 
 // What a token means, and the bit place behind it: an end-of-block run of so many blocks, a run of zeros, or zeros and then a value.
@@ -91,15 +92,15 @@ fn low(x: u32, n: usize) -> u32
     x % (1 << n)
 }
 
-// A value by its sign, 0 for plus, and its size.
+// A value by its sign, 1 for minus, and its size.
 fn value_of(sign: u32, size: u16) -> i16
     requires { ⌜ size ≤ 5000 ⌝ }
-    ensures { λ r. ⌜ r ≡ valueOf sign size ⌝ }
+    ensures { λ r. ⌜ r ≡ withSign sign size ⌝ }
 {
-    if sign == 0 {
-        return size as i16;
+    if sign == 1 {
+        return 0 - size as i16;
     }
-    0 - size as i16
+    size as i16
 }
 
 // What the token t means, where its extra bits are the number x.

@@ -5,7 +5,7 @@ use mathlib.Core.Path.{_≡_, refl, sym, ap, _∙_, subst}
 use mathlib.Core.List.{List, [], _∷_}
 use mathlib.Core.Bool.{Bool, true, false}
 use lib.Dec.{eqb, ltb}
-use lib.IntN.{ℤ, pos, negℤ, _-ℤ_, natAbs, +ℤ-idl}
+use lib.IntN.{ℤ, pos, natAbs}
 use lib.ListN.{getD}
 use borrow.Author.Tests.{lt-ltb, le-ltb, eq-eqb, ne-eqb, ltb-false}
 use Rattle.bitstream.specs.Reading.{Outcome, got, refused, bind, pure, pick, choose, field}
@@ -14,14 +14,16 @@ use Rattle.bitstream.proofs.Laws.{bind-got, whole-cases}
 use mir.Syntax.{w32}
 use mir.Val.{toZ, ofZ}
 use mir.ValLaws.{toZ-ofZ}
-use Rattle.numeric.proofs.Magnitude.{abs-neg, size, size-fits}
+use Rattle.numeric.specs.Sign.{withSign}
+use Rattle.numeric.proofs.SignLaws.{sign-size}
+use Rattle.numeric.proofs.Magnitude.{size, size-fits}
 use Rattle.block_record.specs.declared.Vector.{Vector}
 use Rattle.block_record.specs.Record.{VectorInRange}
 use Rattle.vectors.specs.declared.ComponentRead.{ComponentRead}
 use Rattle.vectors.specs.declared.ComponentRead.the-variants as component-read
 use Rattle.vectors.specs.declared.VectorRead.{VectorRead}
 use Rattle.vectors.specs.declared.VectorRead.the-variants as vector-read
-use Rattle.vectors.specs.Component.{signed, added, shortest, width, least, variable, byCode, component, vector, asComponent, asVector}
+use Rattle.vectors.specs.Component.{added, shortest, width, least, variable, byCode, component, vector, asComponent, asVector}
 
 -- ---- what an answer says of the outcome o, by its arm
 pub component-got : (o : Outcome ℤ) {r : ComponentRead} {v : ℤ} {e : ℕ} → r ≡ asComponent o → r ≡ component-read.Got v e → o ≡ got v e
@@ -44,29 +46,12 @@ vector-refused (refused k d) s g = cc
 pub kept : (z : ℤ) → natAbs z ≤ 31 → toZ w32 (ofZ w32 z) ≡ z
 kept z h = toZ-ofZ w32 z (size-fits w32 (size h) tt)
 
--- ---- a sign
-module _ (s n : ℕ) where
-  pub signed-minus : s ≡ 1 → pos 0 -ℤ pos n ≡ signed s n
-  unfolding signed
-  signed-minus h = +ℤ-idl (negℤ (pos n)) ∙ rw (eq-eqb s 1 h)
-
-  pub signed-plus : (s ≡ 1 → ⊥) → pos n ≡ signed s n
-  unfolding signed
-  signed-plus h = rw (ne-eqb s 1 h)
-
-  go-size : (t : Bool) → natAbs (choose t (negℤ (pos n)) (pos n)) ≡ n
-  go-size true = abs-neg (pos n)
-  go-size false = refl
-
-  pub signed-size : natAbs (signed s n) ≡ n
-  unfolding signed
-  signed-size = go-size (eqb s 1)
-
+-- ---- a component of three bits
 pub shortest-zero : (t : ℕ) → t ≡ 0 → pos 0 ≡ shortest t
 unfolding shortest
 shortest-zero t h = rw (eq-eqb t 0 h)
 
-pub shortest-one : (t : ℕ) → (t ≡ 0 → ⊥) → signed (t - 1) 1 ≡ shortest t
+pub shortest-one : (t : ℕ) → (t ≡ 0 → ⊥) → withSign (t - 1) 1 ≡ shortest t
 unfolding shortest
 shortest-one t h = rw (ne-eqb t 0 h)
 
@@ -74,9 +59,9 @@ shortest-small : (t : ℕ) → natAbs (shortest t) ≤ 31
 unfolding shortest
 shortest-small t = go (eqb t 0)
   where
-    go : (b : Bool) → natAbs (choose b (pos 0) (signed (t - 1) 1)) ≤ 31
+    go : (b : Bool) → natAbs (choose b (pos 0) (withSign (t - 1) 1)) ≤ 31
     go true = omega arith
-    go false = omega (arith, signed-size (t - 1) 1)
+    go false = omega (arith, sign-size (t - 1) 1)
 
 -- ---- bits that are added, and a sign bit
 module _ (n a : ℕ) (p : List ℕ) (i : ℕ) where
@@ -88,17 +73,17 @@ module _ (n a : ℕ) (p : List ℕ) (i : ℕ) where
   unfolding added
   added-cut f g = rw (f, g)
 
-  pub added-got : {v e s d : ℕ} → field n p i ≡ got v e → field 1 p e ≡ got s d → added n a p i ≡ got (signed s (a + v)) d
+  pub added-got : {v e s d : ℕ} → field n p i ≡ got v e → field 1 p e ≡ got s d → added n a p i ≡ got (withSign s (a + v)) d
   unfolding added
   added-got f g = rw (f, g)
 
   added-small : a + 2 ^ n ≤ 32 → {z : ℤ} {e : ℕ} → added n a p i ≡ got z e → natAbs z ≤ 31
   unfolding added
   added-small h {z} {e} r =
-      let u = bind-got (field n) (λ v. bind (field 1) (λ s. pure (signed s (a + v)))) p i r in
-      let w = bind-got (field 1) (λ s. pure (signed s (a + u .0))) p (u .1) (u .3) in
-      let q : signed (w .0) (a + u .0) ≡ z = cc in
-      omega (arith, field-lt n p i (u .2), signed-size (w .0) (a + u .0), ap natAbs q)
+      let u = bind-got (field n) (λ v. bind (field 1) (λ s. pure (withSign s (a + v)))) p i r in
+      let w = bind-got (field 1) (λ s. pure (withSign s (a + u .0))) p (u .1) (u .3) in
+      let q : withSign (w .0) (a + u .0) ≡ z = cc in
+      omega (arith, field-lt n p i (u .2), sign-size (w .0) (a + u .0), ap natAbs q)
 
 -- ---- the variable code
 -- the widths and the least values of the prefixes from 011 on

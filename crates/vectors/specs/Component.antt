@@ -2,8 +2,9 @@
 use Prim.Native.Nat.{ℕ, _+_, _-_}
 use mathlib.Core.List.{[], _∷_}
 use lib.Dec.{eqb, ltb}
-use lib.IntN.{ℤ, pos, negℤ}
+use lib.IntN.{ℤ, pos}
 use lib.ListN.{getD}
+use Rattle.numeric.specs.Sign.{withSign}
 use Rattle.bitstream.specs.Reading.{Outcome, got, refused, Parse, pure, pick, choose, field, whole, _>>=_}
 use Rattle.block_record.specs.declared.Vector.{Vector}
 use Rattle.vectors.specs.declared.ComponentRead.{ComponentRead}
@@ -11,20 +12,16 @@ use Rattle.vectors.specs.declared.ComponentRead.the-variants as componen
 use Rattle.vectors.specs.declared.VectorRead.{VectorRead}
 use Rattle.vectors.specs.declared.VectorRead.the-variants as vector-read
 
--- sign 1 is minus
-unfoldable pub signed : ℕ → ℕ → ℤ
-signed s n = choose (eqb s 1) (negℤ (pos n)) (pos n)
-
 -- "bits added to .. and a sign bit": n bits, added to a
 unfoldable pub added : ℕ → ℕ → Parse ℤ
 added n a = do
   v ← field n
   s ← field 1
-  pure (signed s (a + v))
+  pure (withSign s (a + v))
 
 -- "000 is 0, 001/010 ±1"
 unfoldable pub shortest : ℕ → ℤ
-shortest t = choose (eqb t 0) (pos 0) (signed (t - 1) 1)
+shortest t = choose (eqb t 0) (pos 0) (withSign (t - 1) 1)
 
 -- "0110/0111 ±2, 1000/1001 ±3, then 101, 110, 111 with 2, 3, 4 bits added to 4, 8, 16 and a sign bit": by the first three bits, from 011 on
 unfoldable pub width : ℕ → ℕ
@@ -33,6 +30,7 @@ width t = getD (0 ∷ 0 ∷ 2 ∷ 3 ∷ 4 ∷ []) (t - 3) 0
 unfoldable pub least : ℕ → ℕ
 least t = getD (2 ∷ 3 ∷ 4 ∷ 8 ∷ 16 ∷ []) (t - 3) 0
 
+-- the variable code, by its first three bits
 unfoldable pub variable : Parse ℤ
 variable = do
   t ← field 3

@@ -116,6 +116,7 @@ abbrev pub MotionInRange : Motion → Type 0
 MotionInRange (One p) = PredictionInRange p
 MotionInRange (Four l u) = RowInRange l × RowInRange u
 
+-- a motion, and the two vectors that are kept, of vectors that a frame packet can give
 pub record MovedInRange (m : Moved) : Type 0 where
   pub motion : MotionInRange (m .motion)
   pub last : VectorInRange (m .last)

@@ -17,7 +17,8 @@ ghost use Rattle.block_record.specs.Record.{VectorInRange, PredictionInRange};
 ghost use Rattle.block_record.specs.Packed.{packed};
 ghost use Rattle.block_record.specs.Memory.{AllPacked, recordsOf};
 ghost use Rattle.runs.specs.Runs.{asDone, StoredAs};
-ghost use Rattle.vectors.specs.Component.{signed, added, shortest, variable, byCode, component, vector, asComponent, asVector};
+ghost use Rattle.numeric.specs.Sign.{withSign};
+ghost use Rattle.vectors.specs.Component.{added, shortest, variable, byCode, component, vector, asComponent, asVector};
 ghost use Rattle.vectors.specs.Vectors.{numberIn, codedIn, predictedAt, predictedFrom, macroBlock, macroBlocks, vectors};
 ghost use Rattle.vectors.specs.Memory.{stateOf, StoredState, asStep};
 ghost use Rattle.vectors.specs.Motion.{zeroVector, behind, still, moving, movingGolden, ifCoded, row, movingFour, motion, meanOfTwo, meanOfFour, lumaVector, chromaVector, fourVector, predictionOf, RowInRange, MotionInRange, asRow, asMoved};
@@ -74,7 +75,7 @@ const LEAST: [u32; 5] = [2, 3, 4, 8, 16];
 
 fn signed_value(sign: u32, magnitude: u32) -> i32
     requires { ⌜ magnitude ≤ 31 ⌝ }
-    ensures { λ r. ⌜ r ≡ signed sign magnitude ⌝ }
+    ensures { λ r. ⌜ r ≡ withSign sign magnitude ⌝ }
 {
     let n = magnitude as i32;
     if sign == 1 {

@@ -19,10 +19,10 @@ use Rattle.geometry.proofs.SampleLaws.{sample-once}
 use Rattle.ways.specs.Loops.{over, when}
 use Rattle.ways.specs.Ways.{Picture, secondWay, writeBlock, acrossEdge, edge, edgesAt, openRight, openAbove, edges, onlyCoded}
 use Rattle.ways.specs.Ways.{leftOf, rightOf, below, above, AlongCoded, at-left, at-right, at-bottom, at-top}
-use Rattle.ways.proofs.Steps.{Stays, Long, set-stays, set-long, upTo-stays, upTo-long, over-stays, over-long, when-stays, when-long, kept}
+use Rattle.ways.proofs.Steps.{Stays, set-stays, upTo-stays, over-stays, when-stays, kept}
 use Rattle.ways.proofs.Where.{Within}
 use Rattle.ways.proofs.Corner.{corner, row, left-outer, left-inner, right-outer, right-inner, lower-outer, lower-inner, upper-outer, upper-inner}
-use Rattle.ways.proofs.Agree.{raster-coded, uncoded-written, write-long}
+use Rattle.ways.proofs.Agree.{raster-coded, uncoded-written}
 
 -- ---- an edge changes p1 and p2 of its 8 fours, and no length
 module _ (filtered : ℕ → ℕ → ℕ → ℕ → ℕ × ℕ) where
@@ -39,18 +39,6 @@ module _ (filtered : ℕ → ℕ → ℕ → ℕ → ℕ × ℕ) where
   unfolding edge
   edge-stays at along step h₁ h₂ = upTo-stays (λ k. acrossEdge filtered (at + k * along) step) 8 (λ k l. across-stays (at + k * along) step (h₁ k l) (h₂ k l))
 
-  pub across-long : (at step : ℕ) → Long (acrossEdge filtered at step)
-  unfolding acrossEdge
-  across-long at step = record {
-    long = λ s.
-        let q = filtered (getD s at 0) (getD s (at + step) 0) (getD s (at + step * 2) 0) (getD s (at + step * 3) 0) in
-        set-long (at + step * 2) (q .1) .long (set s (at + step) (q .0)) ∙ set-long (at + step) (q .0) .long s;
-  }
-
-  pub edge-long : (at along step : ℕ) → Long (edge filtered at along step)
-  unfolding edge
-  edge-long at along step = upTo-long (λ k. acrossEdge filtered (at + k * along) step) 8 (λ k. across-long (at + k * along) step)
-
   -- what holds of each edge that is wanted holds of all
   edges-at-stay : {j v : ℕ} (corner row : ℕ) (left lower right upper : Bool)
       → (left ≡ true → Stays j v (edge filtered (corner - 2) row 1)) → (lower ≡ true → Stays j v (edge filtered (corner - 2 * row) 1 row))
@@ -65,19 +53,6 @@ module _ (filtered : ℕ → ℕ → ℕ → ℕ → ℕ × ℕ) where
         when-stays upper h₄ .stays (f₃ (f₂ (f₁ s))) (when-stays right h₃ .stays (f₂ (f₁ s)) (when-stays lower h₂ .stays (f₁ s) (when-stays left h₁ .stays s e)));
   }
 
-  pub edges-at-long : (corner row : ℕ) (left lower right upper : Bool) → Long (edgesAt filtered corner row left lower right upper)
-  unfolding edgesAt
-  edges-at-long corner row left lower right upper = record {
-    long = λ s.
-        let f₁ = when left (edge filtered (corner - 2) row 1) in
-        let f₂ = when lower (edge filtered (corner - 2 * row) 1 row) in
-        let f₃ = when right (edge filtered (corner + 6) row 1) in
-        when-long upper (edge-long (corner + 6 * row) 1 row) .long (f₃ (f₂ (f₁ s)))
-        ∙ when-long right (edge-long (corner + 6) row 1) .long (f₂ (f₁ s))
-        ∙ when-long lower (edge-long (corner - 2 * row) 1 row) .long (f₁ s)
-        ∙ when-long left (edge-long (corner - 2) row 1) .long s;
-  }
-
 -- ---- an open neighbour, column or row m of n, is there
 pub there : (m n : ℕ) (t : Bool) → cond (ltb m n) t false ≡ true → m < n
 there m n t e = go (ltb m n) refl e
@@ -87,17 +62,6 @@ there m n t e = go (ltb m n) refl e
     go false k e = absurd (true≢false (sym e))
 
 module _ (f : PixelFormat) (w h : ℕ) (pic : Picture) where
-  pub edges-long : (b : Block) → Long (edges f w h (pic .coded) (pic .filtered) b)
-  unfolding edges
-  edges-long b =
-      edges-at-long (pic .filtered) (corner f w h b) (row f w h b) (ltb 0 (b .x)) (ltb 0 (b .y)) (openRight f w h (pic .coded) b) (openAbove f w h (pic .coded) b)
-
-  pub second-long : (previous : List ℕ) → length (secondWay f w h pic previous) ≡ length previous
-  unfolding secondWay
-  second-long previous =
-      over-long (edges f w h (pic .coded) (pic .filtered)) (onlyCoded f w h pic) edges-long .long (over (onlyCoded f w h pic) (writeBlock f w h pic) previous)
-      ∙ over-long (writeBlock f w h pic) (onlyCoded f w h pic) (write-long f w h pic) .long previous
-
   pub right-there : (b : Block) → openRight f w h (pic .coded) b ≡ true → b .x + 1 < across f w (b .plane)
   unfolding openRight
   right-there b e = there (b .x + 1) (across f w (b .plane)) (not (pic .coded (rightOf b))) e

@@ -2,7 +2,7 @@
 -- it PUTS v if v stands there afterwards; it is LONG as before. All three go through loops.
 use mathlib.Core.Path.{_≡_, refl, sym, ap, _∙_, subst}
 use mathlib.Core.Bool.{Bool, true, false}
-use mathlib.Core.List.{List, [], _∷_, _++_, map}
+use mathlib.Core.List.{List, [], _∷_, _++_}
 use mathlib.Core.Logic.{inl, inr}
 use Prim.Native.Nat.{ℕ, zero, suc, _+_, _<_}
 use native.Mathlib.Numerals.{add-one}
@@ -48,10 +48,6 @@ module _ {f : List ℕ → List ℕ} where
   when-stays true h = record { stays = λ s e. h refl .stays s e }
   when-stays false h = record { stays = λ s e. e }
 
-  pub when-long : (b : Bool) → Long f → Long (when b f)
-  when-long true h = record { long = λ s. h .long s }
-  when-long false h = record { long = λ s. refl }
-
 -- ---- the steps 0 to n - 1
 module _ (f : ℕ → List ℕ → List ℕ) where
   pub upTo-stays : {j v : ℕ} (n : ℕ) → ((k : ℕ) → k < n → Stays j v (f k)) → Stays j v (upTo n f)
@@ -95,12 +91,6 @@ over-append (x ∷ xs) ys f a = over-append xs ys f (f x a)
 pub over-more : {A B : Type 0} (bs : List B) (k : ℕ) (d : B) (f : B → A → A) (a : A) → k < length bs → over (take (k + 1) bs) f a ≡ f (getD bs k d) (over (take k bs) f a)
 unfolding over
 over-more bs k d f a l = rw (add-one k, take-suc bs k d l) (over-append (take k bs) (getD bs k d ∷ []) f a)
-
--- a list of numbers that stand for the things
-pub over-map : {A B C : Type 0} (g : C → B) (cs : List C) (f : B → A → A) (a : A) → over (map g cs) f a ≡ over cs (λ c. f (g c)) a
-unfolding over
-over-map g [] f a = refl
-over-map g (c ∷ cs) f a = over-map g cs f (f (g c) a)
 
 -- a loop in a loop
 pub over-turns : {A B : Type 0} (g : ℕ → List B) (n : ℕ) (f : B → A → A) (a : A) → over (inTurn g n) f a ≡ upTo n (λ k. over (g k) f) a

@@ -117,10 +117,6 @@ module _ (f : PixelFormat) (w h : ℕ) where
   unfolding raster
   inside-raster b i = in-grid (across f w) (up f h) block (b .plane) (b .x) (b .y) (asIn b i)
 
-  pub raster-length : length (raster f w h) ≡ blocksOf f w h
-  unfolding raster blocksOf
-  raster-length = grid-length (across f w) (up f h) block
-
   -- block b has its number, and each number has its block
   pub block-at-number : (b : Block) → InFrame f w h b → blockNo f w h (rasterNumber f w h b) ≡ b
   unfolding blockNo raster rasterNumber blocksBefore

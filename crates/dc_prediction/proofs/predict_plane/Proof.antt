@@ -8,8 +8,9 @@ use lib.Dec.{ltb}
 use lib.ListN.{length}
 use Rattle.block_record.specs.declared.BlockRecord.{BlockRecord}
 use Rattle.block_record.specs.Packed.{unpacked}
-use Rattle.dc_prediction.specs.Planes.{State, stateOf, atFirst, upTo, row, plane}
-use Rattle.dc_prediction.proofs.Steps.{upTo-none, upTo-more}
+use Rattle.dc_prediction.specs.Planes.{State, stateOf, atFirst, row, plane}
+use Rattle.ways.specs.Loops.{upTo}
+use Rattle.ways.proofs.Steps.{upTo-more}
 use Rattle.dc_prediction.proofs.predict_plane.Statement.{statement}
 use Rattle.dc_prediction.proofs.predict_plane.Tie as tie
 
@@ -32,7 +33,8 @@ under : (y across : ℕ) → 0 < y → across ≤ y * across
 under y across h = le-trans (le-of-eq (sym (one-mul across))) (mul-le-mul-right across h)
 
 loop-holds : tie.Need-loop-holds Inv-loop μ-loop
-loop-holds c = (omega arith, refl, upTo-none _ _)
+unfolding upTo
+loop-holds c = (omega arith, refl, refl)
 
 mul-predict-row : tie.Need-mul-predict-row Inv-loop μ-loop
 mul-predict-row c =
@@ -70,7 +72,7 @@ loop-again c =
     let step = rowOf (map unpacked (a .records .now)) (a .first) (a .across) in (
       omega arith,
       c .before .predict-row .kept .0 ∙ h .loop .inv .1,
-      c .before .predict-row .ensures ∙ ap (step (h .loop .y)) (h .loop .inv .2) ∙ upTo-more step (stateOf (a .dc .now) atFirst) (h .loop .y),
+      c .before .predict-row .ensures ∙ ap (step (h .loop .y)) (h .loop .inv .2) ∙ sym (upTo-more (h .loop .y) step (stateOf (a .dc .now) atFirst)),
     )
 
 same-length : tie.Need-same-length Inv-loop μ-loop

@@ -1,11 +1,12 @@
-use mathlib.Core.Path.{_≡_, refl, ap, _∙_}
+use mathlib.Core.Path.{_≡_, refl, sym, ap, _∙_}
 use mathlib.Core.List.{map}
 use Prim.Native.Nat.{ℕ, _≤_, _-_}
 use native.Mathlib.Omega.{arith}
 use lib.ListN.{length}
 use Rattle.block_record.specs.Packed.{unpacked}
-use Rattle.dc_prediction.specs.Planes.{stateOf, upTo, blockStep, row}
-use Rattle.dc_prediction.proofs.Steps.{upTo-none, upTo-more}
+use Rattle.dc_prediction.specs.Planes.{stateOf, blockStep, row}
+use Rattle.ways.specs.Loops.{upTo}
+use Rattle.ways.proofs.Steps.{upTo-more}
 use Rattle.dc_prediction.proofs.predict_row.Statement.{statement}
 use Rattle.dc_prediction.proofs.predict_row.Tie as tie
 
@@ -17,7 +18,8 @@ abbrev μ-loop : tie.MeasureT-loop
 μ-loop dc₀ records start across below latest₀ x₀ dc latest x = across - x
 
 loop-holds : tie.Need-loop-holds Inv-loop μ-loop
-loop-holds c = (omega arith, refl, upTo-none _ _)
+unfolding upTo
+loop-holds c = (omega arith, refl, refl)
 
 predict-block-requires : tie.Need-predict-block-requires Inv-loop μ-loop
 predict-block-requires c κs =
@@ -37,7 +39,7 @@ loop-again c =
     let step = blockStep (map unpacked (a .records .now)) (a .start) (a .across) (a .below) in (
       omega arith,
       c .before .predict-block .kept .0 ∙ h .loop .inv .1,
-      c .before .predict-block .ensures ∙ ap (step (h .loop .x)) (h .loop .inv .2) ∙ upTo-more step (stateOf (a .dc .now) (a .last)) (h .loop .x),
+      c .before .predict-block .ensures ∙ ap (step (h .loop .x)) (h .loop .inv .2) ∙ sym (upTo-more (h .loop .x) step (stateOf (a .dc .now) (a .last))),
     )
 
 same-length : tie.Need-same-length Inv-loop μ-loop

@@ -2,7 +2,7 @@ use mathlib.Core.Path.{_≡_}
 use Prim.Native.Nat.{_+_, _<_}
 use native.Mathlib.Omega.{arith}
 use lib.ListN.{getD}
-use Rattle.geometry.specs.Order.{at, blockWalk, codedBlocks}
+use Rattle.geometry.specs.Order.{at, blockWalk, blockOrder}
 use Rattle.geometry.specs.Rank.{rankIn}
 use Rattle.geometry.proofs.Spots.{wide}
 use Rattle.geometry.proofs.Orders.{rest-by, place-by}
@@ -12,7 +12,7 @@ use Rattle.geometry.proofs.place_at.Statement.{statement}
 use Rattle.geometry.proofs.place_at.Tie as tie
 
 found : (c : tie.After-block-in-corner) → let a = c .before .before .args in let t = c .before .tile-at .result in let p = c .block-in-corner .result in
-    (t .a + p .x < a .w) × (t .b + p .y < a .h) × (at (t .a + p .x) (t .b + p .y) ≡ getD (codedBlocks (a .w) (a .h)) (a .i) (at 0 0))
+    (t .a + p .x < a .w) × (t .b + p .y < a .h) × (at (t .a + p .x) (t .b + p .y) ≡ getD (blockOrder (a .w) (a .h)) (a .i) (at 0 0))
 found c =
     let a = c .before .before .args in
     let t = c .before .tile-at .result in

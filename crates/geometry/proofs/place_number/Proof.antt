@@ -1,7 +1,7 @@
 use mathlib.Core.Path.{_≡_}
 use Prim.Native.Nat.{_+_, _*_, _≤_, _<_}
 use lib.ListN.{getD}
-use Rattle.geometry.specs.Order.{at, blockWalk, codedBlocks}
+use Rattle.geometry.specs.Order.{at, blockWalk, blockOrder}
 use Rattle.geometry.specs.Rank.{rankIn}
 use Rattle.geometry.proofs.Products.{plane-small}
 use Rattle.geometry.proofs.Orders.{there-by}
@@ -11,7 +11,7 @@ use Rattle.geometry.proofs.place_number.Statement.{statement}
 use Rattle.geometry.proofs.place_number.Tie as tie
 
 found : (c : tie.After-block-rank) → let a = c .before .before .args in let i = c .before .tile-of .result .first + c .block-rank .result in
-    (i < a .h * a .w) × (getD (codedBlocks (a .w) (a .h)) i (at 0 0) ≡ at (a .x) (a .y)) × (a .h * a .w ≤ 17179344900)
+    (i < a .h * a .w) × (getD (blockOrder (a .w) (a .h)) i (at 0 0) ≡ at (a .x) (a .y)) × (a .h * a .w ≤ 17179344900)
 found c =
     let a = c .before .before .args in
     let p = c .before .before .pre in

@@ -14,11 +14,11 @@ read-frame-requires c κs = search needs
 numbers-of-requires : tie.Need-numbers-of-requires
 numbers-of-requires c κs = search needs
 
-slice-aggregate-store : tie.Need-slice-aggregate-store
-slice-aggregate-store c = search needs
+slice-aggregate-copy-longs : tie.Need-slice-aggregate-copy-longs
+slice-aggregate-copy-longs c = search needs
 
-store-requires : tie.Need-store-requires
-store-requires c κs = c .before .before .before .before .before .before .before .before .before .before .before .before .before .before .before .before .before .before .before .before .before .before .before .before .before .before .before .before .before .before .before .before .before .before .before .before .before .before .before .before .before .pre .5 ∙ sym (ap length (c .before .before .numbers-of .ensures) ∙ numbers-long (c .before .before .before .before .before .before .before .before .before .before .before .before .before .before .before .before .before .before .before .before .read-frame .result))
+copy-longs-requires : tie.Need-copy-longs-requires
+copy-longs-requires c κs = c .before .before .before .before .before .before .before .before .before .before .before .before .before .before .before .before .before .before .before .before .before .before .before .before .before .before .before .before .before .before .before .before .before .before .before .before .before .before .before .before .before .pre .5 ∙ sym (ap length (c .before .before .numbers-of .ensures) ∙ numbers-long (c .before .before .before .before .before .before .before .before .before .before .before .before .before .before .before .before .before .before .before .before .read-frame .result))
 
 number-of-requires : tie.Need-number-of-requires
 number-of-requires c κs = search needs
@@ -57,7 +57,7 @@ returns : tie.Need-returns
 returns c =
     let a = c .before .before .before .before .before .before .before .before .before .before .before .before .before .before .before .before .before .before .before .before .before .before .before .before .before .before .before .before .before .before .before .before .before .before .before .before .before .before .before .before .before .before .before .before .before .args in
     let r = c .before .before .before .before .before .before .before .before .before .before .before .before .before .before .before .before .before .before .before .before .before .before .before .before .read-frame .ensures in
-    by-trees (a .format) (a .w) (a .h) (a .references) (a .packet .now) (treesOf (a .nodes .now)) (r .0) (r .1) (c .before .before .before .before .before .before .numbers-of .ensures) (c .before .before .before .store .ensures) (c .number-of .ensures)
+    by-trees (a .format) (a .w) (a .h) (a .references) (a .packet .now) (treesOf (a .nodes .now)) (r .0) (r .1) (c .before .before .before .before .before .before .numbers-of .ensures) (c .before .before .before .copy-longs .ensures) (c .number-of .ensures)
 
 pub read-by-nodes-spec : {M : Type 1} → statement M
 read-by-nodes-spec =
@@ -65,8 +65,8 @@ read-by-nodes-spec =
     (tie.spec
     read-frame-requires
     numbers-of-requires
-    slice-aggregate-store
-    store-requires
+    slice-aggregate-copy-longs
+    copy-longs-requires
     number-of-requires
     same-length
     same-length-2

@@ -6,7 +6,8 @@ use mathlib.Core.Path.{_≡_, sym, _∙_}
 use mir.Syntax.{w16}
 use lib.Pow.{shr-le}
 use Rattle.numeric.proofs.Known.{back}
-use Rattle.token.specs.Token.{rowOf, valueOf}
+use Rattle.numeric.specs.Sign.{withSign}
+use Rattle.token.specs.Token.{rowOf}
 use Rattle.token.specs.Answer.{signOf, sizeOf, zerosOf}
 use Rattle.token.specs.declared.Token.the-variants.{EndOfBlock, ZeroRun, Coefficient}
 use Rattle.token.proofs.Facts.{means-end, means-zeros, means-value}
@@ -98,7 +99,7 @@ returns-3 c =
     λ i. e i .0 + a .x / 2 ^ e i .5 / 2 ^ e i .3 in
     let zeros : c .before .before .before .before .before .before .before .before .before .before .before .before .before .args .row .4 + c .before .low2 .result ≡ zerosOf (rowOf (a .t)) (a .x) =
     λ i. e i .4 + (c .before .low2 .ensures .0 ∙ (λ j. a .x % 2 ^ e j .5)) i in
-    let value = back w16 _ (c .value-of .ok) ∙ c .value-of .ensures ∙ (λ i. valueOf (sign i) (size-is (c .before .before .before .before .before .before .before .before .before) i)) in
+    let value = back w16 _ (c .value-of .ok) ∙ c .value-of .ensures ∙ (λ i. withSign (sign i) (size-is (c .before .before .before .before .before .before .before .before .before) i)) in
     (λ i. Coefficient (zeros i) (value i) (a .next)) ∙ sym (means-value (a .t) _ _ _ (a .next) (c .before .before .before .before .before .before .before .if2 .left))
 
 pub meaning-of-spec : {M : Type 1} → statement M

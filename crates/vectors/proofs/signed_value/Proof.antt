@@ -4,7 +4,7 @@ use mathlib.Core.Path.{_∙_}
 use mir.Syntax.{w32}
 use lib.IntN.{pos}
 use Rattle.numeric.proofs.Known.{Known, k-nat, k-lit, k-sub, ask-sub}
-use Rattle.vectors.proofs.Components.{signed-minus, signed-plus}
+use Rattle.numeric.proofs.SignLaws.{sign-minus, sign-plus}
 use borrow.Author.Needs.{needs}
 use Rattle.vectors.proofs.signed_value.Statement.{statement}
 use Rattle.vectors.proofs.signed_value.Tie as tie
@@ -20,10 +20,10 @@ sub-result : tie.Need-sub-result
 sub-result c = ask-sub (k-lit 0 tt) (n (c .before)) tt
 
 returns : tie.Need-returns
-returns c = let s = c .before in k-sub (k-lit 0 tt) (n s) tt .reads ∙ signed-minus (s .args .sign) (s .args .magnitude) (c .if1 .taken)
+returns c = let s = c .before in k-sub (k-lit 0 tt) (n s) tt .reads ∙ sign-minus (s .args .sign) (s .args .magnitude) (c .if1 .taken)
 
 returns-2 : tie.Need-returns-2
-returns-2 c = let s = c .before in n s .reads ∙ signed-plus (s .args .sign) (s .args .magnitude) (c .if1 .left)
+returns-2 c = let s = c .before in n s .reads ∙ sign-plus (s .args .sign) (s .args .magnitude) (c .if1 .left)
 
 pub signed-value-spec : {M : Type 1} → statement M
 signed-value-spec = tie.close (tie.spec cast-n sub-result returns returns-2)
