@@ -1,6 +1,6 @@
 -- One line of the inverse transform: eight numbers in, eight out.
-use Prim.Native.Nat.{ℕ, _≤_}
-use lib.IntN.{ℤ, pos, natAbs, _+ℤ_, _-ℤ_, _*ℤ_}
+use Prim.Native.Nat.{ℕ}
+use lib.IntN.{ℤ, pos, _+ℤ_, _-ℤ_, _*ℤ_}
 use Rattle.numeric.specs.Cut.{cut}
 use Rattle.numeric.specs.Divide.{floorShift}
 use Rattle.transform.specs.declared.Line.{Line}
@@ -96,10 +96,3 @@ outputs f g = record {
 
 unfoldable pub transformedLine : Line → Line
 transformedLine l = outputs (firstTerms l) (lastTerms l)
-
--- how large a line's terms can be
-pub record Within (t : Terms) : Type 0 where
-  pub t0 : natAbs (t .t0) ≤ 131072
-  pub t1 : natAbs (t .t1) ≤ 131072
-  pub t2 : natAbs (t .t2) ≤ 131072
-  pub t3 : natAbs (t .t3) ≤ 131072
