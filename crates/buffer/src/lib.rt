@@ -21,10 +21,10 @@ pub fn copy_longs(dst: &mut [u64], src: &[u64])
     requires { ⌜ length (now dst) ≡ length (now src) ⌝ }
     ensures { λ _. ⌜ now (dst .exit) ≡ now (src .entry) ⌝ }
 {
-    let mut i: usize = 0;
-    while i < src.len() {
-        dst[i] = src[i];
-        i += 1;
+    let mut k: usize = 0;
+    while k < src.len() {
+        dst[k] = src[k];
+        k += 1;
     }
 }
 

@@ -12,7 +12,7 @@ same-length : tie.Need-same-length
 same-length c = search needs
 
 returns : tie.Need-returns
-returns c = ap (gives 0) (c .before .copy-longs .ensures)
+returns c = ap (gives 0) (c .before .before .copy-longs .ensures)
 
 pub store-spec : {M : Type 1} → statement M
 store-spec = tie.close (tie.spec copy-longs-requires same-length returns)
