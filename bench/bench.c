@@ -175,7 +175,8 @@ static struct shares call_shares(const struct recording *r)
 {
     struct lent l = lend(r);
     struct shares best = {1e9, 1e9};
-    for (int round = 0; round < 50; round++) {
+    double began = now();
+    for (int round = 0; round < LEAST_ROUNDS || now() - began < ENOUGH_SECONDS / 4; round++) {
         double start = now(), middle;
         if (wedgepetal_table(l.table, WEDGEPETAL_TABLE_BYTES) != 0) {
             fail("table memory is refused");
