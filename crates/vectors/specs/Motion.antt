@@ -63,7 +63,8 @@ row code left right = do
   u ← ifCoded code right
   pure (record { left = v; right = u })
 
--- "the last vector actually read, of the last coded luma block in the order A, B, C, D": b, c, d say which of the last three are coded. Without them it is A's
+-- "the last vector actually read, of the last coded luma block in the order A, B, C, D": b, c, d say which of the last three are coded; if none is, A is.
+-- "There always is one in that mode" (laws `four-coded` of modes, `four-luma` of frame_packet)
 unfoldable pub lastRead : Bool → Bool → Bool → Row → Row → Vector
 lastRead b c d l u = choose d (u .right) (choose c (u .left) (choose b (l .right) (l .left)))
 
