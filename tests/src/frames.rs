@@ -16,7 +16,6 @@ use crate::parts;
 use crate::random::Random;
 use crate::reference::decode::Decoder;
 use crate::reference::frame::reader::{Bits, Field, FrameFault};
-use crate::reference::frame::vectors::FourRule;
 use crate::reference::frame::{FramePacket, Kind};
 use crate::reference::samples::ways::Way;
 use std::collections::BTreeMap;
@@ -222,8 +221,7 @@ impl<'a> Frame<'a> {
 
     /// Reads a packet.
     fn read(&self, packet: &[u8]) -> Result<FramePacket, FrameFault> {
-        self.decoder
-            .read(self.references, FourRule::LastIsD, packet)
+        self.decoder.read(self.references, packet)
     }
 
     /// Makes the frame of a packet, over other samples in each way.

@@ -8,7 +8,6 @@ use crate::packets::header_of;
 use crate::random::Random;
 use crate::reference::decode::Decoder;
 use crate::reference::frame::Kind;
-use crate::reference::frame::vectors::FourRule;
 use crate::reference::samples::ways::{Source, passes_16_bits};
 use recording::packet_file;
 
@@ -58,7 +57,7 @@ fn stream(random: &mut Random) -> Vec<Vec<u8>> {
             Kind::Repeat => Vec::new(),
             _ => encoded(random, &decoder, kind).written.bytes().to_vec(),
         };
-        let read = decoder.read(true, FourRule::LastCoded, &made);
+        let read = decoder.read(true, &made);
         if read.is_ok_and(|read| !passes_16_bits(source, &read)) {
             packets.push(made);
         }
