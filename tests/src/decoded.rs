@@ -2,6 +2,7 @@
 //! the library: every frame must be what libtheora and FFmpeg make of it.
 
 use crate::call_lists::{self, Brought, State};
+use crate::four_cases::FourCases;
 use crate::frame_calls::{Caller, answer};
 use crate::frames::{self, Frame};
 use crate::generate::cases::buffer;
@@ -24,6 +25,10 @@ use std::vec::IntoIter;
 
 /// About how many blocks the damaged variants of a packet have together, at most.
 const BLOCKS_OF_VARIANTS: u64 = 1_000;
+
+/// With fewer recordings it is no fault if some case of four vectors was not
+/// met.
+const ENOUGH_RECORDINGS: usize = 10;
 
 /// What was compared.
 #[derive(Clone, Copy, Default)]
@@ -73,6 +78,7 @@ pub fn compare(files: &[String]) -> Result<(), String> {
     let mut total = Counts::default();
     let mut run = Run {
         random: Random::new(1),
+        four: FourCases::default(),
         damaged: frames::Report::default(),
         lists: call_lists::Report::default(),
     };
@@ -83,14 +89,17 @@ pub fn compare(files: &[String]) -> Result<(), String> {
         total += counts;
     }
     println!("recordings: {}: {total}", files.len());
+    println!("{}", run.four);
     println!("damaged packets:\n{}", run.damaged);
     println!("lists with other calls among the packets:\n{}", run.lists);
-    Ok(())
+    crate::all_tried(&run.four.missed(), files.len() >= ENOUGH_RECORDINGS)
 }
 
 /// What is compared beside the frames.
 struct Run {
     random: Random,
+    /// Cases of four vectors in the packets as they are.
+    four: FourCases,
     /// Damaged packets.
     damaged: frames::Report,
     /// Lists of calls.
@@ -121,10 +130,12 @@ impl Run {
                 counts.refused += 1;
                 continue;
             }
-            self.damaged(&players.reference, &caller, packet)
+            let frame = self
+                .damaged(&players.reference, &caller, packet)
                 .and_then(|()| players.feed(&mut self.random, &caller, packet))
-                .and_then(|frame| counts.compare(&frame, &libtheoras, &mut said.ffmpeg))
+                .and_then(|frame| counts.compare(frame, &libtheoras, &mut said.ffmpeg))
                 .map_err(|text| format!("frame {number}: {text}"))?;
+            self.four.count(&decoder.layout, &frame);
         }
         self.lists.of_recording(&mut self.random, &caller, frames)?;
         Ok(counts)
@@ -180,13 +191,14 @@ struct Decoded {
 }
 
 impl Counts {
-    /// Compares a frame with what libtheora and FFmpeg say of it.
+    /// Compares a frame with what libtheora and FFmpeg say of it; gives what
+    /// its packet says.
     fn compare(
         &mut self,
-        frame: &Decoded,
+        frame: Decoded,
         said: &str,
         ffmpeg: &mut Option<IntoIter<String>>,
-    ) -> Result<(), String> {
+    ) -> Result<FramePacket, String> {
         match frame.packet.kind {
             Kind::Intra => self.intra += 1,
             Kind::Inter => self.inter += 1,
@@ -203,7 +215,7 @@ impl Counts {
             }
             self.ffmpegs += 1;
         }
-        Ok(())
+        Ok(frame.packet)
     }
 }
 

@@ -4,15 +4,12 @@
 
 use crate::generate::cases::Case;
 use crate::generate::encoder::encoded;
-use crate::packets::header_of;
+use crate::packets::{COMMENT_HEADER, header_of};
 use crate::random::Random;
 use crate::reference::decode::Decoder;
 use crate::reference::frame::Kind;
 use crate::reference::samples::ways::{Source, passes_16_bits};
 use recording::packet_file;
-
-/// A comment header without comments.
-const COMMENT: &[u8] = b"\x81theora\0\0\0\0\0\0\0\0";
 
 /// How many frames a stream has, and how many packets are tried for them: with
 /// some setup headers few packets are accepted.
@@ -43,7 +40,7 @@ fn stream(random: &mut Random) -> Vec<Vec<u8>> {
     };
     let mut packets = vec![
         header_of(&case.fields),
-        COMMENT.to_vec(),
+        COMMENT_HEADER.to_vec(),
         case.header.clone(),
     ];
     for _ in 0..TRIES {
