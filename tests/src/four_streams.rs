@@ -293,9 +293,9 @@ mod tests {
         }
     }
 
-    /// Whether the macro block behind shows each vector but its own: zero,
-    /// FOUR's and its own are three predictions of its block A.
-    fn a_wrong_vector_shows(layout: &Layout, packet: &FramePacket, previous: &[u8]) {
+    /// In each case block A of the next macro block has another prediction with
+    /// zero, and with each vector of FOUR that is not its own.
+    fn assert_shown(layout: &Layout, packet: &FramePacket, previous: &[u8]) {
         for (number, _) in cases(layout, packet) {
             let behind = layout.macro_blocks[number + 1].luma[0];
             let own = packet.records[behind].prediction;
@@ -319,7 +319,7 @@ mod tests {
         let mut new = previous.clone();
         for packet in &packets[3..] {
             let read = decoder.read(true, packet).unwrap();
-            a_wrong_vector_shows(&decoder.layout, &read, &previous);
+            assert_shown(&decoder.layout, &read, &previous);
             decoder.make(Way::First, &read, &previous, &previous, &mut new);
             previous.copy_from_slice(&new);
             let kind = [Kind::Intra, Kind::Inter][usize::from(packet[0] >= 0x40)];
