@@ -3,7 +3,7 @@
 //! (`tests/streams/make`). Nothing but vectors makes their inter frames: no
 //! block of them has coefficients.
 
-use crate::four_cases::{FORMATS, SHOWING};
+use crate::four_cases::{FORMATS, SHOWING, sets};
 use crate::generate::encoder::{put_component, put_run};
 use crate::packets::{COMMENT_HEADER, header_of};
 use crate::random::Random;
@@ -182,8 +182,7 @@ impl Sent {
 fn plan(random: &mut Random, skipped: usize, macro_blocks: usize) -> Vec<Sent> {
     let still = Sent::whole(Mode::NoMv, &[]);
     let mut plan = vec![still.clone(); skipped];
-    for set in 1..16 {
-        let coded = [0, 1, 2, 3].map(|block| set >> block & 1 == 1);
+    for coded in sets() {
         for (times, next) in (1..).zip(SHOWING) {
             let vectors = different_vectors(random);
             plan.push(Sent::whole(Mode::Mv, &vectors[4..]));
