@@ -37,8 +37,6 @@ struct Counts {
     inter: u64,
     repeats: u64,
     tokens: u64,
-    /// Packets that libtheora refuses.
-    refused: u64,
     /// Frames that were compared with FFmpeg's.
     ffmpegs: u64,
 }
@@ -49,7 +47,6 @@ impl AddAssign for Counts {
         self.inter += other.inter;
         self.repeats += other.repeats;
         self.tokens += other.tokens;
-        self.refused += other.refused;
         self.ffmpegs += other.ffmpegs;
     }
 }
@@ -65,11 +62,7 @@ impl fmt::Display for Counts {
             self.repeats,
             self.tokens,
             self.ffmpegs
-        )?;
-        if self.refused > 0 {
-            write!(f, "; {} packets that libtheora refuses", self.refused)?;
-        }
-        Ok(())
+        )
     }
 }
 
@@ -126,10 +119,6 @@ impl Run {
         for (number, packet) in (3..).zip(frames) {
             let libtheoras = said.libtheora.remove(&number);
             let libtheoras = libtheoras.ok_or("libtheora has fewer frames")?;
-            if libtheoras.starts_with("refused") {
-                counts.refused += 1;
-                continue;
-            }
             let frame = self
                 .damaged(&players.reference, &caller, packet)
                 .and_then(|()| players.feed(&mut self.random, &caller, packet))
@@ -206,12 +195,12 @@ impl Counts {
         }
         self.tokens += frame.packet.tokens;
         if frame.line != said {
-            return Err(format!("{} is libtheora's {said}", frame.line));
+            return Err(format!("{}; libtheora's is {said}", frame.line));
         }
         if let (Some(hashes), true) = (ffmpeg, frame.packet.kind != Kind::Repeat) {
             let hash = hashes.next().ok_or("FFmpeg has fewer frames")?;
             if !frame.line.ends_with(&hash) {
-                return Err(format!("{} is FFmpeg's {hash}", frame.line));
+                return Err(format!("{}; FFmpeg's is {hash}", frame.line));
             }
             self.ffmpegs += 1;
         }

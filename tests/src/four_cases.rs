@@ -59,10 +59,14 @@ impl fmt::Display for FourCases {
     }
 }
 
+/// All sets of coded luma blocks but the empty one: which of A, B, C, D.
+pub fn sets() -> impl Iterator<Item = [bool; 4]> {
+    (1..16).map(|set| [0, 1, 2, 3].map(|block| set >> block & 1 == 1))
+}
+
 /// All cases.
 fn all() -> impl Iterator<Item = FourCase> {
-    let sets = (1..16).map(|set| [0, 1, 2, 3].map(|block| set >> block & 1 == 1));
-    sets.flat_map(|coded| {
+    sets().flat_map(|coded| {
         FORMATS.into_iter().flat_map(move |format| {
             SHOWING.map(|next| FourCase {
                 format,

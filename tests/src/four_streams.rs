@@ -3,7 +3,7 @@
 //! (`tests/streams/make`). Nothing but vectors makes their inter frames: no
 //! block of them has coefficients.
 
-use crate::four_cases::{FORMATS, SHOWING};
+use crate::four_cases::{FORMATS, SHOWING, sets};
 use crate::generate::encoder::{put_component, put_run};
 use crate::packets::{COMMENT_HEADER, header_of};
 use crate::random::Random;
@@ -182,8 +182,7 @@ impl Sent {
 fn plan(random: &mut Random, skipped: usize, macro_blocks: usize) -> Vec<Sent> {
     let still = Sent::whole(Mode::NoMv, &[]);
     let mut plan = vec![still.clone(); skipped];
-    for set in 1..16 {
-        let coded = [0, 1, 2, 3].map(|block| set >> block & 1 == 1);
+    for coded in sets() {
         for (times, next) in (1..).zip(SHOWING) {
             let vectors = different_vectors(random);
             plan.push(Sent::whole(Mode::Mv, &vectors[4..]));
@@ -293,9 +292,9 @@ mod tests {
         }
     }
 
-    /// Whether the macro block behind shows each vector but its own: zero,
-    /// FOUR's and its own are three predictions of its block A.
-    fn a_wrong_vector_shows(layout: &Layout, packet: &FramePacket, previous: &[u8]) {
+    /// In each case block A of the next macro block has another prediction with
+    /// zero, and with each vector of FOUR that is not its own.
+    fn assert_shown(layout: &Layout, packet: &FramePacket, previous: &[u8]) {
         for (number, _) in cases(layout, packet) {
             let behind = layout.macro_blocks[number + 1].luma[0];
             let own = packet.records[behind].prediction;
@@ -319,7 +318,7 @@ mod tests {
         let mut new = previous.clone();
         for packet in &packets[3..] {
             let read = decoder.read(true, packet).unwrap();
-            a_wrong_vector_shows(&decoder.layout, &read, &previous);
+            assert_shown(&decoder.layout, &read, &previous);
             decoder.make(Way::First, &read, &previous, &previous, &mut new);
             previous.copy_from_slice(&new);
             let kind = [Kind::Intra, Kind::Inter][usize::from(packet[0] >= 0x40)];
