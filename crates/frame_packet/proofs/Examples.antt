@@ -4,7 +4,7 @@ use mathlib.Core.Path.{_≡_, refl}
 use mathlib.Core.List.{List, [], _∷_}
 use mathlib.Core.Bool.{true, false}
 use lib.ListN.{replicate}
-use lib.IntN.{ℤ, pos}
+use lib.IntN.{ℤ, pos, negsuc}
 use Rattle.bitstream.specs.Bits.{bitAt, number}
 use Rattle.bitstream.specs.Reading.{got, refused, field, judged, until, whole}
 use Rattle.runs.specs.Runs.{rank, most, start as leastRun, extra as runExtra, runLength, run, nextBit, oneRun, sent, bitString}
@@ -23,8 +23,10 @@ use Rattle.frame_header.specs.declared.Kind.the-variants.{Intra, Inter}
 use Rattle.frame_header.specs.Header.{frameType, moreQis, qiList, reserved, kindOf, frameHeader}
 use Rattle.coded_flags.specs.Flags.{ones, sizesFrom, superFlags, partlyBlocks, spread, interFlags, intraFlags}
 use Rattle.coded_flags.specs.Coded.{order, flagged, codedBlocks, codedLuma, nowCoded, setAt, codedRecords}
-use Rattle.modes.specs.Modes.{sentAlphabet, lumaCoded, modeOf, modesFrom, macroModes}
-use Rattle.vectors.specs.Motion.{still, motion, predictionOf}
+use Rattle.modes.specs.Modes.{mode, sentAlphabet, lumaCoded, modeOf, modesFrom, macroModes}
+use Rattle.block_record.specs.declared.Prediction.the-variants.{Previous}
+use Rattle.vectors.specs.Component.{added, shortest, width, least, variable, byCode, component, vector}
+use Rattle.vectors.specs.Motion.{still, ifCoded, row, lastRead, movingFour, motion, lumaVector, fourVector, predictionOf}
 use Rattle.vectors.specs.Vectors.{numberIn, codedIn, predictedAt, predictedFrom, macroBlock, macroBlocks, vectors}
 use Rattle.block_qi.specs.BlockQi.{steps, blockQi}
 use Rattle.numeric.specs.Sign.{withSign}
@@ -71,3 +73,21 @@ unfolding framePacket frame frameHeader frameType moreQis qiList reserved kindOf
     intraFlags ones order flagged codedBlocks codedLuma setAt codedRecords rasterNumber frameOrder planeOrder inPlane inTurn ordered rowOfTiles tile present moved blocksOf blocksBefore total
     blockQi steps readTokens positionsFrom atPosition choices table group ranks start pass visit readFor act runOf unfinished token tokenCode code extra meaning withSign rowOf whole field number bitAt
 ones-all = refl
+
+-- a block that is coded and predicted from previous by the vector (x, y)
+abbrev moved-by : ℤ → ℤ → BlockRecord
+moved-by x y = record { coded = true; «qi_index» = 0; prediction = Previous (record { x = x; y = y }) }
+
+-- two macro blocks, and lone leaves of the token 0. The first has four vectors and its block D is not coded: A (1, 0), B (0, 1), C (-1, 2). The second, LAST,
+-- of which only block A is coded, takes the last vector that was read, which is C's
+four-then-last : framePacket Chroma420 2 1 (replicate 80 (leaf 0)) true (0x41 ∷ 0x51 ∷ 0x28 ∷ 0x21 ∷ 0xFB ∷ 0x10 ∷ 0x0A ∷ 0x60 ∷ 0x00 ∷ 0x00 ∷ [])
+    ≡ got (given Inter (1 ∷ []) (0 ∷ 1 ∷ 4 ∷ 2 ∷ [])
+    (moved-by (pos 1) (pos 0) ∷ moved-by (pos 0) (pos 1) ∷ moved-by (negsuc 0) (pos 2) ∷ uncoded ∷ moved-by (negsuc 0) (pos 2) ∷ replicate 7 uncoded)
+    (replicate 256 (pos 0)) (replicate 4 0) 4) 76
+unfolding framePacket frame frameHeader frameType moreQis qiList reserved kindOf judged body flagsOf predictions
+    interFlags superFlags sizesFrom partlyBlocks spread ones superBlockOf superBlockIn superBlocksBefore superBlocksOf bitString sent until oneRun nextBit run runLength rank most runExtra leastRun
+    order flagged codedBlocks codedLuma setAt codedRecords rasterNumber frameOrder planeOrder inPlane inTurn ordered rowOfTiles tile present moved blocksOf blocksBefore total
+    macroModes sentAlphabet modesFrom modeOf mode lumaCoded
+    vectors macroBlocks macroBlock motion still movingFour lastRead row ifCoded vector component byCode variable added shortest width least predictedFrom predictedAt codedIn numberIn predictionOf fourVector lumaVector blocksOfMacro fourOf chromaOf
+    blockQi steps readTokens positionsFrom atPosition choices table group ranks start pass visit readFor act runOf unfinished token tokenCode code extra meaning withSign rowOf whole field number bitAt
+four-then-last = refl

@@ -18,7 +18,9 @@ use Rattle.geometry.specs.Rank.{rankIn}
 use Rattle.geometry.proofs.Orders.{indexOf}
 use Rattle.geometry.proofs.PlaneOrders.{macro-order}
 use Rattle.geometry.proofs.MacroLaws.{luma-macro}
-use Rattle.modes.specs.Modes.{lumaCoded}
+use Rattle.bitstream.specs.Reading.{got}
+use Rattle.modes.specs.Modes.{lumaCoded, macroModes}
+use Rattle.modes.proofs.Sent.{four-coded}
 
 -- block number i is a coded luma block of macro block number m
 pub record CodedLuma (f : PixelFormat) (w h : ℕ) (flags : List ℕ) (m i : ℕ) : Type 0 where
@@ -73,3 +75,7 @@ module _ (f : PixelFormat) (w h : ℕ) (flags : List ℕ) (m : ℕ) (hm : m < ma
         let z : i / 4 ≡ m = macro-once w h (i / 4) m (k .1) hm (k .2 ∙ t .1 .of-macro) in
         lt-ltb 0 _ (some-flag i (i % 4) (omega arith) (omega arith) (t .1 .coded)),
   )
+
+  -- "There always is one in that mode": a macro block of mode 7, FOUR, has a coded luma block
+  pub four-luma : (p : List ℕ) (i : ℕ) {modes : List ℕ} {e : ℕ} → macroModes flags (macroBlocksOf w h) p i ≡ got modes e → getD modes m 0 ≡ 7 → (j : ℕ) × CodedLuma f w h flags m j
+  four-luma p i g four = found (four-coded flags (macroBlocksOf w h) p i g m hm four)

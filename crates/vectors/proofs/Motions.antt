@@ -26,7 +26,7 @@ use Rattle.vectors.specs.declared.RowRead.the-variants as row-read
 use Rattle.vectors.specs.declared.MovedRead.{MovedRead}
 use Rattle.vectors.specs.declared.MovedRead.the-variants as moved-read
 use Rattle.vectors.specs.Component.{vector}
-use Rattle.vectors.specs.Motion.{zeroVector, behind, still, moving, movingGolden, ifCoded, row, movingFour, motion, meanOfTwo, meanOfFour, lumaVector, chromaVector, fourVector, predictionOf, RowInRange, MotionInRange, MovedInRange, asRow, asMoved}
+use Rattle.vectors.specs.Motion.{zeroVector, behind, still, moving, movingGolden, ifCoded, row, lastRead, movingFour, motion, meanOfTwo, meanOfFour, lumaVector, chromaVector, fourVector, predictionOf, RowInRange, MotionInRange, MovedInRange, asRow, asMoved}
 use Rattle.vectors.proofs.Components.{vector-small}
 
 -- ---- what an answer says of the outcome o, by its arm
@@ -146,6 +146,13 @@ module _ (code : ℕ) (left right : Bool) (p : List ℕ) (i : ℕ) where
       go v u hv hu q = let z : record { left = v; right = u } ≡ r = cc in subst RowInRange z (record { left = hv; right = hu })
 
 -- ---- four vectors
+last-read-small : (b c d : Bool) (l u : Row) → RowInRange l → RowInRange u → VectorInRange (lastRead b c d l u)
+unfolding lastRead
+last-read-small b c true l u hl hu = hu .right
+last-read-small b true false l u hl hu = hu .left
+last-read-small true false false l u hl hu = hl .right
+last-read-small false false false l u hl hu = hl .left
+
 module _ (code : ℕ) (a b c d : Bool) (last : Vector) (p : List ℕ) (i : ℕ) where
   pub four-end : {k e : ℕ} → row code a b p i ≡ refused k e → movingFour code a b c d last p i ≡ refused k e
   unfolding movingFour
@@ -155,7 +162,7 @@ module _ (code : ℕ) (a b c d : Bool) (last : Vector) (p : List ℕ) (i : ℕ) 
   unfolding movingFour
   four-cut f g = rw (f, g)
 
-  pub four-sent : {l u : Row} {e j : ℕ} → row code a b p i ≡ got l e → row code c d p e ≡ got u j → movingFour code a b c d last p i ≡ got (behind (Four l u) (u .right) last) j
+  pub four-sent : {l u : Row} {e j : ℕ} → row code a b p i ≡ got l e → row code c d p e ≡ got u j → movingFour code a b c d last p i ≡ got (behind (Four l u) (lastRead b c d l u) last) j
   unfolding movingFour
   four-sent f g = rw (f, g)
 
@@ -200,11 +207,11 @@ module _ (code mode : ℕ) (a b c d : Bool) (last last2 : Vector) (p : List ℕ)
     four-small : movingFour code a b c d last p i ≡ got m e → MovedInRange m
     unfolding movingFour
     four-small r =
-        let u = bind-got (row code a b) (λ l. bind (row code c d) (λ v. pure (behind (Four l v) (v .right) last))) p i r in
-        let w = bind-got (row code c d) (λ v. pure (behind (Four (u .0) v) (v .right) last)) p (u .1) (u .3) in
+        let u = bind-got (row code a b) (λ l. bind (row code c d) (λ v. pure (behind (Four l v) (lastRead b c d l v) last))) p i r in
+        let w = bind-got (row code c d) (λ v. pure (behind (Four (u .0) v) (lastRead b c d (u .0) v) last)) p (u .1) (u .3) in
         let l = row-small code a b p i (u .2) in
         let v = row-small code c d p (u .1) (w .2) in
-        same (record { motion = (l, v); last = v .right; last2 = h }) (w .3)
+        same (record { motion = (l, v); last = last-read-small b c d (u .0) (w .0) l v; last2 = h }) (w .3)
 
     go-motion : (x y z : Bool) → pick x (moving code last) (pick y (movingGolden code last last2) (pick z (movingFour code a b c d last) (pure (still mode last last2)))) p i ≡ got m e → MovedInRange m
     go-motion true y z r = mv-small r

@@ -63,12 +63,17 @@ row code left right = do
   u ← ifCoded code right
   pure (record { left = v; right = u })
 
--- 7 FOUR: "luma blocks A, B (lower), C, D, .. last2 takes last, last takes D's vector"
+-- "the last vector actually read, of the last coded luma block in the order A, B, C, D": b, c, d say which of the last three are coded; if none is, A is.
+-- "There always is one in that mode" (laws `four-coded` of modes, `four-luma` of frame_packet)
+unfoldable pub lastRead : Bool → Bool → Bool → Row → Row → Vector
+lastRead b c d l u = choose d (u .right) (choose c (u .left) (choose b (l .right) (l .left)))
+
+-- 7 FOUR: "luma blocks A, B (lower), C, D, .. last2 takes last", and last the last vector that was read
 unfoldable pub movingFour : ℕ → Bool → Bool → Bool → Bool → Vector → Parse Moved
 movingFour code a b c d last = do
   lower ← row code a b
   upper ← row code c d
-  pure (behind (Four lower upper) (upper .right) last)
+  pure (behind (Four lower upper) (lastRead b c d lower upper) last)
 
 -- a macro block of a mode, where a, b, c, d say which of its luma blocks are coded. A mode is at most 7; any other number would count as NOMV
 unfoldable pub motion : ℕ → ℕ → Bool → Bool → Bool → Bool → Vector → Vector → Parse Moved

@@ -21,7 +21,7 @@ ghost use Rattle.numeric.specs.Sign.{withSign};
 ghost use Rattle.vectors.specs.Component.{added, shortest, variable, byCode, component, vector, asComponent, asVector};
 ghost use Rattle.vectors.specs.Vectors.{numberIn, codedIn, predictedAt, predictedFrom, macroBlock, macroBlocks, vectors};
 ghost use Rattle.vectors.specs.Memory.{stateOf, StoredState, asStep};
-ghost use Rattle.vectors.specs.Motion.{zeroVector, behind, still, moving, movingGolden, ifCoded, row, movingFour, motion, meanOfTwo, meanOfFour, lumaVector, chromaVector, fourVector, predictionOf, RowInRange, MotionInRange, asRow, asMoved};
+ghost use Rattle.vectors.specs.Motion.{zeroVector, behind, still, moving, movingGolden, ifCoded, row, lastRead, movingFour, motion, meanOfTwo, meanOfFour, lumaVector, chromaVector, fourVector, predictionOf, RowInRange, MotionInRange, asRow, asMoved};
 
 // A component and the place behind it, or the number of the refusal and its place; likewise the enums below.
 enum ComponentRead {
@@ -263,7 +263,23 @@ fn read_moving_golden(packet: &[u8], at: usize, code: u32, last: Vector, last2: 
     }
 }
 
-// FOUR: a vector for each coded luma block, in the order A, B, C, D; D's is kept.
+// The vector of the last coded block of A, B, C, D, of which one is coded.
+fn last_read(b: bool, c: bool, d: bool, lower: Row, upper: Row) -> Vector
+    ensures { λ r. ⌜ r ≡ lastRead b c d lower upper ⌝ }
+{
+    if d {
+        return upper.right;
+    }
+    if c {
+        return upper.left;
+    }
+    if b {
+        return lower.right;
+    }
+    lower.left
+}
+
+// FOUR: a vector for each coded luma block, in the order A, B, C, D; the last one is kept.
 fn read_moving_four(
     packet: &[u8],
     at: usize,
@@ -285,7 +301,7 @@ fn read_moving_four(
             match second {
                 RowRead::Refused(k, e) => MovedRead::Refused(k, e),
                 RowRead::Got(upper, end) => {
-                    let newest = upper.right;
+                    let newest = last_read(b, c, d, lower, upper);
                     MovedRead::Got(
                         Moved {
                             motion: Motion::Four(lower, upper),

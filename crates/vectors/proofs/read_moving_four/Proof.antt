@@ -1,7 +1,9 @@
 -- `vectors::read_moving_four` meets its contract. Assumes nothing.
-use mathlib.Core.Path.{_≡_, sym, ap}
+use mathlib.Core.Path.{_≡_, sym, ap, _∙_}
 use Rattle.bitstream.specs.Reading.{got}
-use Rattle.vectors.specs.Motion.{row, asMoved}
+use Rattle.block_record.specs.declared.Vector.{Vector}
+use Rattle.vectors.specs.declared.Motion.the-variants.{Four}
+use Rattle.vectors.specs.Motion.{behind, row, asMoved}
 use Rattle.vectors.proofs.Motions.{row-got, row-refused, four-end, four-cut, four-sent}
 use borrow.Author.Needs.{needs}
 use Rattle.vectors.proofs.read_moving_four.Statement.{statement}
@@ -34,8 +36,16 @@ returns c = let a = c .before .before .before .before .before .args in sym (ap a
 returns-2 : tie.Need-returns-2
 returns-2 c = let a = c .before .before .before .before .before .before .before .before .before .args in sym (ap asMoved (four-cut (a .code) (a .a) (a .b) (a .c) (a .d) (a .last) (a .packet .now) (a .at) (lower-got (c .before .before .before .before)) (row-refused (row (a .code) (a .c) (a .d) (a .packet .now) (c .before .before .before .before .before .first2 .given .0 .1 .0)) (c .before .before .before .read-row2 .ensures) (c .before .second .given .1))))
 
+last-read-requires : tie.Need-last-read-requires
+last-read-requires c κs = search needs
+
 returns-3 : tie.Need-returns-3
-returns-3 c = let a = c .before .before .before .before .before .before .before .before .before .before .args in sym (ap asMoved (four-sent (a .code) (a .a) (a .b) (a .c) (a .d) (a .last) (a .packet .now) (a .at) (lower-got (c .before .before .before .before .before)) (row-got (row (a .code) (a .c) (a .d) (a .packet .now) (c .before .before .before .before .before .before .first2 .given .0 .1 .0)) (c .before .before .before .before .read-row2 .ensures) (c .before .before .second2 .given .1))))
+returns-3 c =
+    let a = c .before .before .before .before .before .before .before .before .before .before .args in
+    let l = c .before .before .before .before .before .before .first2 .given .0 .0 in
+    let u = c .before .before .second2 .given .0 in
+    ap (λ (v : Vector). asMoved (got (behind (Four l (u .0)) v (a .last)) (u .1 .0))) (c .last-read .ensures)
+    ∙ sym (ap asMoved (four-sent (a .code) (a .a) (a .b) (a .c) (a .d) (a .last) (a .packet .now) (a .at) (lower-got (c .before .before .before .before .before)) (row-got (row (a .code) (a .c) (a .d) (a .packet .now) (c .before .before .before .before .before .before .first2 .given .0 .1 .0)) (c .before .before .before .before .read-row2 .ensures) (c .before .before .second2 .given .1))))
 
 pub read-moving-four-spec : {M : Type 1} → statement M
 read-moving-four-spec =
@@ -47,6 +57,7 @@ read-moving-four-spec =
     read-row-requires-2
     enum-known-second
     enum-known-second-2
+    last-read-requires
     returns
     returns-2
     returns-3)
