@@ -1,17 +1,19 @@
--- At a border both ranges give the same matrix. Assumes nothing.
-use Prim.Native.Nat.{ℕ, _+_, _-_, _*_, _/_, _≤_, _<_}
+-- At a border both ranges give the same matrix, and so do any two ranges that hold qi. Assumes nothing.
+use Prim.Native.Nat.{ℕ, zero, suc, _+_, _-_, _*_, _/_, _≤_, _<_}
 use native.Mathlib.Omega.{arith}
 use mathlib.Core.Path.{_≡_, refl, sym, ap, _∙_}
 use mathlib.Core.List.{List}
 use lib.Arith.{digits-div}
-use lib.Dec.{eqb}
+use mathlib.Core.Bool.{Bool, true, false}
+use lib.Dec.{eqb, leb, ltb}
+use borrow.Author.Tests.{leb-true, leb-false, ltb-true, ltb-false}
 use lib.ListN.{length, getD, take}
 use Rattle.bitstream.specs.Reading.{choose}
 use Rattle.bitstream.specs.Lists.{tabulated}
 use Rattle.bitstream.proofs.Lists.{tabulated-same}
 use Rattle.quantization.specs.Parameters.{Ranges, Quantization}
 use Rattle.quantization.specs.Sound.{total, Sound}
-use Rattle.matrices.specs.Matrix.{rangeAt, interpolated, minimum, scaled, valueAt, baseAt, entryAt}
+use Rattle.matrices.specs.Matrix.{rangeAt, InRange, interpolated, minimum, scaled, valueAt, baseAt, entryAt}
 use Rattle.matrices.specs.declared.Range.{Range}
 use Rattle.matrices.proofs.Ranges.{total-more}
 
@@ -54,3 +56,37 @@ module _ (q : Quantization) {n : ℕ} (set : Ranges) (s : Sound n set) (k : ℕ)
 
   pub border-same : tabulated (entryAt q set (rangeAt l k) type qi) 0 64 ≡ tabulated (entryAt q set (rangeAt l (k + 1)) type qi) 0 64
   border-same = tabulated-same _ _ 0 64 (λ j v. one (0 + j))
+
+-- ---- any two ranges that hold qi
+-- each range begins behind the one before it, by 1 at least
+later : (l : List ℕ) → ((j : ℕ) → j < length l → 1 ≤ getD l j 0) → (k d e : ℕ) → k + d ≡ e → e ≤ length l → total (take k l) + d ≤ total (take e l)
+later l pos k zero e at h = let z : k ≡ e = omega arith in omega (arith, ap (λ (i : ℕ). total (take i l)) z)
+later l pos k (suc d) e at h =
+    let z : k + d + 1 ≡ e = omega arith in
+    omega (arith, later l pos k d (k + d) refl (omega arith), total-more l (k + d) (omega arith), pos (k + d) (omega arith), ap (λ (i : ℕ). total (take i l)) z)
+
+module _ (q : Quantization) {n : ℕ} (set : Ranges) (s : Sound n set) (type qi : ℕ) where
+  abbrev by : ℕ → List ℕ
+  by k = tabulated (entryAt q set (rangeAt (set .sizes) k) type qi) 0 64
+
+  -- of two different ranges the later is the next one, and qi is the border
+  ordered : (j k : ℕ) → j ≤ k → k < length (set .sizes) → InRange (rangeAt (set .sizes) j) qi → InRange (rangeAt (set .sizes) k) qi → by j ≡ by k
+  ordered j k le h a b = go (ltb j k) refl
+    where
+      go : (t : Bool) → ltb j k ≡ t → by j ≡ by k
+      go false t = let z : j ≡ k = omega (arith, ltb-false j k t) in ap by z
+      go true t =
+          let l = set .sizes in
+          let before : j < k = ltb-true j k t in
+          let far = later l (s .positive) (j + 1) (k - (j + 1)) k (omega arith) (omega arith) in
+          let next : j + 1 ≡ k = omega (arith, far, total-more l j (omega arith), a .to, b .from) in
+          let here : total (take j l) + getD l j 0 ≡ qi = omega (arith, far, total-more l j (omega arith), a .to, b .from) in
+          ap (λ (x : ℕ). tabulated (entryAt q set (rangeAt l j) type x) 0 64) (sym here) ∙ border-same q set s j (omega arith) type
+          ∙ ap (λ (x : ℕ). tabulated (entryAt q set (rangeAt l (j + 1)) type x) 0 64) here ∙ ap by next
+
+  pub two-same : (j k : ℕ) → j < length (set .sizes) → k < length (set .sizes) → InRange (rangeAt (set .sizes) j) qi → InRange (rangeAt (set .sizes) k) qi → by j ≡ by k
+  two-same j k hj hk a b = go (leb j k) refl
+    where
+      go : (t : Bool) → leb j k ≡ t → by j ≡ by k
+      go true t = ordered j k (leb-true j k t) hk a b
+      go false t = let z : k < j = leb-false j k t in sym (ordered k j (omega arith) hj b a)

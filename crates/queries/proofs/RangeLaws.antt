@@ -10,7 +10,7 @@ use Rattle.quantization.specs.Layout.{laid}
 use Rattle.quantization.specs.Sound.{Whole, Sound}
 use Rattle.matrices.specs.Matrix.{setOf}
 use Rattle.matrices.proofs.Ranges.{range-found}
-use Rattle.matrices.proofs.Borders.{border-same}
+use Rattle.matrices.proofs.Borders.{border-same, two-same}
 use Rattle.setup.specs.Header.{Setup}
 use Rattle.setup.specs.Table.{heldSetup}
 use Rattle.tables.proofs.Held.{held-reads, holds-parameters}
@@ -25,5 +25,11 @@ held-whole t {s} h =
 
 pub ranges-hold : RangesHold
 ranges-hold t s e h type plane lt lp =
-    let sound : Sound (length (s .parameters .matrices)) (setOf (s .parameters) type plane) = held-whole t h .sound (3 * type + plane) (omega arith) in
-    (λ qi b. range-found (setOf (s .parameters) type plane) sound qi b, λ k b. border-same (s .parameters) (setOf (s .parameters) type plane) sound k b type)
+    let q = s .parameters in
+    let set = setOf q type plane in
+    let sound : Sound (length (q .matrices)) set = held-whole t h .sound (3 * type + plane) (omega arith) in
+    record {
+      found = λ qi b. range-found set sound qi b;
+      border = λ k b. border-same q set sound k b type;
+      same = λ qi j k a b c d. two-same q set sound type qi j k a b c d;
+    }

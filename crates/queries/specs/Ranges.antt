@@ -15,11 +15,18 @@ use Rattle.setup.specs.Table.{heldSetup}
 abbrev pub matrixBy : Quantization → Ranges → (k type qi : ℕ) → List ℕ
 matrixBy q set k type qi = tabulated (entryAt q set (rangeAt (set .sizes) k) type qi) 0 64
 
--- "for tables that pass number 8, and every qi from 0 to 63, a range is always found, and .. at a border both ranges give the same matrix"
+-- the ranges of one set
+pub record RangesFit (q : Quantization) (type plane : ℕ) : Type 0 where
+  -- "a range is always found": every qi lies in the range that the lookup gives, which is one of the set's
+  pub found : (qi : ℕ) → qi ≤ 63 → InRange (rangeOf (setOf q type plane .sizes) qi) qi × (rangeOf (setOf q type plane .sizes) qi .number < length (setOf q type plane .sizes))
+  -- "at a border both ranges give the same matrix": qi is where range k ends and range k + 1 begins
+  pub border : (k : ℕ) → k + 1 < length (setOf q type plane .sizes) → let qi = total (take k (setOf q type plane .sizes)) + getD (setOf q type plane .sizes) k 0 in
+      matrixBy q (setOf q type plane) k type qi ≡ matrixBy q (setOf q type plane) (k + 1) type qi
+  -- so do any two ranges that hold qi
+  pub same : (qi j k : ℕ) → j < length (setOf q type plane .sizes) → k < length (setOf q type plane .sizes)
+      → InRange (rangeAt (setOf q type plane .sizes) j) qi → InRange (rangeAt (setOf q type plane .sizes) k) qi
+      → matrixBy q (setOf q type plane) j type qi ≡ matrixBy q (setOf q type plane) k type qi
+
+-- "for tables that pass number 8": table memory that holds a setup; both types, all three planes
 abbrev pub RangesHold : Type 0
-RangesHold = (t : List ℕ) (s : Setup) (e : ℕ) → heldSetup t ≡ got s e → (type plane : ℕ) → type < 2 → plane < 3
-    → let set = setOf (s .parameters) type plane in
-    ((qi : ℕ) → qi ≤ 63 → InRange (rangeOf (set .sizes) qi) qi × (rangeOf (set .sizes) qi .number < length (set .sizes)))
-    × ((k : ℕ) → k + 1 < length (set .sizes)
-    → let qi = total (take k (set .sizes)) + getD (set .sizes) k 0 in
-    matrixBy (s .parameters) set k type qi ≡ matrixBy (s .parameters) set (k + 1) type qi)
+RangesHold = (t : List ℕ) (s : Setup) (e : ℕ) → heldSetup t ≡ got s e → (type plane : ℕ) → type < 2 → plane < 3 → RangesFit (s .parameters) type plane
