@@ -26,6 +26,15 @@ inner : rangeOf (2 ∷ 60 ∷ 1 ∷ []) 3 ≡ record { number = 1; start = 2; si
 unfolding rangeFrom
 inner = refl
 
+-- qi 63 lies in the last range, also where a set has one range alone
+last : rangeOf (2 ∷ 60 ∷ 1 ∷ []) 63 ≡ record { number = 2; start = 62; size = 1 }
+unfolding rangeFrom
+last = refl
+
+only : rangeOf (63 ∷ []) 63 ≡ record { number = 0; start = 0; size = 63 }
+unfolding rangeFrom
+only = refl
+
 -- halfway between 10 and 13 is 11.5, which the rounding term takes up to 12
 halfway : interpolated (record { number = 0; start = 0; size = 2 }) 1 10 13 ≡ 12
 unfolding interpolated

@@ -3,20 +3,24 @@ use Prim.Native.Nat.{ℕ, _+_, _-_, _*_, _/_, _≤_, min, max}
 use mathlib.Core.Path.{_≡_}
 use mathlib.Core.List.{List, [], _∷_}
 use lib.Dec.{eqb, leb}
-use lib.ListN.{getD}
+use lib.ListN.{getD, take, drop}
 use Rattle.bitstream.specs.Reading.{choose}
 use Rattle.bitstream.specs.Lists.{tabulated}
 use Rattle.quantization.specs.Parameters.{Ranges, Quantization, none}
-use Rattle.quantization.specs.Sound.{Holds}
+use Rattle.quantization.specs.Sound.{total, Holds}
 use Rattle.matrices.specs.declared.Range.{Range}
 
--- the first range that ends at qi or behind it, of those from range k on, which begins at s. An accepted set always has one (`range-found`): a size of 0 says that there is none
-unfoldable pub rangeFrom : ℕ → ℕ → List ℕ → ℕ → Range
-rangeFrom k s [] qi = record { number = k; start = s; size = 0 }
-rangeFrom k s (n ∷ l) qi = choose (leb qi (s + n)) (record { number = k; start = s; size = n }) (rangeFrom (k + 1) (s + n) l qi)
+-- the first range that ends at qi or behind it: range k, which begins at s and has the size n, or one of those behind it, whose sizes are the list. What none before it has lies in the last
+unfoldable pub rangeFrom : ℕ → ℕ → ℕ → List ℕ → ℕ → Range
+rangeFrom k s n [] qi = record { number = k; start = s; size = n }
+rangeFrom k s n (m ∷ l) qi = choose (leb qi (s + n)) (record { number = k; start = s; size = n }) (rangeFrom (k + 1) (s + n) m l qi)
 
 abbrev pub rangeOf : List ℕ → ℕ → Range
-rangeOf l qi = rangeFrom 0 0 l qi
+rangeOf l qi = rangeFrom 0 0 (getD l 0 0) (drop 1 l) qi
+
+-- range k of a set
+abbrev pub rangeAt : List ℕ → ℕ → Range
+rangeAt l k = record { number = k; start = total (take k l); size = getD l k 0 }
 
 -- qi lies in a range that is one
 pub record InRange (r : Range) (qi : ℕ) : Type 0 where

@@ -1,3 +1,4 @@
 pub mod FoundLaws
 pub mod OrderLaws
 pub mod SetupLaws
+pub mod RangeLaws

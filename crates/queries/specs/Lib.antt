@@ -1,3 +1,4 @@
 pub mod Found
 pub mod Orders
 pub mod Setup
+pub mod Ranges

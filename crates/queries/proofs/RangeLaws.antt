@@ -1,0 +1,35 @@
+-- Every qi has a range in a table memory that passes number 8, and at a border both ranges give the same matrix. Assumes nothing.
+use Prim.Native.Nat.{ℕ, _+_, _*_, _<_}
+use native.Mathlib.Omega.{arith}
+use mathlib.Core.Path.{_≡_, refl}
+use mathlib.Core.List.{List}
+use lib.ListN.{length}
+use Rattle.bitstream.specs.Reading.{got}
+use Rattle.huffman.specs.Tree.{nodesOf}
+use Rattle.quantization.specs.Layout.{laid}
+use Rattle.quantization.specs.Sound.{Whole, Sound}
+use Rattle.matrices.specs.Matrix.{setOf}
+use Rattle.matrices.proofs.Ranges.{range-found}
+use Rattle.matrices.proofs.Borders.{border-same, two-same}
+use Rattle.setup.specs.Header.{Setup}
+use Rattle.setup.specs.Table.{heldSetup}
+use Rattle.tables.proofs.Held.{held-reads, holds-parameters}
+use Rattle.queries.specs.Ranges.{RangesHold}
+
+-- the parameters that a table memory holds are sound
+held-whole : (t : List ℕ) {s : Setup} {e : ℕ} → heldSetup t ≡ got s e → Whole (s .parameters) t
+held-whole t {s} h =
+    let q = s .parameters in
+    holds-parameters t (held-reads t h) (s .limits) (q .acScale) (q .dcScale) (laid (λ r. r .sizes) (q .sets)) (laid (λ r. r .indices) (q .sets)) (laid nodesOf (s .trees))
+    (record { limits-are = refl; parameters-are = record { ac-is = refl; dc-is = refl; sizes-are = refl; indices-are = refl }; nodes-are = refl }) .whole
+
+pub ranges-hold : RangesHold
+ranges-hold t s e h type plane lt lp =
+    let q = s .parameters in
+    let set = setOf q type plane in
+    let sound : Sound (length (q .matrices)) set = held-whole t h .sound (3 * type + plane) (omega arith) in
+    record {
+      found = λ qi b. range-found set sound qi b;
+      border = λ k b. border-same q set sound k b type;
+      same = λ qi j k a b c d. two-same q set sound type qi j k a b c d;
+    }
