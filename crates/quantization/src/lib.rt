@@ -1,4 +1,4 @@
-// The quantization parameters of the setup header, read into lent slices, and the quantization matrices.
+// The quantization parameters of the setup header, read into lent slices; the base matrices stay in the packet.
 use bitstream::Field;
 ghost use mathlib.Core.Path.{_≡_};
 ghost use mathlib.Core.List.{List, []};
