@@ -54,7 +54,7 @@ module _ (l : List ℕ) (qi : ℕ) where
             begins = sym e;
             size-is = n;
             goes = w .goes ∙ ap (λ (x : List ℕ). rangeFrom number start size x qi) rest ∙ go-on number start size (getD l (number + 1) 0) (drop (number + 1 + 1) l) qi h
-            ∙ ap (λ (x : ℕ). rangeFrom (number + 1) (start + size) x (drop (number + 1 + 1) l) qi) (sym n);
+                ∙ ap (λ (x : ℕ). rangeFrom (number + 1) (start + size) x (drop (number + 1 + 1) l) qi) (sym n);
           },
         )
       where
