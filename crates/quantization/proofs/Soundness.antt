@@ -13,7 +13,7 @@ use Rattle.bitstream.specs.Reading.{Outcome, got, refused, after, Parse, pure, 
 use Rattle.bitstream.proofs.Fields.{no-mix}
 use Rattle.bitstream.proofs.Laws.{bind-got, until-enough}
 use Rattle.quantization.specs.Parameters.{Ranges, Quantization, Begun, withRange, scales, matrixCount, baseMatrix, index, rangeSize, range, newSet, origin, none, setFrom, moreSets, quantization}
-use Rattle.quantization.specs.Answer.{Stored}
+use Rattle.quantization.specs.Answer.{loadedParameters}
 use Rattle.quantization.specs.Sound.{total, Sound, Whole, Holds}
 use Rattle.quantization.proofs.Steps.{Matrices, matrices-are, index-lt, size-le}
 use Rattle.quantization.proofs.Sets.{origin-is, one-le}
@@ -204,6 +204,6 @@ quantization-whole p i {q} h =
           numbers = λ k c l h. m .1 .each k (omega arith) .each c h;
         })
 
--- the slices that the parameters were read into hold them
-pub read-holds : (p : List ℕ) (i : ℕ) {q : Quantization} {e : ℕ} (ac dc sizes indices : List ℕ) → quantization p i ≡ got q e → Stored q ac dc sizes indices → Holds q p (q .matricesAt) ac dc sizes indices
-read-holds p i ac dc sizes indices h s = record { stored = s; place-is = refl; whole = quantization-whole p i h }
+-- parameters that were read, as the code has them
+pub read-holds : (p : List ℕ) (i : ℕ) {q : Quantization} {e : ℕ} → quantization p i ≡ got q e → Holds p (loadedParameters q) q
+read-holds p i h = record { is = refl; whole = quantization-whole p i h }

@@ -23,6 +23,16 @@ pub enum Parameters {
     Refused(u32, usize),
 }
 
+// Parameters that were read: the AC and the DC scales, and the sizes and the indices of the quant ranges, 64 elements for each of six sets.
+// The base matrices stay in the packet: `place` is that of the first.
+pub struct LoadedParameters {
+    pub place: usize,
+    pub ac_scale: [u16; 64],
+    pub dc_scale: [u16; 64],
+    pub sizes: [u16; 384],
+    pub indices: [u16; 384],
+}
+
 // The place that a field's answer says.
 fn place_of(field: Field) -> Place
     ensures { λ r. ⌜ r ≡ placeOf field ⌝ }
