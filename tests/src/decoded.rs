@@ -1,19 +1,14 @@
 //! Recordings decoded by the independent implementation, in both ways, and by
 //! the library: every frame must be what libtheora and FFmpeg make of it.
-//!
-//! libtheora takes the last coded block's vector after a macro block with
-//! four, the rules of the base take D's. With libtheora's rule every frame must
-//! be libtheora's; with the base's, and so by the library, only those that no
-//! other vector has reached.
 
 use crate::call_lists::{self, Brought, State};
+use crate::four_cases::FourCases;
 use crate::frame_calls::{Caller, answer};
 use crate::frames::{self, Frame};
 use crate::generate::cases::buffer;
 use crate::library;
 use crate::random::Random;
 use crate::reference::decode::{Accepted, Decoder};
-use crate::reference::frame::vectors::FourRule;
 use crate::reference::frame::{FramePacket, Kind};
 use crate::reference::identification::identification;
 use crate::reference::samples::ways::Way;
@@ -31,6 +26,10 @@ use std::vec::IntoIter;
 /// About how many blocks the damaged variants of a packet have together, at most.
 const BLOCKS_OF_VARIANTS: u64 = 1_000;
 
+/// With fewer recordings it is no fault if some case of four vectors was not
+/// met.
+const ENOUGH_RECORDINGS: usize = 10;
+
 /// What was compared.
 #[derive(Clone, Copy, Default)]
 struct Counts {
@@ -38,12 +37,7 @@ struct Counts {
     inter: u64,
     repeats: u64,
     tokens: u64,
-    /// Frames that the base's rule makes otherwise than libtheora.
-    drifted: u64,
-    /// Packets that libtheora refuses.
-    refused: u64,
-    /// Frames of the library that are libtheora's, and that are FFmpeg's.
-    libtheoras: u64,
+    /// Frames that were compared with FFmpeg's.
     ffmpegs: u64,
 }
 
@@ -53,9 +47,6 @@ impl AddAssign for Counts {
         self.inter += other.inter;
         self.repeats += other.repeats;
         self.tokens += other.tokens;
-        self.drifted += other.drifted;
-        self.refused += other.refused;
-        self.libtheoras += other.libtheoras;
         self.ffmpegs += other.ffmpegs;
     }
 }
@@ -64,20 +55,14 @@ impl fmt::Display for Counts {
     fn fmt(&self, f: &mut fmt::Formatter<'_>) -> fmt::Result {
         write!(
             f,
-            "{} frames ({} intra, {} inter, {} repeats), {} tokens; by the base's rule for four vectors {} differ; of the library's {} are libtheora's, {} FFmpeg's",
+            "{} frames ({} intra, {} inter, {} repeats), {} tokens; all are libtheora's, {} compared with FFmpeg's too",
             self.intra + self.inter + self.repeats,
             self.intra,
             self.inter,
             self.repeats,
             self.tokens,
-            self.drifted,
-            self.libtheoras,
             self.ffmpegs
-        )?;
-        if self.refused > 0 {
-            write!(f, "; {} packets that libtheora refuses", self.refused)?;
-        }
-        Ok(())
+        )
     }
 }
 
@@ -86,6 +71,7 @@ pub fn compare(files: &[String]) -> Result<(), String> {
     let mut total = Counts::default();
     let mut run = Run {
         random: Random::new(1),
+        four: FourCases::default(),
         damaged: frames::Report::default(),
         lists: call_lists::Report::default(),
     };
@@ -96,14 +82,17 @@ pub fn compare(files: &[String]) -> Result<(), String> {
         total += counts;
     }
     println!("recordings: {}: {total}", files.len());
+    println!("{}", run.four);
     println!("damaged packets:\n{}", run.damaged);
     println!("lists with other calls among the packets:\n{}", run.lists);
-    Ok(())
+    crate::all_tried(&run.four.missed(), files.len() >= ENOUGH_RECORDINGS)
 }
 
 /// What is compared beside the frames.
 struct Run {
     random: Random,
+    /// Cases of four vectors in the packets as they are.
+    four: FourCases,
     /// Damaged packets.
     damaged: frames::Report,
     /// Lists of calls.
@@ -130,14 +119,12 @@ impl Run {
         for (number, packet) in (3..).zip(frames) {
             let libtheoras = said.libtheora.remove(&number);
             let libtheoras = libtheoras.ok_or("libtheora has fewer frames")?;
-            if libtheoras.starts_with("refused") {
-                counts.refused += 1;
-                continue;
-            }
-            self.damaged(&players.base, &caller, packet)
+            let frame = self
+                .damaged(&players.reference, &caller, packet)
                 .and_then(|()| players.feed(&mut self.random, &caller, packet))
-                .and_then(|frame| counts.compare(&frame, &libtheoras, &mut said.ffmpeg))
+                .and_then(|frame| counts.compare(frame, &libtheoras, &mut said.ffmpeg))
                 .map_err(|text| format!("frame {number}: {text}"))?;
+            self.four.count(&decoder.layout, &frame);
         }
         self.lists.of_recording(&mut self.random, &caller, frames)?;
         Ok(counts)
@@ -185,58 +172,46 @@ impl Said {
     }
 }
 
-/// A frame, decoded by all.
+/// A frame of the library, which is the independent implementation's.
 struct Decoded {
     packet: FramePacket,
-    /// With libtheora's rule, in libtheora's words.
-    libtheora: String,
-    /// By the library, in libtheora's words.
-    library: String,
-    /// Whether another vector can have reached it by the base's rule.
-    may_drift: bool,
+    /// In libtheora's words.
+    line: String,
 }
 
 impl Counts {
-    /// Compares a frame with what libtheora and FFmpeg say of it.
+    /// Compares a frame with what libtheora and FFmpeg say of it; gives what
+    /// its packet says.
     fn compare(
         &mut self,
-        frame: &Decoded,
+        frame: Decoded,
         said: &str,
         ffmpeg: &mut Option<IntoIter<String>>,
-    ) -> Result<(), String> {
+    ) -> Result<FramePacket, String> {
         match frame.packet.kind {
             Kind::Intra => self.intra += 1,
             Kind::Inter => self.inter += 1,
             Kind::Repeat => self.repeats += 1,
         }
         self.tokens += frame.packet.tokens;
-        if frame.libtheora != said {
-            return Err(format!("{} is libtheora's {said}", frame.libtheora));
+        if frame.line != said {
+            return Err(format!("{}; libtheora's is {said}", frame.line));
         }
-        match frame.library == said {
-            true => self.libtheoras += 1,
-            false => self.drifted += 1,
-        }
-        let mut same = frame.library == said;
         if let (Some(hashes), true) = (ffmpeg, frame.packet.kind != Kind::Repeat) {
             let hash = hashes.next().ok_or("FFmpeg has fewer frames")?;
-            let ffmpegs = frame.library.ends_with(&hash);
-            self.ffmpegs += u64::from(ffmpegs);
-            same &= ffmpegs;
+            if !frame.line.ends_with(&hash) {
+                return Err(format!("{}; FFmpeg's is {hash}", frame.line));
+            }
+            self.ffmpegs += 1;
         }
-        match same || frame.may_drift {
-            true => Ok(()),
-            false => Err(format!("the library's {} is {said}", frame.library)),
-        }
+        Ok(frame.packet)
     }
 }
 
-/// All who decode a recording.
+/// Both who decode a recording.
 struct Players<'a> {
-    base: Player<'a>,
-    libtheora: Player<'a>,
+    reference: Player<'a>,
     library: State,
-    may_drift: bool,
 }
 
 impl<'a> Players<'a> {
@@ -247,38 +222,32 @@ impl<'a> Players<'a> {
     ) -> Players<'a> {
         let length = decoder.layout.sizes.buffer as usize;
         Players {
-            base: Player::new(decoder, FourRule::LastIsD),
-            libtheora: Player::new(decoder, FourRule::LastCoded),
+            reference: Player::new(decoder),
             library: State::fresh(random, session, length),
-            may_drift: false,
         }
     }
 
-    /// Decodes a packet. The library must make the base's frame.
+    /// Decodes a packet. The library must make the independent
+    /// implementation's frame.
     fn feed(
         &mut self,
         random: &mut Random,
         caller: &Caller,
         packet: &[u8],
     ) -> Result<Decoded, String> {
-        let libtheoras = self.libtheora.feed(packet)?;
-        let bases = self.base.feed(packet)?;
-        let other = libtheoras.records != bases.records;
-        self.may_drift = bases.kind != Kind::Intra && (self.may_drift || other);
+        let read = self.reference.feed(packet)?;
         let brought = Brought {
             packet,
             table: &caller.table,
-            new: &buffer(random, self.base.previous.len()),
+            new: &buffer(random, self.reference.previous.len()),
             answer: &answer(random),
         };
         let lists = self.library.lists(caller, &brought);
-        let expected = lists.accepted(&Accepted::of(&bases), self.base.previous.clone());
+        let expected = lists.accepted(&Accepted::of(&read), self.reference.previous.clone());
         let left = library::hold(random, &lists, &expected)?;
         let frame = Decoded {
-            libtheora: line(&Accepted::of(&libtheoras).list(), &self.libtheora.previous),
-            library: line(&left.answer, &left.new),
-            packet: bases,
-            may_drift: self.may_drift,
+            line: line(&left.answer, &left.new),
+            packet: read,
         };
         self.library.hand_on(left);
         Ok(frame)
@@ -302,7 +271,6 @@ fn line(answer: &[u64], frame: &[u8]) -> String {
 /// Decodes packet after packet by the independent implementation.
 struct Player<'a> {
     decoder: &'a Decoder<'a>,
-    rule: FourRule,
     references: bool,
     golden: Vec<u8>,
     previous: Vec<u8>,
@@ -311,11 +279,10 @@ struct Player<'a> {
 }
 
 impl<'a> Player<'a> {
-    fn new(decoder: &'a Decoder<'a>, rule: FourRule) -> Player<'a> {
+    fn new(decoder: &'a Decoder<'a>) -> Player<'a> {
         let buffer = vec![0; decoder.layout.sizes.buffer as usize];
         Player {
             decoder,
-            rule,
             references: false,
             golden: buffer.clone(),
             previous: buffer.clone(),
@@ -325,7 +292,7 @@ impl<'a> Player<'a> {
 
     /// Decodes a packet in both ways and hands the frame on.
     fn feed(&mut self, packet: &[u8]) -> Result<FramePacket, String> {
-        let read = self.decoder.read(self.references, self.rule, packet);
+        let read = self.decoder.read(self.references, packet);
         let read = read.map_err(|fault| format!("refused: {fault:?}"))?;
         let (golden, previous) = (&self.golden, &self.previous);
         for (way, made) in [Way::First, Way::Second].into_iter().zip(&mut self.made) {

@@ -8,6 +8,8 @@
 //! given to the library, which must read all that the independent
 //! implementation reads, and answer and leave the same.
 
+use crate::four_cases::{FORMATS, FourCases};
+use crate::four_streams;
 use crate::frame_calls::Caller;
 use crate::generate::cases::Case;
 use crate::generate::encoder::{Encoded, encoded};
@@ -16,7 +18,6 @@ use crate::parts;
 use crate::random::Random;
 use crate::reference::decode::Decoder;
 use crate::reference::frame::reader::{Bits, Field, FrameFault};
-use crate::reference::frame::vectors::FourRule;
 use crate::reference::frame::{FramePacket, Kind};
 use crate::reference::samples::ways::Way;
 use std::collections::BTreeMap;
@@ -34,6 +35,8 @@ pub struct Report {
     faults: BTreeMap<(Field, u32), u64>,
     /// Macro blocks of accepted inter frames by mode.
     modes: [u64; 8],
+    /// Cases of four vectors.
+    four: FourCases,
     /// Blocks that are DC-only, and others.
     blocks: [u64; 2],
     tokens: u64,
@@ -59,12 +62,16 @@ pub struct Made {
     pub new: Vec<u8>,
 }
 
-/// Tries so many random packets, and some of frames with very long runs.
+/// Tries so many random packets, some with every case of four vectors, and some
+/// of frames with very long runs.
 pub fn compare(random: &mut Random, packets: u64) -> Result<Report, String> {
     let mut report = Report::default();
     for _ in 0..packets.div_ceil(PACKETS_OF_A_CASE) {
         let case = Case::small(random);
         report.of_case(random, &case, PACKETS_OF_A_CASE)?;
+    }
+    for format in FORMATS {
+        report.four_vectors(random, format)?;
     }
     // More than 4129 super blocks; more than 4129 blocks.
     for (fmbw, fmbh, kind) in [(1, 4200, Kind::Inter), (28, 27, Kind::Intra)] {
@@ -87,6 +94,21 @@ impl Report {
             let frame = Frame::of(case, &decoder, references);
             let made = packet(random, &decoder, references);
             self.of_packet(random, &frame, &caller, made.bytes(), &mut new)?;
+        }
+        Ok(())
+    }
+
+    /// Tries the packets of a stream with every case of four vectors.
+    fn four_vectors(&mut self, random: &mut Random, format: u64) -> Result<(), String> {
+        let packets = four_streams::packets(random, format);
+        let fields = four_streams::fields(format);
+        let case = Case::of(random, fields, packets[2].clone());
+        let decoder = Decoder::new(&case.fields, &case.setup);
+        let caller = Caller::new(&case.fields, &case.header)?;
+        let frame = Frame::of(&case, &decoder, true);
+        let mut new = vec![0; case.golden.len()];
+        for packet in &packets[3..] {
+            self.of_packet(random, &frame, &caller, packet, &mut new)?;
         }
         Ok(())
     }
@@ -123,7 +145,7 @@ impl Report {
             let mut packet = vec![0; (1 << 29) + 5];
             packet[..written.bytes().len()].copy_from_slice(written.bytes());
             let read = frame.read(&packet);
-            self.count(&read);
+            self.count(&frame, &read);
             let made = read.map(|read| frame.made(read, Way::First));
             caller.right(random, &frame, &packet, &made, &mut new)?;
         }
@@ -157,7 +179,7 @@ impl Report {
         new: &mut Vec<u8>,
     ) -> Result<(), String> {
         let read = frame.read(packet);
-        self.count(&read);
+        self.count(frame, &read);
         let Caller { fields, table, .. } = caller;
         parts::packet::check(
             random,
@@ -179,7 +201,7 @@ impl Report {
     }
 
     /// Counts what a packet says, or its fault.
-    fn count(&mut self, read: &Result<FramePacket, FrameFault>) {
+    fn count(&mut self, frame: &Frame, read: &Result<FramePacket, FrameFault>) {
         let read = match read {
             Err(FrameFault { fault, field }) => {
                 *self.faults.entry((*field, fault.number)).or_default() += 1;
@@ -193,18 +215,21 @@ impl Report {
             self.blocks[usize::from(*visit >= 2)] += 1;
         }
         if read.kind == Kind::Inter {
+            self.four.count(&frame.decoder.layout, read);
             read.modes
                 .iter()
                 .for_each(|mode| self.modes[*mode as usize] += 1);
         }
     }
 
-    /// The faults that a packet can have and that none of these had.
+    /// The faults that a packet can have and the cases of four vectors, as far
+    /// as none of these had them.
     pub fn missed(&self) -> Vec<String> {
-        possible()
-            .into_iter()
+        let faults = possible().into_iter();
+        faults
             .filter(|kind| !self.faults.contains_key(kind))
             .map(|(field, number)| format!("no {field:?} refused by {number}"))
+            .chain(self.four.missed())
             .collect()
     }
 }
@@ -222,8 +247,7 @@ impl<'a> Frame<'a> {
 
     /// Reads a packet.
     fn read(&self, packet: &[u8]) -> Result<FramePacket, FrameFault> {
-        self.decoder
-            .read(self.references, FourRule::LastIsD, packet)
+        self.decoder.read(self.references, packet)
     }
 
     /// Makes the frame of a packet, over other samples in each way.
@@ -322,6 +346,7 @@ impl fmt::Display for Report {
             "  modes {:?}, tokens {}, blocks with DC only {}, others {}",
             self.modes, self.tokens, self.blocks[0], self.blocks[1]
         )?;
+        writeln!(f, "  {}", self.four)?;
         writeln!(f, "  faults by field:")?;
         for ((field, number), count) in &self.faults {
             writeln!(f, "    {:20} {number}: {count}", format!("{field:?}"))?;

@@ -8,6 +8,8 @@ mod check;
 mod damage;
 mod decoded;
 mod fields;
+mod four_cases;
+mod four_streams;
 mod frame_calls;
 mod frames;
 mod generate;
@@ -35,7 +37,7 @@ const USAGE: &str = "\
 usage: compare [--packets N] [--sessions N] [--orders MAX] [--setups N]
                [--tables N] [--matrices N] [--frames N] [--calls N]
                [--lists N] [--parts N] [--seed S]
-               [--stream FILE.. | --decode FILE.. | --wild FILE.. | --time]
+               [--stream FILE.. | --decode FILE.. | --four FILE.. | --wild FILE.. | --time]
 
   --packets N   identification headers: valid, faulty, damaged, cut, extended (1000000)
   --sessions N  sessions, sound and not, each with every call on a session (500000)
@@ -57,6 +59,8 @@ usage: compare [--packets N] [--sessions N] [--orders MAX] [--setups N]
                 nothing but recordings, decoded by the independent implementation
                 and the library: every frame must be libtheora's; damaged packets;
                 lists of calls; comes last
+  --four FILE.. compares nothing: writes Ogg files with every case of four vectors,
+                in the formats 4:2:0, 4:2:2 and 4:4:4 in turn; comes last
   --wild FILE.. compares nothing: writes packet files of random frames, for
                 libtheora to decode; comes last
   --time        compares nothing: prints how long each part of making a frame takes
@@ -91,7 +95,9 @@ enum Instead {
     Headers(Vec<String>),
     /// They are decoded.
     Decode(Vec<String>),
-    /// They are written.
+    /// They are written, with every case of four vectors.
+    Four(Vec<String>),
+    /// They are written, of random frames.
     Wild(Vec<String>),
     /// The parts of making a frame are timed.
     Time,
@@ -145,6 +151,7 @@ fn options(words: &[String]) -> Result<Options, String> {
         let instead = match name.as_str() {
             "--stream" => Some(Instead::Headers as fn(_) -> _),
             "--decode" => Some(Instead::Decode as fn(_) -> _),
+            "--four" => Some(Instead::Four as fn(_) -> _),
             "--wild" => Some(Instead::Wild as fn(_) -> _),
             _ => None,
         };
@@ -186,6 +193,7 @@ fn compare(options: &Options) -> Result<(), String> {
     match &options.instead {
         Some(Instead::Headers(files)) => return streams::compare(files),
         Some(Instead::Decode(files)) => return decoded::compare(files),
+        Some(Instead::Four(files)) => return four_streams::write(files, options.seed),
         Some(Instead::Wild(files)) => return wild::write(files, options.seed),
         Some(Instead::Time) => {
             parts::time::time(&mut Random::new(options.seed));
@@ -320,6 +328,7 @@ mod tests {
         let headers = Instead::Headers(words("a b"));
         assert_eq!(instead("--seed 2 --stream a b"), Some(headers));
         assert_eq!(instead("--decode a"), Some(Instead::Decode(words("a"))));
+        assert_eq!(instead("--four a"), Some(Instead::Four(words("a"))));
         assert_eq!(instead("--wild a"), Some(Instead::Wild(words("a"))));
         assert_eq!(instead("--time --seed 3"), Some(Instead::Time));
     }

@@ -67,6 +67,9 @@ impl Header {
     }
 }
 
+/// A comment header without comments.
+pub const COMMENT_HEADER: &[u8] = b"\x81theora\0\0\0\0\0\0\0\0";
+
 /// The header of these fields.
 pub fn header_of(fields: &Fields) -> Vec<u8> {
     let header = Header {

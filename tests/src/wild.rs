@@ -4,16 +4,12 @@
 
 use crate::generate::cases::Case;
 use crate::generate::encoder::encoded;
-use crate::packets::header_of;
+use crate::packets::{COMMENT_HEADER, header_of};
 use crate::random::Random;
 use crate::reference::decode::Decoder;
 use crate::reference::frame::Kind;
-use crate::reference::frame::vectors::FourRule;
 use crate::reference::samples::ways::{Source, passes_16_bits};
 use recording::packet_file;
-
-/// A comment header without comments.
-const COMMENT: &[u8] = b"\x81theora\0\0\0\0\0\0\0\0";
 
 /// How many frames a stream has, and how many packets are tried for them: with
 /// some setup headers few packets are accepted.
@@ -44,7 +40,7 @@ fn stream(random: &mut Random) -> Vec<Vec<u8>> {
     };
     let mut packets = vec![
         header_of(&case.fields),
-        COMMENT.to_vec(),
+        COMMENT_HEADER.to_vec(),
         case.header.clone(),
     ];
     for _ in 0..TRIES {
@@ -58,7 +54,7 @@ fn stream(random: &mut Random) -> Vec<Vec<u8>> {
             Kind::Repeat => Vec::new(),
             _ => encoded(random, &decoder, kind).written.bytes().to_vec(),
         };
-        let read = decoder.read(true, FourRule::LastCoded, &made);
+        let read = decoder.read(true, &made);
         if read.is_ok_and(|read| !passes_16_bits(source, &read)) {
             packets.push(made);
         }

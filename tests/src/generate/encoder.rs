@@ -223,11 +223,11 @@ impl Encoder<'_> {
             let rest = wanted - bits.len();
             if rest < longest && self.fault() {
                 let length = rest + 1 + self.random.index(longest - rest);
-                self.put_run(which, codes, length);
+                put_run(&mut self.written, which, codes, length);
                 return Err(Spoiled);
             }
             let length = self.run_length(rest.min(longest));
-            self.put_run(which, codes, length);
+            put_run(&mut self.written, which, codes, length);
             bits.resize(bits.len() + length, bit);
             explicit = length == LONGEST;
             self.longest_runs += u64::from(explicit);
@@ -247,21 +247,20 @@ impl Encoder<'_> {
         };
         length.min(most)
     }
+}
 
-    /// A run: its code and its extra bits.
-    fn put_run(&mut self, which: Bits, codes: &RunCodes, length: usize) {
-        let behind = codes.partition_point(|code| code.0 <= length);
-        let (start, extra) = codes[behind - 1];
-        // So many 1s and a 0, the last one without the 0.
-        let ones = (1 << behind) - 2;
-        let (prefix, width) = match behind == codes.len() {
-            true => (ones >> 1, behind - 1),
-            false => (ones, behind),
-        };
-        let value = prefix << extra | (length - start) as u64;
-        self.written
-            .put(Field::Run(which), value, width as u32 + extra);
-    }
+/// Writes a run: its code and its extra bits.
+pub fn put_run(written: &mut Written<Field>, which: Bits, codes: &RunCodes, length: usize) {
+    let behind = codes.partition_point(|code| code.0 <= length);
+    let (start, extra) = codes[behind - 1];
+    // So many 1s and a 0, the last one without the 0.
+    let ones = (1 << behind) - 2;
+    let (prefix, width) = match behind == codes.len() {
+        true => (ones >> 1, behind - 1),
+        false => (ones, behind),
+    };
+    let value = prefix << extra | (length - start) as u64;
+    written.put(Field::Run(which), value, width as u32 + extra);
 }
 
 /// Modes and vectors.
@@ -341,7 +340,6 @@ impl Encoder<'_> {
     }
 
     /// A component of a vector: any, small, or the greatest.
-    #[allow(clippy::unusual_byte_groupings)] // a group is a field
     fn component(&mut self, fixed: bool) {
         let magnitude = match self.random.below(4) {
             0 => self.random.below(4),
@@ -349,21 +347,32 @@ impl Encoder<'_> {
             _ => self.random.below(32),
         };
         let sign = self.random.below(2);
-        if fixed {
-            self.written
-                .put(Field::FixedComponent, 2 * magnitude + sign, 6);
-            return;
-        }
-        let (code, width) = match magnitude {
-            0 => (0, 3),
-            1 => (1 + sign, 3),
-            2 | 3 => (2 * (magnitude + 1) + sign, 4),
-            4..8 => (0b101_000 + 2 * (magnitude - 4) + sign, 6),
-            8..16 => (0b110_0000 + 2 * (magnitude - 8) + sign, 7),
-            _ => (0b111_00000 + 2 * (magnitude - 16) + sign, 8),
-        };
-        self.written.put(Field::VariableComponent, code, width);
+        put_magnitude(&mut self.written, fixed, magnitude, sign);
     }
+}
+
+/// Writes a component of a vector.
+pub fn put_component(written: &mut Written<Field>, fixed: bool, component: i64) {
+    let sign = u64::from(component < 0);
+    put_magnitude(written, fixed, component.unsigned_abs(), sign);
+}
+
+/// Writes a component of this magnitude and sign: the fixed code has two zeros.
+#[allow(clippy::unusual_byte_groupings)] // a group is a field
+fn put_magnitude(written: &mut Written<Field>, fixed: bool, magnitude: u64, sign: u64) {
+    if fixed {
+        written.put(Field::FixedComponent, 2 * magnitude + sign, 6);
+        return;
+    }
+    let (code, width) = match magnitude {
+        0 => (0, 3),
+        1 => (1 + sign, 3),
+        2 | 3 => (2 * (magnitude + 1) + sign, 4),
+        4..8 => (0b101_000 + 2 * (magnitude - 4) + sign, 6),
+        8..16 => (0b110_0000 + 2 * (magnitude - 8) + sign, 7),
+        _ => (0b111_00000 + 2 * (magnitude - 16) + sign, 8),
+    };
+    written.put(Field::VariableComponent, code, width);
 }
 
 /// Tokens.

@@ -127,7 +127,6 @@ fn random_packet(random: &mut Random) -> Packet {
 mod tests {
     use super::super::cases::Case;
     use super::*;
-    use crate::reference::frame::vectors::FourRule;
 
     #[test]
     fn what_is_encoded_is_read() {
@@ -139,7 +138,7 @@ mod tests {
             for number in 0..20 {
                 let kind = [Kind::Inter, Kind::Intra][number % 2];
                 let Encoded { written, sent } = encoded(&mut random, &decoder, kind);
-                let read = decoder.read(true, FourRule::LastIsD, written.bytes());
+                let read = decoder.read(true, written.bytes());
                 let Some(sent) = sent else {
                     let number = read.unwrap_err().fault.number;
                     assert!(number == 12 || number == 13);

@@ -3,7 +3,6 @@
 use super::bits::Fault;
 use super::frame::codebook::{Codebooks, codebooks};
 use super::frame::reader::FrameFault;
-use super::frame::vectors::FourRule;
 use super::frame::{FramePacket, Kind, read};
 use super::layout::Layout;
 use super::samples::ways::{Source, Way, make};
@@ -91,7 +90,7 @@ pub fn frame_call(
         return outcome(refused(8), Work::Zero);
     };
     let decoder = Decoder::new(&session.fields, setup);
-    let read = match decoder.read(session.references, FourRule::LastIsD, packet) {
+    let read = match decoder.read(session.references, packet) {
         Ok(read) => read,
         Err(fault) => return outcome(Err(fault.fault), Work::Zero),
     };
@@ -154,13 +153,8 @@ impl<'a> Decoder<'a> {
     }
 
     /// Reads a packet.
-    pub fn read(
-        &self,
-        references: bool,
-        rule: FourRule,
-        packet: &[u8],
-    ) -> Result<FramePacket, FrameFault> {
-        read(&self.layout, &self.codebooks, references, rule, packet)
+    pub fn read(&self, references: bool, packet: &[u8]) -> Result<FramePacket, FrameFault> {
+        read(&self.layout, &self.codebooks, references, packet)
     }
 
     /// Makes the frame of a packet.

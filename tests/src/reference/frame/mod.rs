@@ -23,7 +23,6 @@ use header::Header;
 use modes::Mode;
 use reader::{Field, FrameFault, FrameReader};
 use record::Record;
-use vectors::FourRule;
 
 /// The kind of a frame.
 #[derive(Clone, Copy, Debug, PartialEq, Eq, PartialOrd, Ord)]
@@ -67,7 +66,6 @@ pub fn read(
     layout: &Layout,
     codebooks: &Codebooks,
     references: bool,
-    rule: FourRule,
     packet: &[u8],
 ) -> Result<FramePacket, FrameFault> {
     if packet.is_empty() {
@@ -88,7 +86,7 @@ pub fn read(
     let modes = match kind {
         Kind::Inter => {
             let modes = modes::modes(&mut reader, layout, &records)?;
-            vectors::vectors(&mut reader, layout, &modes, rule, &mut records)?;
+            vectors::vectors(&mut reader, layout, &modes, &mut records)?;
             modes
         }
         _ => vec![Mode::Intra; layout.macro_blocks.len()],

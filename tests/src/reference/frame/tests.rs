@@ -55,8 +55,7 @@ fn read_one(
     references: bool,
     packet: &[u8],
 ) -> Result<FramePacket, FrameFault> {
-    let rule = FourRule::LastIsD;
-    read(&layout(1, 1, 0), codebooks, references, rule, packet)
+    read(&layout(1, 1, 0), codebooks, references, packet)
 }
 
 fn intra(tokens: &[(u64, u32)]) -> Result<FramePacket, FrameFault> {

@@ -8,15 +8,6 @@ use super::modes::Mode;
 use super::reader::{Field, FrameFault, FrameReader};
 use super::record::{Prediction, Record, Vector};
 
-/// Which vector "last" takes after a macro block with four.
-#[derive(Clone, Copy, Debug, PartialEq, Eq)]
-pub enum FourRule {
-    /// D's, zero if D is uncoded: the rules of the base.
-    LastIsD,
-    /// The last coded block's: the specification, and libtheora.
-    LastCoded,
-}
-
 /// The two vectors that later macro blocks can repeat.
 struct Memory {
     last: Vector,
@@ -36,7 +27,6 @@ pub fn vectors(
     reader: &mut FrameReader,
     layout: &Layout,
     modes: &[Mode],
-    rule: FourRule,
     records: &mut [Record],
 ) -> Result<(), FrameFault> {
     let fixed = reader.bit(Field::VectorBit)?;
@@ -47,7 +37,7 @@ pub fn vectors(
     for (macro_block, mode) in layout.macro_blocks.iter().zip(modes) {
         if *mode == Mode::Four {
             let four = four_vectors(reader, fixed, macro_block, records)?;
-            memory.push(last_of_four(rule, macro_block, &four, records));
+            memory.push(last_of_four(macro_block, &four, records));
             predict_four(layout, macro_block, &four, records);
         } else {
             let prediction = one_prediction(reader, fixed, *mode, &mut memory)?;
@@ -102,21 +92,12 @@ fn four_vectors(
     Ok(four)
 }
 
-/// What "last" takes.
-fn last_of_four(
-    rule: FourRule,
-    macro_block: &MacroBlock,
-    four: &[Vector; 4],
-    records: &[Record],
-) -> Vector {
-    match rule {
-        FourRule::LastIsD => four[3],
-        FourRule::LastCoded => {
-            let coded = macro_block.luma.map(|block| records[block].coded);
-            let last = coded.iter().rposition(|coded| *coded);
-            four[last.expect("a mode is sent only with a coded luma block")]
-        }
-    }
+/// What "last" takes: "the last vector actually read, of the last coded luma
+/// block in the order A, B, C, D"
+fn last_of_four(macro_block: &MacroBlock, four: &[Vector; 4], records: &[Record]) -> Vector {
+    let coded = macro_block.luma.map(|block| records[block].coded);
+    let last = coded.iter().rposition(|coded| *coded);
+    four[last.expect("a mode is sent only with a coded luma block")]
 }
 
 /// The predictions of a macro block with four vectors.
@@ -226,7 +207,6 @@ mod tests {
     /// The predictions of a row of macro blocks, all blocks coded but those
     /// that are listed (by macro block and A to D).
     fn read(
-        rule: FourRule,
         packet: &BitWriter,
         modes: &[Mode],
         uncoded: &[(usize, usize)],
@@ -241,7 +221,7 @@ mod tests {
             records[layout.macro_blocks[*macro_block].luma[*block]].coded = false;
         }
         let mut reader = FrameReader::new(packet.bytes());
-        vectors(&mut reader, &layout, modes, rule, &mut records).unwrap();
+        vectors(&mut reader, &layout, modes, &mut records).unwrap();
         assert_eq!(reader.place(), packet.length());
         (layout, records)
     }
@@ -315,7 +295,7 @@ mod tests {
             Last, Mv, Last2, Last, Mv, Last2, Last2, GoldenMv, Last, NoMv, GoldenNoMv, Intra,
         ];
         let bits = fixed(&[1, 2, -3, 4, 9, 9]);
-        let (layout, records) = read(FourRule::LastIsD, &bits, &modes, &[]);
+        let (layout, records) = read(&bits, &modes, &[]);
         let previous = |x, y| Prediction::Previous(at(x, y));
         let expected = [
             previous(0, 0),               // last is 0
@@ -338,23 +318,37 @@ mod tests {
     }
 
     #[test]
-    fn four_and_what_last_takes() {
+    fn four_vectors_of_which_two_are_read() {
         let modes = [Mode::Mv, Mode::Four, Mode::Last, Mode::Last2];
         // A, C of the second macro block are coded.
         let bits = fixed(&[7, 7, 1, 2, 4, -6]);
-        let uncoded = [(1, 1), (1, 3)];
-        for (rule, last) in [
-            (FourRule::LastIsD, Vector::ZERO),
-            (FourRule::LastCoded, at(4, -6)),
-        ] {
-            let (layout, records) = read(rule, &bits, &modes, &uncoded);
-            let expected = [at(7, 7), at(1, 2), last, at(7, 7)].map(Prediction::Previous);
-            assert_eq!(first_luma(&layout, &records), expected);
-            let four = &layout.macro_blocks[1];
-            assert_eq!(records[four.luma[1]], Record::UNCODED);
-            // (1 + 4)/4 and (2 - 6)/4
-            let mean = Prediction::Previous(at(1, -1));
-            assert_eq!(records[four.chroma[0][0]].prediction, mean);
+        let (layout, records) = read(&bits, &modes, &[(1, 1), (1, 3)]);
+        let expected = [at(7, 7), at(1, 2), at(4, -6), at(7, 7)].map(Prediction::Previous);
+        assert_eq!(first_luma(&layout, &records), expected);
+        let four = &layout.macro_blocks[1];
+        assert_eq!(records[four.luma[1]], Record::UNCODED);
+        // (1 + 4)/4 and (2 - 6)/4
+        let mean = Prediction::Previous(at(1, -1));
+        assert_eq!(records[four.chroma[0][0]].prediction, mean);
+    }
+
+    #[test]
+    fn last_takes_the_last_vector_of_four_that_was_read() {
+        let modes = [Mode::Mv, Mode::Four, Mode::Last, Mode::Last2, Mode::Last2];
+        let vectors = [at(1, 2), at(3, -4), at(-5, 6), at(-7, -8)];
+        for set in 1..16 {
+            let coded: Vec<usize> = (0..4).filter(|block| set >> block & 1 == 1).collect();
+            let uncoded: Vec<(usize, usize)> = (0..4)
+                .filter(|block| !coded.contains(block))
+                .map(|block| (1, block))
+                .collect();
+            let read_ones = coded.iter().map(|block| vectors[*block]);
+            let components = read_ones.flat_map(|vector| [vector.x, vector.y]);
+            let bits = fixed(&[vec![9, 9], components.collect()].concat());
+            let (layout, records) = read(&bits, &modes, &uncoded);
+            let last = vectors[coded[coded.len() - 1]];
+            let expected = [last, at(9, 9), last].map(Prediction::Previous);
+            assert_eq!(first_luma(&layout, &records)[2..], expected, "{coded:?}");
         }
     }
 
