@@ -66,10 +66,11 @@ usage: compare [--packets N] [--sessions N] [--orders MAX] [--setups N]
   --time        compares nothing: prints how long each part of making a frame takes
 ";
 
-/// With fewer packets or calls, or fewer lists of calls, it is no fault if some
-/// refusal was not met.
+/// With fewer packets or calls, fewer lists of calls, or fewer table memories
+/// of which every matrix is compared, it is no fault if something was not met.
 const ENOUGH_PACKETS: u64 = 20_000;
 const ENOUGH_LISTS: u64 = 500;
+const ENOUGH_TABLES: u64 = 10;
 
 /// How much is compared.
 struct Options {
@@ -267,10 +268,15 @@ fn compare_setups(random: &mut Random, options: &Options) -> Result<(), String> 
     all_tried(&report.missed(), options.setups >= ENOUGH_PACKETS)?;
 
     let start = Instant::now();
-    let tally = tables::compare(random, options.tables, options.matrices).map_err(text)?;
+    let compared = tables::compare(random, options.tables, options.matrices);
+    let (tally, borders) = compared.map_err(text)?;
     heading("table memories", start);
-    println!("{tally}");
-    Ok(())
+    println!("{tally}  borders of quant ranges {borders}\n");
+    let missed = match borders {
+        0 => vec!["no border of quant ranges".to_string()],
+        _ => Vec::new(),
+    };
+    all_tried(&missed, options.matrices >= ENOUGH_TABLES)
 }
 
 /// Frame packets and frame calls.

@@ -12,9 +12,11 @@ use crate::setup_header::{accepted, with_bad_tree};
 const TABLES_OF_A_HEADER: u64 = 16;
 
 /// Compares so many table memories, and all limits and matrices of some
-/// genuine ones, `samples` in number.
-pub fn compare(random: &mut Random, tables: u64, samples: u64) -> Result<Tally, Difference> {
+/// genuine ones, `samples` in number. Gives the number of borders between two
+/// quant ranges among these matrices too.
+pub fn compare(random: &mut Random, tables: u64, samples: u64) -> Result<(Tally, u64), Difference> {
     let mut tally = Tally::new();
+    let mut borders = 0;
     let headers = tables.div_ceil(TABLES_OF_A_HEADER);
     for number in 0..headers {
         let small = random.once_in(4);
@@ -28,9 +30,21 @@ pub fn compare(random: &mut Random, tables: u64, samples: u64) -> Result<Tally, 
         }
         if number < samples {
             whole(&mut tally, &table)?;
+            borders += borders_in(&table);
         }
     }
-    Ok(tally)
+    Ok((tally, borders))
+}
+
+/// How many borders between two ranges a genuine table memory's six sets have.
+fn borders_in(table: &[u8]) -> u64 {
+    match Table::read(table) {
+        Table::Genuine(setup) => {
+            let of_set = setup.ranges.iter().map(|set| set.sizes.len() as u64 - 1);
+            of_set.sum()
+        }
+        _ => 0,
+    }
 }
 
 /// Compares every loop limit and every matrix of a table memory.

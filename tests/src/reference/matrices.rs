@@ -1,5 +1,6 @@
 //! Quantization matrices.
 
+use super::ranges::QuantRanges;
 use super::setup::Setup;
 
 /// The matrix of a type (0 intra, 1 inter), plane and qi, in natural order.
@@ -17,19 +18,24 @@ pub fn matrix(setup: &Setup, kind: usize, plane: usize, qi: usize) -> Vec<u64> {
         .collect()
 }
 
-/// BM: the base matrix of a set at qi, between the two ends of qi's range.
+/// BM: the base matrix of a set at qi.
 fn interpolated(setup: &Setup, set: usize, qi: u64, i: usize) -> u64 {
     let ranges = &setup.ranges[set];
-    let mut start = 0;
-    let mut range = 0;
-    while qi > start + ranges.sizes[range] {
-        start += ranges.sizes[range];
-        range += 1;
-    }
-    let size = ranges.sizes[range];
+    between_ends(setup, ranges, ranges.range_of(qi), qi, i)
+}
+
+/// BM between the two ends of a range, given its number and where it begins.
+fn between_ends(
+    setup: &Setup,
+    ranges: &QuantRanges,
+    (number, start): (usize, u64),
+    qi: u64,
+    i: usize,
+) -> u64 {
+    let size = ranges.sizes[number];
     let end = start + size;
-    let first = setup.base_matrices[ranges.indices[range] as usize][i];
-    let second = setup.base_matrices[ranges.indices[range + 1] as usize][i];
+    let first = setup.base_matrices[ranges.indices[number] as usize][i];
+    let second = setup.base_matrices[ranges.indices[number + 1] as usize][i];
     (2 * (end - qi) * first + 2 * (qi - start) * second + size) / (2 * size)
 }
 
@@ -50,7 +56,6 @@ pub fn value(scale: u64, base: u64, minimum: u64) -> u64 {
 
 #[cfg(test)]
 mod tests {
-    use super::super::ranges::QuantRanges;
     use super::*;
 
     /// Two ranges, 0 to 10 and 10 to 63, over matrices of 100, 50 and 7; scale 100.
@@ -77,6 +82,13 @@ mod tests {
         // 50·52/53 + 7·1/53 = 49.19; 50·47/53 + 7·6/53 = 45.13; 8.62 and 7.81 at the end
         assert_eq!([base(11), base(16)], [49, 45]);
         assert_eq!([base(61), base(62), base(63)], [9, 8, 7]);
+    }
+
+    #[test]
+    fn both_ranges_give_the_same_at_a_border() {
+        let setup = setup();
+        let by = |range| between_ends(&setup, &setup.ranges[0], range, 10, 1);
+        assert_eq!([by((0, 0)), by((1, 10))], [50, 50]);
     }
 
     #[test]

@@ -11,6 +11,19 @@ pub struct QuantRanges {
     pub indices: Vec<u64>,
 }
 
+impl QuantRanges {
+    /// The number of qi's range and the qi at which that begins. A border
+    /// belongs to two ranges, which give the same matrix; this is the later.
+    pub fn range_of(&self, qi: u64) -> (usize, u64) {
+        let (mut number, mut start) = (0, 0);
+        while number + 1 < self.sizes.len() && start + self.sizes[number] <= qi {
+            start += self.sizes[number];
+            number += 1;
+        }
+        (number, start)
+    }
+}
+
 /// ilog: the number of bits of a number; 0 has none.
 fn ilog(number: u64) -> u32 {
     64 - number.leading_zeros()
@@ -92,6 +105,20 @@ mod tests {
     fn ilog_counts_bits() {
         let numbers = [0, 1, 2, 3, 4, 62, 383];
         assert_eq!(numbers.map(ilog), [0, 1, 2, 2, 3, 6, 9]);
+    }
+
+    #[test]
+    fn a_border_belongs_to_the_later_range() {
+        let ranges = |sizes: &[u64]| QuantRanges {
+            sizes: sizes.to_vec(),
+            indices: vec![0; sizes.len() + 1],
+        };
+        let found = [0, 1, 2, 61, 62, 63].map(|qi| ranges(&[2, 60, 1]).range_of(qi));
+        assert_eq!(found, [(0, 0), (0, 0), (1, 2), (1, 2), (2, 62), (2, 62)]);
+        assert_eq!([0, 63].map(|qi| ranges(&[63]).range_of(qi)), [(0, 0); 2]);
+        let ones = ranges(&[1; 63]);
+        (0..63).for_each(|qi| assert_eq!(ones.range_of(qi), (qi as usize, qi)));
+        assert_eq!(ones.range_of(63), (62, 62));
     }
 
     #[test]
