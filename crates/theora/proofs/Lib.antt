@@ -3,4 +3,5 @@ pub mod Calls
 pub mod Table
 pub mod LeftBySetup
 pub mod Demand
+pub mod Promised
 pub mod Examples
