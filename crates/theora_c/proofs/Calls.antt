@@ -56,7 +56,7 @@ module _ (n : ℕ) (session : List ℕ) (room : ℕ) where
   unfolding listsNumber
   lengths t = go (eqb (length session) 17) (sessionFits (sessionOf session)) (eqb room n) refl refl t
     where
-      go : (a b c : Bool) → eqb (length session) 17 ≡ a → eqb room n ≡ c → choose a (choose b (choose c 0 1) 8) 1 ≡ 0 → (length session ≡ 17) × (room ≡ n)
+      go : (a b c : Bool) → eqb (length session) 17 ≡ a → eqb room n ≡ c → _≡_ {A = ℕ} (choose a (choose b (choose c 0 1) 8) 1) 0 → (length session ≡ 17) × (room ≡ n)
       go true true true h r z = (eqb-true _ _ h, eqb-true _ _ r)
       go true true false h r z = absurd (omega arith)
       go true false c h r z = absurd (omega arith)
