@@ -125,9 +125,10 @@ fn hand_on(kind: Kind, golden: &mut [u8], previous: &mut [u8], new: &[u8])
     ensures { λ _. ⌜ HandsOn kind (now (golden .entry)) (now (previous .entry)) (now (new .entry)) (now (golden .exit)) (now (previous .exit)) ⌝ }
 {
     buffer::copy(previous, new);
-    if let Kind::Intra = kind {
-        buffer::copy(golden, new);
-        return;
+    match kind {
+        Kind::Intra => buffer::copy(golden, new),
+        Kind::Inter => return,
+        Kind::Repeat => return,
     }
 }
 

@@ -80,7 +80,8 @@ face-turns session golden previous h [] a = tt
 face-turns session golden previous h (c ∷ cs) a =
     let next = turn (st session golden previous h c (a .0)) (c .rules) (d session golden previous h c (a .0)) .after in
     let says = list-says session golden previous h c (a .0) in
-    let list = r session golden previous h c (a .0) .answered .session in
-    (same session golden previous h c (a .0),
-    says,
-    rw (state-is next list says) at (face-turns list (next .golden) (next .previous) (list-long session golden previous h c (a .0)) cs (a .1)))
+    let list = r session golden previous h c (a .0) .answered .session in (
+      same session golden previous h c (a .0),
+      says,
+      rw (state-is next list says) at (face-turns list (next .golden) (next .previous) (list-long session golden previous h c (a .0)) cs (a .1)),
+    )
