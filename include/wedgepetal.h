@@ -1,7 +1,8 @@
 /*
  * Wedgepetal: a proved Theora decoder. The face for C and other languages.
  * `rt staticlib theora_c` writes the library, target/staticlib/libtheora_c.a
- * (x86-64). It allocates nothing and keeps nothing from call to call.
+ * (x86-64). It allocates nothing and keeps nothing from call to call. A call
+ * needs at most 48 KiB of stack (measured, not proved: 36 kB for a frame).
  *
  * A recording's first packet is its identification header, the second its
  * comment header (which no call reads), the third its setup header. All others
@@ -23,9 +24,9 @@
  * Each call returns 0 if it is accepted, else the number of its refusal. A
  * refused call writes nothing, but for the table memory of wedgepetal_setup and
  * the work memory of wedgepetal_frame (see there). Where several numbers apply,
- * a wrong length comes first, then a fault of the packet, the session or the
- * table memory, then that there is no such thing as is asked for. Only
- * wedgepetal_frame has another order, which it says.
+ * they are found in this order: 1 for the session's list, 8 for its fields, 1
+ * for any other list, 8 for the table memory, then a fault of the packet, or
+ * 255 if there is no such thing as is asked for.
  *
  * Planes are 0 (Y'), 1 (Cb) and 2 (Cr). A block has 8 by 8 samples of one
  * plane, a super block 4 by 4 blocks; a macro block has 16 by 16 samples of Y'
@@ -236,10 +237,10 @@ uint32_t wedgepetal_work_lengths(const uint64_t *session, size_t session_length,
  * stays as it is, and the next packet may be tried. With three buffers nothing
  * need be copied: the next new_frame is one that is neither golden nor previous.
  *
- * Refusals, in the order in which they are found: 1 for session or answer, 8
- * for the session, 1 for any other list, 8 for the table memory, then 4 and 9
- * to 13 for the first fault in the packet. A refused call leaves session,
- * answer and new_frame as they were. */
+ * Refusals, in the order in which they are found: 1 for the session's list, 8
+ * for its fields, 1 for any other list, 8 for the table memory, then 4 and 9 to
+ * 13 for the first fault in the packet. A refused call leaves session, answer
+ * and new_frame as they were. */
 uint32_t wedgepetal_frame(uint64_t *session, size_t session_length,
                           const uint8_t *packet, size_t packet_length,
                           const uint8_t *table, size_t table_length,

@@ -21,8 +21,8 @@ use std::ops::Range;
 /// How many calls are made for one session and setup.
 const CALLS_OF_A_CASE: u64 = 32;
 
-/// The lists whose lengths are judged: those of the session and of the answer
-/// first, then all others, work memory at their end.
+/// The lists whose lengths are judged: that of the session before its fields,
+/// then all others, work memory at their end.
 const SESSION: usize = 0;
 const ANSWER: usize = 1;
 const TABLE: usize = 2;
@@ -50,8 +50,8 @@ enum Wrong {
     Other,
 }
 
-/// What is wrong in a call, in the order in which it is found: the lengths of
-/// the first lists, the session, the other lengths, the table memory.
+/// What is wrong in a call, in the order in which it is found: the length of
+/// the session's list, its fields, the other lengths, the table memory.
 const FAULTS: [(u32, Work); 4] = [
     (1, Work::Untouched),
     (8, Work::Untouched),
@@ -108,7 +108,7 @@ impl Report {
         let chosen = 1 + random.below(15);
         let faults = [1, 2, 4, 8].map(|bit| chosen & bit != 0);
         if faults[0] {
-            call.spoil_lengths(random, SESSION..TABLE);
+            call.spoil_lengths(random, SESSION..ANSWER);
         }
         if faults[1] {
             while Fields::of_session(&call.session).sound() {
@@ -116,7 +116,7 @@ impl Report {
             }
         }
         if faults[2] {
-            call.spoil_lengths(random, TABLE..LISTS);
+            call.spoil_lengths(random, ANSWER..LISTS);
         }
         if faults[3] {
             call.table = Some(no_table(random, call.caller));

@@ -118,6 +118,28 @@ unfolding until
 until-lawful stop step k zero s l = pick-lawful (stop s) (pure-lawful s) (bind-lawful here-lawful (refuse-lawful k))
 until-lawful stop step k (suc n) s l = pick-lawful (stop s) (pure-lawful s) (bind-lawful (l s) (λ t. until-lawful stop step k n t l))
 
+-- ---- enough steps: where each step raises a size, and the test holds from the size n on, n steps from the size 0 are enough
+-- no packet reaches the last clause of `until` then: whatever number stands there, the outcome is the same
+pub until-enough : {S : Type 0} (stop : S → Bool) (step : S → Parse S) (size : S → ℕ) (n : ℕ)
+    → ((s : S) → n ≤ size s → stop s ≡ true)
+    → ((s : S) (p : List ℕ) (i : ℕ) (t : S) (e : ℕ) → step s p i ≡ got t e → size s < size t)
+    → (k l m : ℕ) (s : S) → n ≤ size s + m → (p : List ℕ) (i : ℕ) → until stop step k m s p i ≡ until stop step l m s p i
+unfolding until
+until-enough stop step size n ends grows k l zero s h p i = rw (ends s (omega arith))
+until-enough {S} stop step size n ends grows k l (suc m) s h p i =
+    go (stop s) (λ t e x. until-enough stop step size n ends grows k l m t x p e)
+  where
+    Later : Type 0
+    Later = (t : S) (e : ℕ) → n ≤ size t + m → until stop step k m t p e ≡ until stop step l m t p e
+
+    same : (o : Outcome S) → step s p i ≡ o → Later → after o (λ t e. until stop step k m t p e) ≡ after o (λ t e. until stop step l m t p e)
+    same (got t e) q f = f t e (omega (arith, h, grows s p i t e q))
+    same (refused j e) q f = refl
+
+    go : (b : Bool) → Later → pick b (pure s) (bind (step s) (until stop step k m)) p i ≡ pick b (pure s) (bind (step s) (until stop step l m)) p i
+    go true f = refl
+    go false f = same (step s p i) refl f
+
 pub many-lawful : {A : Type 0} (n : ℕ) {m : Parse A} → Lawful m → Lawful (many n m)
 unfolding many
 many-lawful zero l = pure-lawful []

@@ -1,3 +1,4 @@
+-- What other crates cite: Fields, Numbers, Bytes (what a field is), Laws and Spends (the three laws of every reader), Lists. Examples: worked examples. Assumes nothing.
 pub mod Numbers
 pub mod Bytes
 pub mod Fields

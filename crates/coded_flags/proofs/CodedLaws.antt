@@ -1,4 +1,4 @@
--- The coded blocks: no number stands twice, each is a block's, luma comes first, and a block's record says what its flag says. Assumes nothing.
+-- The coded blocks: no number stands twice, each is a block's, luma's are no more than all, and a block's record says what its flag says. Assumes nothing.
 use Prim.Native.Nat.{ℕ, zero, suc, _+_, _*_, _≤_, _<_}
 use native.Mathlib.Omega.{arith}
 use native.Mathlib.Nat.{le-of-suc-le-suc, not-suc-le-zero}
@@ -7,8 +7,8 @@ use mathlib.Core.List.{List, [], _∷_, _++_}
 use mathlib.Core.Bool.{Bool, true, false, true≢false}
 use mathlib.Core.Logic.{_⊎_, inl, inr, ⊎-elim}
 use lib.Dec.{eqb}
-use lib.ListN.{length, getD, take, drop, set, replicate, length-append, length-drop, length-set, length-replicate, getD-replicate, List·getD-append}
-use lib.Seq.{getD-set-same, getD-set-other, getD-append-add, getD-take, getD-drop, length-take-le}
+use lib.ListN.{length, getD, take, drop, set, replicate, length-append, length-set, length-replicate, getD-replicate}
+use lib.Seq.{getD-set-same, getD-set-other, length-take-le}
 use borrow.Author.Tests.{eq-eqb, ne-eqb, eqb-true, eqb-false}
 use Rattle.bitstream.specs.Reading.{choose}
 use Rattle.runs.specs.Lists.{All, none, one, AllBelow, Other, Once, empty, more}
@@ -16,13 +16,11 @@ use Rattle.runs.proofs.ListLaws.{set-cases, all-at, all-of, once-of}
 use Rattle.geometry.specs.declared.PixelFormat.{PixelFormat}
 use Rattle.geometry.specs.declared.Block.{Block}
 use Rattle.geometry.specs.Sizes.{across, up, planeBlocks, blocksBefore, blocksOf}
-use Rattle.geometry.specs.Order.{at}
 use Rattle.geometry.specs.Frame.{block, InFrame, frameOrder}
-use Rattle.geometry.proofs.FrameLaws.{numberOf, frame-back, frame-once}
-use Rattle.geometry.proofs.PlaneOrders.{block-order}
+use Rattle.geometry.proofs.FrameLaws.{frame-back, frame-once}
 use Rattle.geometry.proofs.Sums.{total-once}
 use Rattle.geometry.proofs.Raster.{raster-below, raster-once}
-use Rattle.geometry.proofs.SizeLaws.{before-luma, before-planes}
+use Rattle.geometry.proofs.SizeLaws.{before-planes}
 use Rattle.block_record.specs.declared.BlockRecord.{BlockRecord}
 use Rattle.block_record.specs.Record.{uncoded}
 use Rattle.block_record.proofs.MemoryLaws.{AllInRange, in-range-set, in-range-replicate}
@@ -137,27 +135,6 @@ module _ (f : PixelFormat) (w h : ℕ) where
   abbrev blockAt : ℕ → Block
   blockAt i = getD (frameOrder f w h) i (block 0 0 0)
 
-  -- two numbers are both of luma, or both behind it
-  abbrev Side : ℕ → ℕ → Type 0
-  Side n r = ((n < lumaBlocks) × (r < lumaBlocks)) ⊎ ((lumaBlocks ≤ n) × (lumaBlocks ≤ r))
-
-  -- luma blocks have the first numbers, in coded order and in raster order
-  block-side : (p x y : ℕ) → InFrame f w h (block p x y) → Side (numberOf f w h (block p x y)) (rasterNumber f w h (block p x y))
-  unfolding rasterNumber
-  block-side zero x y k =
-      let z = before-luma f w h in
-      let t = block-order (across f w 0) (up f h 0) .there x y (k .column) (k .row) .0 in
-      let r = raster-below (across f w 0) (up f h 0) x y (k .column) (k .row) in
-      inl (omega arith, omega arith)
-  block-side (suc zero) x y k = let z = before-planes f w h .0 in inr (omega arith, omega arith)
-  block-side (suc (suc zero)) x y k = let z = before-planes f w h .1 in inr (omega arith, omega arith)
-  block-side (suc (suc (suc p))) x y k = let z = k .of-three in absurd (omega arith)
-
-  order-side : (i : ℕ) → i < blocksOf f w h → Side i (getD (order f w h) i 0)
-  order-side i l =
-      let b = frame-back f w h i l in
-      subst (Side i) (sym (order-at f w h i l)) (subst (λ (n : ℕ). Side n (rasterNumber f w h (blockAt i))) (b .1) (block-side (blockAt i .plane) (blockAt i .x) (blockAt i .y) (b .0)))
-
   -- different blocks have different raster numbers
   pub raster-number-once : (b b′ : Block) → InFrame f w h b → InFrame f w h b′ → rasterNumber f w h b ≡ rasterNumber f w h b′ → b ≡ b′
   unfolding rasterNumber blocksBefore
@@ -240,7 +217,7 @@ module _ (f : PixelFormat) (w h : ℕ) where
               set-at-miss nowCoded uncoded (replicate (blocksOf f w h) uncoded) (getD (order f w h) i 0) (flagged-misses flags i order-once (omega (arith, order-length f w h)) (eqb-false (getD flags i 0) 1 q))
               ∙ getD-replicate (blocksOf f w h) (getD (order f w h) i 0) uncoded uncoded (order-small f w h i l)
 
-      -- luma comes first: the coded blocks up to `codedLuma` are of luma, the others are not
+      -- of the coded blocks, luma's are the flagged among the first of the order, and the others among the rest
       luma-fits : lumaBlocks ≤ blocksOf f w h
       luma-fits = omega (arith, before-planes f w h .2)
 
@@ -257,32 +234,12 @@ module _ (f : PixelFormat) (w h : ℕ) where
       unfolding codedLuma
       first-length = flagged-length (take lumaBlocks (order f w h)) (take lumaBlocks flags) (omega (arith, luma-taken, length-take-le lumaBlocks flags (omega (arith, luma-fits))))
 
-      first-luma : AllBelow lumaBlocks first
-      first-luma = flagged-all (take lumaBlocks flags) (all-of (take lumaBlocks (order f w h)) (λ i l. go i (omega (arith, luma-taken))))
-        where
-          go : (i : ℕ) → i < lumaBlocks → getD (take lumaBlocks (order f w h)) i 0 < lumaBlocks
-          go i l = rw (getD-take lumaBlocks (order f w h) i 0 l) (⊎-elim (λ s. s .1) (λ s. absurd (omega (arith, s .0))) (order-side i (omega (arith, luma-fits))))
-
-      others-behind : All (λ n. lumaBlocks ≤ n) others
-      others-behind = flagged-all (drop lumaBlocks flags) (all-of (drop lumaBlocks (order f w h)) (λ i l. go i (omega (arith, length-drop lumaBlocks (order f w h), order-length f w h, luma-fits))))
-        where
-          go : (i : ℕ) → lumaBlocks + i < blocksOf f w h → lumaBlocks ≤ getD (drop lumaBlocks (order f w h)) i 0
-          go i l = rw (getD-drop lumaBlocks (order f w h) i 0) (⊎-elim (λ s. absurd (omega (arith, s .0))) (λ s. s .1) (order-side (lumaBlocks + i) l))
-
       split : codedBlocks f w h flags ≡ first ++ others
       unfolding codedBlocks
       split = flagged-split lumaBlocks (order f w h) flags
 
       pub luma-most : codedLuma f w h flags ≤ length (codedBlocks f w h flags)
       luma-most = omega (arith, first-length, ap length split, length-append first others)
-
-      pub luma-first : (k : ℕ) → k < codedLuma f w h flags → getD (codedBlocks f w h flags) k 0 < lumaBlocks
-      luma-first k l = rw (split, List·getD-append first others 0 k (omega (arith, first-length))) (all-at k first-luma (omega (arith, first-length)))
-
-      pub chroma-after : (k : ℕ) → codedLuma f w h flags + k < length (codedBlocks f w h flags) → lumaBlocks ≤ getD (codedBlocks f w h flags) (codedLuma f w h flags + k) 0
-      chroma-after k l =
-          let s : length (codedBlocks f w h flags) ≡ length first + length others = ap length split ∙ length-append first others in
-          rw (split, sym first-length, getD-append-add first others k 0) (all-at k others-behind (omega (arith, first-length, s)))
 
 -- the records are in their range, so that packing loses nothing of them
 pub coded-in-range : (f : PixelFormat) (w h : ℕ) (flags : List ℕ) → AllInRange (codedRecords f w h flags)

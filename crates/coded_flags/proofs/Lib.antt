@@ -1,3 +1,4 @@
+-- What other crates cite: Laws, CodedLaws (the coded blocks), Listing. Spread and Answers have what the functions' proofs need, Examples worked examples. Assumes nothing.
 pub mod Spread
 pub mod Listing
 pub mod Answers

@@ -10,7 +10,7 @@ use Rattle.headers.specs.Fits.{sessionFits}
 use Rattle.headers.proofs.Fitting.{fits-macro-blocks}
 use Rattle.setup.specs.Header.{Setup}
 use Rattle.setup.specs.Table.{heldSetup}
-use Rattle.tables.proofs.Held.{held-reads, trees-whole}
+use Rattle.setup.proofs.Held.{held-reads, trees-whole}
 use Rattle.frame_packet.specs.Frame.{Frame}
 use Rattle.frame_packet.proofs.Laws.{packet-readable}
 use Rattle.ways.specs.Ways.{firstWay}

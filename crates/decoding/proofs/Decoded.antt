@@ -13,7 +13,7 @@ use Rattle.geometry.specs.Sizes.{blocksOf}
 use Rattle.headers.specs.declared.Session.{Session}
 use Rattle.matrices.specs.Matrix.{matrixOf}
 use Rattle.setup.specs.Header.{Setup}
-use Rattle.tables.specs.Tables.{HoldsTrees}
+use Rattle.setup.specs.Loaded.{limitOf}
 use Rattle.tokens.specs.Answer.{treesOf}
 use Rattle.tokens.proofs.Fronts.{same-at}
 use Rattle.block_record.specs.Record.{uncoded}
@@ -38,7 +38,6 @@ use Rattle.headers.specs.Sizes.{format}
 use Rattle.decoding.specs.Memory.{memory, blocks, cleared}
 use Rattle.decoding.specs.Answer.{state, done, readBy, picture, sessionAfter, answerFor, decoded}
 use Rattle.decoding.specs.Made.{AllQi, BlocksLent}
-use Rattle.decoding.proofs.Held.{trees-held}
 
 -- ---- what the reader's answer says
 pub read-refused : (o : Outcome Frame) {r : FrameRead} {k e : ℕ} → r ≡ asFrame o → r .read ≡ Refused k e → o ≡ refused k e
@@ -167,15 +166,15 @@ module _ (f : PixelFormat) (w h : ℕ) (fr : Frame) (fits : Fits f w h fr) where
       all-at index (all-append (fits .small) (all-replicate (3 - length (fr .header .qis)) 0 (omega arith)))
       (omega (arith, padded-long 0 3 (fr .header .qis) (fits .most)))
 
--- ---- a call, once its packet was read by a setup that lies in slices
-module _ (s : Session) (setup : Setup) (packet nodes : List ℕ) (trees : HoldsTrees (setup .trees) nodes) {f : PixelFormat} (ef : f ≡ format s) {r : FrameRead} {m : Work}
+-- ---- a call, once its packet was read by a setup
+module _ (s : Session) (setup : Setup) (packet nodes : List ℕ) (et : treesOf nodes ≡ setup .trees) {f : PixelFormat} (ef : f ≡ format s) {r : FrameRead} {m : Work}
     (er : r ≡ asFrame (framePacket f (s .fmbw) (s .fmbh) (treesOf nodes) (s .references) packet))
     (em : m ≡ workAfter f (s .fmbw) (s .fmbh) (framePacket f (s .fmbw) (s .fmbh) (treesOf nodes) (s .references) packet)) where
   abbrev o : Outcome Frame
   o = framePacket (format s) (s .fmbw) (s .fmbh) (setup .trees) (s .references) packet
 
   same : framePacket f (s .fmbw) (s .fmbh) (treesOf nodes) (s .references) packet ≡ o
-  same = let et = trees-held (setup .trees) nodes trees in λ i. framePacket (ef i) (s .fmbw) (s .fmbh) (et i) (s .references) packet
+  same = λ i. framePacket (ef i) (s .fmbw) (s .fmbh) (et i) (s .references) packet
 
   answer-is : r ≡ asFrame o
   answer-is = er ∙ ap asFrame same
@@ -216,9 +215,9 @@ module _ (s : Session) (setup : Setup) (packet nodes : List ℕ) (trees : HoldsT
     header-few = subst (λ (x : Header). (x .count ≤ 3) × AllQi (x .qis) 3) (sym (there .3)) (fits .most, held-qi (format s) (s .fmbw) (s .fmbh) fr fits)
 
     -- the frame
-    module _ (limits : List ℕ) (el : limits ≡ setup .limits) (golden previous new : List ℕ)
+    module _ (golden previous new : List ℕ)
         (en : new ≡ firstWay f (s .fmbw) (s .fmbh) (pictureOf f (s .fmbw) (s .fmbh) (blocksIn (m .records) (m .coded) count (m .coefs) (m .lasts))
-        (λ type plane index. matrixOf (setup .parameters) type plane (getD (r .header .qis) index 0)) (getD limits (getD (r .header .qis) 0 0) 0) golden previous) previous) where
+        (λ type plane index. matrixOf (setup .parameters) type plane (getD (r .header .qis) index 0)) (limitOf setup (getD (r .header .qis) 0 0)) golden previous) previous) where
       frame-is : new ≡ firstWay (format s) (s .fmbw) (s .fmbh) (picture s (record { setup = setup; frame = fr }) golden previous) previous
       unfolding picture
       frame-is =
@@ -230,7 +229,7 @@ module _ (s : Session) (setup : Setup) (packet nodes : List ℕ) (trees : HoldsT
           let qi : _≡_ {A = ℕ → ℕ} (λ index. getD (three (fr .header .qis)) index 0) (λ index. getD (fr .header .qis) index 0) = fun-ext (qi-alike (fr .header .qis)) in
           en
           ∙ (λ i. firstWay (ef i) w h (pictureOf (ef i) w h (blocksIn (work-held i .records) (work-held i .coded) (ec i) (work-held i .coefs) (work-held i .lasts))
-          (λ type plane index. matrixOf (setup .parameters) type plane (getD (eh i .qis) index 0)) (getD (el i) (getD (eh i .qis) 0 0) 0) golden previous) previous)
+          (λ type plane index. matrixOf (setup .parameters) type plane (getD (eh i .qis) index 0)) (getD (setup .limits) (getD (eh i .qis) 0 0) 0) golden previous) previous)
           ∙ ap (λ (P : Picture). firstWay (format s) w h P previous)
           (held-picture (format s) w h fr fits (λ type plane index. matrixOf (setup .parameters) type plane (getD (three (fr .header .qis)) index 0)) (getD (setup .limits) (getD (three (fr .header .qis)) 0 0) 0) golden previous)
           ∙ (λ i. firstWay (format s) w h (pictureOf (format s) w h (record { records = b .records; coded = b .coded; coefs = b .tokens .coefs; lasts = b .tokens .lasts })

@@ -1,18 +1,18 @@
 -- The frame of blocks that lie in slices: which matrices it depends on. Assumes nothing.
 use Prim.Native.Nat.{ℕ, _<_}
 use native.Mathlib.Omega.{arith}
-use mathlib.Core.Path.{_≡_, refl, ap, _∙_}
-use mathlib.Core.List.{List, []}
+use mathlib.Core.Path.{_≡_, ap, _∙_}
+use mathlib.Core.List.{List}
 use lib.IntN.{ℤ}
 use lib.ListN.{getD, replicate, length-replicate}
 use Rattle.geometry.specs.declared.PixelFormat.{PixelFormat}
 use Rattle.geometry.specs.Raster.{rasterNumber}
 use Rattle.geometry.proofs.RasterLaws.{raster-number-below}
-use Rattle.quantization.specs.Parameters.{Quantization}
 use Rattle.block_record.specs.declared.Prediction.{Prediction}
 use Rattle.block_record.specs.declared.Prediction.the-variants.{None, Previous, Golden}
 use Rattle.matrices.specs.Matrix.{matrixOf}
-use Rattle.tables.specs.Tables.{LimitIs}
+use Rattle.setup.specs.declared.LoadedSetup.{LoadedSetup}
+use Rattle.setup.proofs.Held.{held-limits, held-parameters}
 use Rattle.ways.specs.Ways.{firstWay}
 use Rattle.reconstruct.specs.Picture.{Matrices, typeOf, recordOf, pictureOf}
 use Rattle.reconstruct.specs.Lent.{blocksIn, matrixIn}
@@ -41,16 +41,11 @@ module _ (f : PixelFormat) (w h : ℕ) (records coded : List ℕ) (count : ℕ) 
       let t = type-below (r .prediction) in
       (same (typeOf (r .prediction)) (b .plane) 0 t (k .of-three) (omega arith), same (typeOf (r .prediction)) (b .plane) (r .«qi_index») t (k .of-three) l))
 
-  -- a frame that was made by the matrices and the limit of slices
-  pub frame-is : (p : List ℕ) (place : ℕ) (ac dc sizes indices list limits ms : List ℕ) (L : ℕ) (golden previous new : List ℕ)
-      → MatricesAre p place ac dc sizes indices list qis ms → L ≡ getD limits (getD list 0 0) 0
-      → new ≡ firstWay f w h (pictureOf f w h (blocksIn records coded count coefs lasts) (matrixIn ms) L golden previous) previous
-      → FrameIs p place ac dc sizes indices list limits f w h (blocksIn records coded count coefs lasts) golden previous new
-  frame-is p place ac dc sizes indices list limits ms L golden previous new loaded limit made q holds =
+  -- a frame that was made by the matrices and the limit of a loaded setup
+  pub frame-is : (p : List ℕ) (l : LoadedSetup) (list ms : List ℕ) (golden previous new : List ℕ) → MatricesAre p (l .parameters) list qis ms
+      → new ≡ firstWay f w h (pictureOf f w h (blocksIn records coded count coefs lasts) (matrixIn ms) (getD (l .limits) (getD list 0 0) 0) golden previous) previous
+      → FrameIs p l list f w h (blocksIn records coded count coefs lasts) golden previous new
+  frame-is p l list ms golden previous new loaded made s holds =
       made
-      ∙ ap (λ (L : ℕ). firstWay f w h (pictureOf f w h (blocksIn records coded count coefs lasts) (matrixIn ms) L golden previous) previous) limit
-      ∙ matrices-enough (matrixIn ms) (λ type plane index. matrixOf q type plane (getD list index 0)) (getD limits (getD list 0 0) 0) golden previous (loaded q holds)
-
--- a limit that was looked up
-pub limit-at : (q : Quantization) (limits : List ℕ) (qi r : ℕ) → LimitIs limits qi r → r ≡ getD limits qi 0
-limit-at q limits qi r is = is (record { limits = limits; parameters = q; trees = [] }) refl
+      ∙ ap (λ (x : List ℕ). firstWay f w h (pictureOf f w h (blocksIn records coded count coefs lasts) (matrixIn ms) (getD x (getD list 0 0) 0) golden previous) previous) (held-limits p l holds)
+      ∙ matrices-enough (matrixIn ms) (λ type plane index. matrixOf (s .parameters) type plane (getD list index 0)) (getD (s .limits) (getD list 0 0) 0) golden previous (loaded (s .parameters) (held-parameters p l holds))

@@ -12,6 +12,7 @@ use lib.Seq.{take-take, take-at, drop-at, drop-drop, length-take-le}
 use borrow.Rule.Slice.PartMut.{putMid, postOf, take-put, drop-put}
 use Rattle.quantization.specs.Parameters.{Quantization}
 use Rattle.quantization.specs.Sound.{Holds}
+use Rattle.quantization.specs.declared.LoadedParameters.{LoadedParameters}
 use Rattle.matrices.specs.Matrix.{matrixOf, MatrixIs}
 use Rattle.reconstruct.specs.Lent.{matrixIn}
 use Rattle.decoding.specs.Made.{MatricesAre}
@@ -45,12 +46,12 @@ module _ (a w : ℕ) (z : w ≡ 64) (xs ys : List ℕ) (room : a + 64 ≤ length
 abbrev pub placeOf : ℕ → ℕ
 placeOf i = (i % 6 * 3 + i / 6) * 64
 
-module _ (p : List ℕ) (place : ℕ) (ac dc sizes indices qis : List ℕ) where
+module _ (p : List ℕ) (l : LoadedParameters) (qis : List ℕ) where
   abbrev pub LoadedTo : ℕ → List ℕ → Type 0
-  LoadedTo j ms = (q : Quantization) → Holds q p place ac dc sizes indices → (i : ℕ) → i < j → take 64 (drop (placeOf i) ms) ≡ matrixOf q (i % 6 / 3) (i % 6 % 3) (getD qis (i / 6) 0)
+  LoadedTo j ms = (q : Quantization) → Holds p l q → (i : ℕ) → i < j → take 64 (drop (placeOf i) ms) ≡ matrixOf q (i % 6 / 3) (i % 6 % 3) (getD qis (i / 6) 0)
 
   pub loaded-more : (j w : ℕ) (ms new : List ℕ) → j < 18 → w ≡ 64 → length ms ≡ 1152 → length new ≡ 64 → LoadedTo j ms
-      → MatrixIs p place ac dc sizes indices (j % 6 / 3) (j % 6 % 3) (getD qis (j / 6) 0) new → LoadedTo (j + 1) (putMid (placeOf j) w ms new)
+      → MatrixIs p l (j % 6 / 3) (j % 6 % 3) (getD qis (j / 6) 0) new → LoadedTo (j + 1) (putMid (placeOf j) w ms new)
   loaded-more j w ms new few z long sixty before this q h = below-more (λ i. take 64 (drop (placeOf i) (putMid (placeOf j) w ms new)) ≡ matrixOf q (i % 6 / 3) (i % 6 % 3) (getD qis (i / 6) 0)) j other (put-here (placeOf j) w z ms new room sixty ∙ this q h)
     where
       room : placeOf j + 64 ≤ length ms
@@ -63,9 +64,9 @@ module _ (p : List ℕ) (place : ℕ) (ac dc sizes indices qis : List ℕ) where
           go true t = put-before (placeOf j) w z ms new room sixty (placeOf i) (omega (arith, ltb-true (placeOf i) (placeOf j) t))
           go false t = put-behind (placeOf j) w z ms new room sixty (placeOf i) (omega (arith, ltb-false (placeOf i) (placeOf j) t))
 
-  pub loaded-all : (count j : ℕ) (ms : List ℕ) → 6 * count ≤ j → LoadedTo j ms → MatricesAre p place ac dc sizes indices qis count ms
+  pub loaded-all : (count j : ℕ) (ms : List ℕ) → 6 * count ≤ j → LoadedTo j ms → MatricesAre p l qis count ms
   unfolding matrixIn
-  loaded-all count j ms most done q h type plane index t b l =
+  loaded-all count j ms most done q h type plane index t b n =
       let i = index * 6 + (type * 3 + plane) in
       let r : i % 6 ≡ type * 3 + plane = omega arith in
       let d : i / 6 ≡ index = omega arith in

@@ -9,7 +9,7 @@ use Rattle.headers.specs.declared.Session.{Session}
 use Rattle.matrices.specs.Matrix.{matrixOf}
 use Rattle.setup.specs.Header.{Setup}
 use Rattle.setup.specs.Table.{heldSetup}
-use Rattle.tables.specs.Tables.{limitOf}
+use Rattle.setup.specs.Loaded.{limitOf}
 use Rattle.frame_header.specs.declared.Kind.{Kind}
 use Rattle.frame_header.specs.declared.Kind.the-variants.{Intra, Inter, Repeat}
 use Rattle.frame_header.specs.Answer.{asHeader, repeated}

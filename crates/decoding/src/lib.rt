@@ -4,7 +4,9 @@ use frame_header::Kind;
 use frame_packet::Read;
 use geometry::PixelFormat;
 use headers::Session;
-use setup::TableAnswer;
+use quantization::LoadedParameters;
+use quantization::Place;
+use setup::LoadedSetup;
 ghost use mathlib.Core.Path.{_≡_};
 ghost use mathlib.Core.Bool.{true};
 ghost use Prim.Native.Nat.{_*_, _≤_, _^_};
@@ -12,15 +14,16 @@ ghost use lib.IntN.{pos};
 ghost use lib.ListN.{length, replicate};
 ghost use Rattle.bitstream.specs.Reading.{refused};
 ghost use Rattle.geometry.specs.Sizes.{blocksOf};
-ghost use Rattle.quantization.specs.Sound.{Held};
+ghost use Rattle.quantization.specs.Sound.{Held as HeldParameters};
 ghost use Rattle.setup.specs.Header.{Setup};
+ghost use Rattle.setup.specs.Loaded.{Holds, Held};
 ghost use Rattle.setup.specs.Table.{tableBytes};
 ghost use Rattle.ways.specs.Ways.{firstWay};
 ghost use Rattle.reconstruct.specs.Lent.{blocksIn};
 ghost use Rattle.headers.specs.Fits.{sessionFits};
 ghost use Rattle.decoding.specs.Memory.{memory, blocks, cleared};
 ghost use Rattle.decoding.specs.Answer.{state, done, readBy, read, sessionAfter, answerFor, decoded};
-ghost use Rattle.decoding.specs.Made.{AllQi, AllLimits, HoldsSetup, SetupHeld, BlocksLent, MatricesAre, FrameIs};
+ghost use Rattle.decoding.specs.Made.{AllQi, BlocksLent, MatricesAre, FrameIs};
 
 // An accepted frame, or the number of the refusal.
 pub enum Verdict {
@@ -38,17 +41,13 @@ pub struct FrameAnswer {
 // The quantization matrices of a frame's qi, for each type, in it for each plane, in it for each qi.
 fn load_matrices(
     table: &[u8],
-    place: usize,
-    ac_scale: &[u16],
-    dc_scale: &[u16],
-    sizes: &[u16],
-    indices: &[u16],
+    parameters: LoadedParameters,
     qis: [u8; 3],
     count: usize,
     matrices: &mut [u16],
 )
-    requires { ⌜ (length (now table) ≤ 2 ^ 58) × Held (now table) place (now «ac_scale») (now «dc_scale») (now sizes) (now indices) × AllQi qis count × (count ≤ 3) × (length (now matrices) ≡ 1152) ⌝ }
-    ensures { λ _. ⌜ MatricesAre (now (table .entry)) place (now («ac_scale» .entry)) (now («dc_scale» .entry)) (now (sizes .entry)) (now (indices .entry)) qis count (now (matrices .exit)) ⌝ }
+    requires { ⌜ (length (now table) ≤ 2 ^ 58) × HeldParameters (now table) parameters × AllQi qis count × (count ≤ 3) × (length (now matrices) ≡ 1152) ⌝ }
+    ensures { λ _. ⌜ MatricesAre (now (table .entry)) parameters qis count (now (matrices .exit)) ⌝ }
 {
     let mut j: usize = 0;
     while j < 6 * count {
@@ -59,11 +58,7 @@ fn load_matrices(
         let end = at + 64;
         matrices::matrix(
             table,
-            place,
-            ac_scale,
-            dc_scale,
-            sizes,
-            indices,
+            parameters,
             set / 3,
             set % 3,
             qi,
@@ -76,12 +71,7 @@ fn load_matrices(
 // The frame of the blocks that were read. Their memory is 0 everywhere at last.
 fn make(
     table: &[u8],
-    place: usize,
-    limits: &[u16],
-    ac_scale: &[u16],
-    dc_scale: &[u16],
-    sizes: &[u16],
-    indices: &[u16],
+    loaded: LoadedSetup,
     header: Header,
     format: PixelFormat,
     w: u64,
@@ -96,29 +86,19 @@ fn make(
     previous: &[u8],
     new: &mut [u8],
 )
-    requires { ⌜ (length (now table) ≤ 2 ^ 58) × Held (now table) place (now «ac_scale») (now «dc_scale») (now sizes) (now indices) × AllLimits (now limits) × AllQi (header .qis) 3 × (header .count ≤ 3) × (w ≤ 65535) × (h ≤ 65535) ⌝ }
+    requires { ⌜ (length (now table) ≤ 2 ^ 58) × Held (now table) loaded × AllQi (header .qis) 3 × (header .count ≤ 3) × (w ≤ 65535) × (h ≤ 65535) ⌝ }
     requires { ⌜ BlocksLent format w h (now records) (now coded) count (now coefs) (now lasts) (header .count) × (now dc ≡ replicate (blocksOf format w h) (pos 0))
         × (length (now new) ≡ 64 * blocksOf format w h) × (length (now golden) ≡ 64 * blocksOf format w h) × (length (now previous) ≡ 64 * blocksOf format w h) ⌝ }
-    ensures { λ _. ⌜ FrameIs (now (table .entry)) place (now («ac_scale» .entry)) (now («dc_scale» .entry)) (now (sizes .entry)) (now (indices .entry)) (header .qis) (now (limits .entry)) format w h (blocksIn (now (records .entry)) (now (coded .entry)) count (now (coefs .entry)) (now (lasts .entry))) (now (golden .entry)) (now (previous .entry)) (now (new .exit)) ⌝ }
+    ensures { λ _. ⌜ FrameIs (now (table .entry)) loaded (header .qis) format w h (blocksIn (now (records .entry)) (now (coded .entry)) count (now (coefs .entry)) (now (lasts .entry))) (now (golden .entry)) (now (previous .entry)) (now (new .exit)) ⌝ }
     ensures { λ _. ⌜ (now (records .exit) ≡ replicate (length (now (records .entry))) 0) × (now (coded .exit) ≡ replicate (length (now (coded .entry))) 0) × (now (coefs .exit) ≡ replicate (length (now (coefs .entry))) (pos 0))
         × (now (dc .exit) ≡ replicate (length (now (dc .entry))) (pos 0)) × (now (lasts .exit) ≡ replicate (length (now (lasts .entry))) 0) ⌝ }
 {
     let qis = header.qis;
     let number = header.count as usize;
     let mut matrices = [0u16; 1152];
-    load_matrices(
-        table,
-        place,
-        ac_scale,
-        dc_scale,
-        sizes,
-        indices,
-        qis,
-        number,
-        &mut matrices,
-    );
+    load_matrices(table, loaded.parameters, qis, number, &mut matrices);
     let first = qis[0] as usize;
-    let limit = tables::loop_limit(limits, first) as u32;
+    let limit = loaded.limits[first] as u32;
     reconstruct::make_frame(
         new,
         golden,
@@ -167,18 +147,12 @@ fn session_after(kind: Kind, s: Session) -> Session
     }
 }
 
-// A packet, by a setup that lies in slices. Work memory is all zero before and after.
+// A packet, by a setup that was loaded. Work memory is all zero before and after.
 fn decode_packet(
     s: Session,
     packet: &[u8],
     table: &[u8],
-    place: usize,
-    limits: &[u16],
-    ac_scale: &[u16],
-    dc_scale: &[u16],
-    sizes: &[u16],
-    indices: &[u16],
-    nodes: &[u8],
+    loaded: LoadedSetup,
     records: &mut [u32],
     coded: &mut [u64],
     coefs: &mut [i16],
@@ -193,10 +167,10 @@ fn decode_packet(
     previous: &[u8],
     new: &mut [u8],
 ) -> FrameAnswer
-    requires { ⌜ (sessionFits s ≡ true) × (length (now packet) ≤ 2 ^ 58) × (length (now table) ≤ 2 ^ 58) × SetupHeld (now table) place (now limits) (now «ac_scale») (now «dc_scale») (now sizes) (now indices) (now nodes) ⌝ }
+    requires { ⌜ (sessionFits s ≡ true) × (length (now packet) ≤ 2 ^ 58) × (length (now table) ≤ 2 ^ 58) × Held (now table) loaded ⌝ }
     requires { ⌜ (memory (now records) (now coded) (now coefs) (now dc) (now lasts) (now flags) (now bits) (now supers) (now modes) (now active) ≡ cleared s)
         × (length (now new) ≡ 64 * blocks s) × (length (now golden) ≡ 64 * blocks s) × (length (now previous) ≡ 64 * blocks s) ⌝ }
-    ensures { λ r. ⌜ ((setup : Setup) → HoldsSetup setup (now (table .entry)) place (now (limits .entry)) (now («ac_scale» .entry)) (now («dc_scale» .entry)) (now (sizes .entry)) (now (indices .entry)) (now (nodes .entry))
+    ensures { λ r. ⌜ ((setup : Setup) → Holds (now (table .entry)) loaded setup
         → done r (now (new .exit)) (memory (now (records .exit)) (now (coded .exit)) (now (coefs .exit)) (now (dc .exit)) (now (lasts .exit)) (now (flags .exit)) (now (bits .exit)) (now (supers .exit)) (now (modes .exit)) (now (active .exit)))
         ≡ decoded firstWay (state s (now (golden .entry)) (now (previous .entry))) (now (new .entry)) (readBy s setup (now (packet .entry)))) ⌝ }
 {
@@ -206,7 +180,7 @@ fn decode_packet(
     let got = frame_packet::read_frame(
         packet,
         s.references,
-        nodes,
+        &loaded.nodes,
         format,
         w,
         h,
@@ -228,12 +202,7 @@ fn decode_packet(
             let kind = header.kind;
             make(
                 table,
-                place,
-                limits,
-                ac_scale,
-                dc_scale,
-                sizes,
-                indices,
+                loaded,
                 header,
                 format,
                 w,
@@ -283,34 +252,15 @@ pub fn decode(
     ensures { λ r. ⌜ done r (now (new .exit)) (memory (now (records .exit)) (now (coded .exit)) (now (coefs .exit)) (now (dc .exit)) (now (lasts .exit)) (now (flags .exit)) (now (bits .exit)) (now (supers .exit)) (now (modes .exit)) (now (active .exit)))
         ≡ decoded firstWay (state s (now (golden .entry)) (now (previous .entry))) (now (new .entry)) (read s (now (table .entry)) (now (packet .entry))) ⌝ }
 {
-    let mut limits = [0u16; 64];
-    let mut ac_scale = [0u16; 64];
-    let mut dc_scale = [0u16; 64];
-    let mut sizes = [0u16; 384];
-    let mut indices = [0u16; 384];
-    let mut nodes = [0u8; 5120];
-    let held = setup::load_table(
-        table,
-        &mut limits,
-        &mut ac_scale,
-        &mut dc_scale,
-        &mut sizes,
-        &mut indices,
-        &mut nodes,
-    );
-    match held {
-        TableAnswer::NotGenuine => refusal(8, s),
-        TableAnswer::Genuine(place) => decode_packet(
+    let held = setup::load_table(table);
+    let place = held.place;
+    match place {
+        Place::Refused(_, _) => refusal(8, s),
+        Place::At(_) => decode_packet(
             s,
             packet,
             table,
-            place,
-            &limits,
-            &ac_scale,
-            &dc_scale,
-            &sizes,
-            &indices,
-            &nodes,
+            held.setup,
             records,
             coded,
             coefs,

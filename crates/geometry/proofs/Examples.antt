@@ -5,7 +5,7 @@ use native.Mathlib.Omega.{arith}
 use lib.ListN.{length}
 use Rattle.geometry.specs.declared.PixelFormat.the-variants.{Chroma420, Chroma444}
 use Rattle.geometry.specs.Sizes.{blocksOf, superBlocksOf, planeOf, total}
-use Rattle.geometry.specs.Order.{blockWalk, ordered, row, tile, inTurn, moved, present, find, blockNumber, codedMacros}
+use Rattle.geometry.specs.Order.{blockWalk, ordered, row, tile, inTurn, moved, present, find, blockOrder, codedMacros}
 use Rattle.geometry.specs.Rank.{rankIn}
 use Rattle.geometry.specs.Tile.{reach}
 use Rattle.geometry.proofs.Orders.{indexOf}
@@ -16,7 +16,7 @@ rank-3-3 : rankIn blockWalk 4 4 3 3 ≡ 10
 unfolding rankIn find present
 rank-3-3 = refl
 
-pub block-3-3 : (w h : ℕ) → 4 ≤ w → 4 ≤ h → blockNumber w h 3 3 ≡ 10
+pub block-3-3 : (w h : ℕ) → 4 ≤ w → 4 ≤ h → find 3 3 (blockOrder w h) ≡ 10
 block-3-3 w h hw hh =
     let u : reach 4 w 0 ≡ 4 = omega arith in
     let v : reach 4 h 0 ≡ 4 = omega arith in
@@ -25,11 +25,11 @@ block-3-3 w h hw hh =
     sym (block-order w h .found 3 3 (indexOf 4 (rankIn blockWalk) w h 3 3) (t .0) (t .1)) ∙ omega (arith, r)
 
 -- "240×48 luma: (0,4) is 120, (3,5) is 124": 30 by 6 blocks
-pub block-0-4 : blockNumber 30 6 0 4 ≡ 120
+pub block-0-4 : find 0 4 (blockOrder 30 6) ≡ 120
 unfolding ordered row tile inTurn moved present find
 block-0-4 = refl
 
-pub block-3-5 : blockNumber 30 6 3 5 ≡ 124
+pub block-3-5 : find 3 5 (blockOrder 30 6) ≡ 124
 unfolding ordered row tile inTurn moved present find
 block-3-5 = refl
 

@@ -71,7 +71,3 @@ here false t n = suc n
 unfoldable pub find : ℕ → ℕ → List Place → ℕ
 find x y [] = 0
 find x y (p ∷ ps) = here (eqb (p .x) x) (eqb (p .y) y) (find x y ps)
-
--- the number of block (x, y) of a plane
-abbrev pub blockNumber : ℕ → ℕ → ℕ → ℕ → ℕ
-blockNumber w h x y = find x y (blockOrder w h)

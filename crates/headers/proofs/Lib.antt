@@ -1,3 +1,4 @@
+-- What other crates cite: Judged, Fitting. Groups, Accepted and Ends have the laws of the identification header, Examples worked examples. Assumes nothing.
 pub mod Judged
 pub mod Groups
 pub mod Fitting

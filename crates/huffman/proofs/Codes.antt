@@ -128,9 +128,6 @@ module _ (nodes : List ℕ) (p : List ℕ) (at : ℕ) where
   pub left-start : Formed nodes → Left 0 at
   left-start f = (f .tree, formed-nodes nodes f, ap (λ (t : Tree). code t p at) (formed-tree nodes f))
 
-  pub left-in : (n i : ℕ) → Left n i → n < length nodes
-  left-in n i g = nodes-in nodes n (g .0) (g .1)
-
   pub left-end : (n i : ℕ) → Left n i → 128 ≤ getD nodes n 0 → bits p ≤ i → tokenCode (treeOf nodes) p at ≡ refused 4 at
   unfolding tokenCode
   left-end n i g l e = whole-refused (code (treeOf nodes)) p at (g .2 ∙ walk-end nodes p n i (g .0) (g .1) l e)

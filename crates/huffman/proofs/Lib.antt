@@ -1,3 +1,4 @@
+-- What other crates cite: Trees, Codes, Nodes, Answers. Two, Grows and Lookups have what the functions' proofs need, Examples worked examples. Assumes nothing.
 pub mod Trees
 pub mod Two
 pub mod Grows

@@ -8,6 +8,7 @@ use Rattle.bitstream.specs.Reading.{choose}
 use Rattle.bitstream.specs.Lists.{tabulated}
 use Rattle.quantization.specs.Parameters.{Ranges, Quantization, none}
 use Rattle.quantization.specs.Sound.{total, Holds}
+use Rattle.quantization.specs.declared.LoadedParameters.{LoadedParameters}
 use Rattle.matrices.specs.declared.Range.{Range}
 
 -- the first range that ends at qi or behind it: range k, which begins at s and has the size n, or one of those behind it, whose sizes are the list. What none before it has lies in the last
@@ -61,6 +62,6 @@ entryAt q set r type qi c = valueAt type (getD (q .dcScale) qi 0) (getD (q .acSc
 unfoldable pub matrixOf : Quantization → (type plane qi : ℕ) → List ℕ
 matrixOf q type plane qi = tabulated (entryAt q (setOf q type plane) (rangeOf (setOf q type plane .sizes) qi) type qi) 0 64
 
--- the slice is the matrix of the parameters that the others hold
-abbrev pub MatrixIs : (p : List ℕ) (place : ℕ) (ac dc sizes indices : List ℕ) (type plane qi : ℕ) → List ℕ → Type 0
-MatrixIs p place ac dc sizes indices type plane qi out = (q : Quantization) → Holds q p place ac dc sizes indices → out ≡ matrixOf q type plane qi
+-- the slice is the matrix of the parameters that l is
+abbrev pub MatrixIs : (p : List ℕ) (l : LoadedParameters) (type plane qi : ℕ) → List ℕ → Type 0
+MatrixIs p l type plane qi out = (q : Quantization) → Holds p l q → out ≡ matrixOf q type plane qi

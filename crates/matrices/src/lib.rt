@@ -1,4 +1,5 @@
-// The quantization matrix of a type, a plane and a qi, from parameters that lie in slices.
+// The quantization matrix of a type, a plane and a qi, from parameters that were read.
+use quantization::LoadedParameters;
 ghost use mathlib.Core.Path.{_≡_};
 ghost use mathlib.Core.List.{List};
 ghost use Prim.Native.Nat.{ℕ, _+_, _-_, _*_, _≤_, _<_, _^_};
@@ -82,11 +83,11 @@ fn least(kind: usize, c: usize) -> usize
 }
 
 // The scaled value, at most 4096 and at least `low`.
-fn scale_value(low: usize, scale: usize, value: usize) -> u16
-    requires { ⌜ (low ≤ 32) × (scale < 65536) × (value < 65536) ⌝ }
+fn scale_value(low: usize, scale: u16, value: usize) -> u16
+    requires { ⌜ (low ≤ 32) × (value < 65536) ⌝ }
     ensures { λ r. ⌜ r ≡ scaled low scale value ⌝ }
 {
-    let whole = 4 * (scale * value / 100);
+    let whole = 4 * (scale as usize * value / 100);
     if 4096 <= whole {
         return 4096;
     }
@@ -104,10 +105,10 @@ fn value_at(
     range: Range,
     kind: usize,
     qi: usize,
-    scale: usize,
+    scale: u16,
     c: usize,
 ) -> u16
-    requires { ⌜ (length (now packet) ≤ 2 ^ 58) × (first + 512 ≤ bits (now packet)) × (second + 512 ≤ bits (now packet)) × InRange range qi × (scale < 65536) × (c < 64) ⌝ }
+    requires { ⌜ (length (now packet) ≤ 2 ^ 58) × (first + 512 ≤ bits (now packet)) × (second + 512 ≤ bits (now packet)) × InRange range qi × (c < 64) ⌝ }
     ensures { λ r. ⌜ r ≡ scaled (minimum kind c) scale (interpolated range qi (number (now (packet .entry)) (first + c * 8) 8) (number (now (packet .entry)) (second + c * 8) 8)) ⌝ }
 {
     let left = byte_at(packet, first + c * 8);
@@ -125,11 +126,11 @@ fn fill_matrix(
     range: Range,
     kind: usize,
     qi: usize,
-    dc: usize,
-    ac: usize,
+    dc: u16,
+    ac: u16,
     out: &mut [u16],
 )
-    requires { ⌜ (length (now packet) ≤ 2 ^ 58) × (first + 512 ≤ bits (now packet)) × (second + 512 ≤ bits (now packet)) × InRange range qi × (dc < 65536) × (ac < 65536) × (length (now out) ≡ 64) ⌝ }
+    requires { ⌜ (length (now packet) ≤ 2 ^ 58) × (first + 512 ≤ bits (now packet)) × (second + 512 ≤ bits (now packet)) × InRange range qi × (length (now out) ≡ 64) ⌝ }
     ensures { λ _. ⌜ now (out .exit) ≡ tabulated (λ c. valueAt kind dc ac range qi c (number (now (packet .entry)) (first + c * 8) 8) (number (now (packet .entry)) (second + c * 8) 8)) 0 64 ⌝ }
 {
     out[0] = value_at(packet, first, second, range, kind, qi, dc, 0);
@@ -140,38 +141,27 @@ fn fill_matrix(
     }
 }
 
-// The quantization matrix of a type (0 intra, 1 inter), a plane and a qi, in natural order: `place` is that of the first base matrix in the packet.
+// The quantization matrix of a type (0 intra, 1 inter), a plane and a qi, in natural order.
 pub fn matrix(
     packet: &[u8],
-    place: usize,
-    ac: &[u16],
-    dc: &[u16],
-    sizes: &[u16],
-    indices: &[u16],
+    loaded: LoadedParameters,
     kind: usize,
     plane: usize,
     qi: usize,
     out: &mut [u16],
 )
-    requires { ⌜ (length (now packet) ≤ 2 ^ 58) × Held (now packet) place (now ac) (now dc) (now sizes) (now indices) × (kind < 2) × (plane < 3) × (qi < 64) × (length (now out) ≡ 64) ⌝ }
-    ensures { λ _. ⌜ MatrixIs (now (packet .entry)) place (now (ac .entry)) (now (dc .entry)) (now (sizes .entry)) (now (indices .entry)) kind plane qi (now (out .exit)) ⌝ }
+    requires { ⌜ (length (now packet) ≤ 2 ^ 58) × Held (now packet) loaded × (kind < 2) × (plane < 3) × (qi < 64) × (length (now out) ≡ 64) ⌝ }
+    ensures { λ _. ⌜ MatrixIs (now (packet .entry)) loaded kind plane qi (now (out .exit)) ⌝ }
 {
+    let place = loaded.place;
     let start = (3 * kind + plane) * 64;
-    let range = range_of(sizes, start, qi);
+    let range = range_of(&loaded.sizes, start, qi);
     let number = range.number;
-    let one = indices[start + number] as usize;
-    let two = indices[start + number + 1] as usize;
+    let one = loaded.indices[start + number] as usize;
+    let two = loaded.indices[start + number + 1] as usize;
     let first = place + one * 512;
     let second = place + two * 512;
-    fill_matrix(
-        packet,
-        first,
-        second,
-        range,
-        kind,
-        qi,
-        dc[qi] as usize,
-        ac[qi] as usize,
-        out,
-    )
+    let dc = loaded.dc_scale[qi];
+    let ac = loaded.ac_scale[qi];
+    fill_matrix(packet, first, second, range, kind, qi, dc, ac, out)
 }

@@ -1,3 +1,4 @@
+-- What other crates cite: Laws, Sent (which macro blocks send a mode). Facts has what the functions' proofs need, Examples worked examples. Assumes nothing.
 pub mod Facts
 pub mod Laws
 pub mod Sent

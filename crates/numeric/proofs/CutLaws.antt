@@ -10,11 +10,11 @@ use lib.Bits.{bitAnd, and-mask}
 use lib.Dec.{T, ltb, leb, leb→le}
 use lib.IntN.{ℤ, pos, negsuc, subℕ, _+ℤ_, _-ℤ_}
 use lib.Pow.{pow-add}
-use lib.Signed.{mag, natAbs-le}
+use lib.Signed.{mag}
 use mir.Syntax.{Width, w16}
 use mir.Val.{bits, SFits, ofZ, sel}
 use mir.ValLaws.{half-full}
-use Rattle.numeric.proofs.Magnitude.{Size, size, sub-cases, sub-less}
+use Rattle.numeric.proofs.Magnitude.{sub-cases, sub-less}
 use Rattle.numeric.specs.Cut.{mod16, read16, cut}
 
 -- ---- the low 16 bits are what a mask leaves, at any width that has them
@@ -63,9 +63,6 @@ sel-mag false m h e = let k = ltb-false m 32768 e in omega arith
 pub cut-fits : (z : ℤ) → SFits w16 (cut z)
 unfolding cut read16
 cut-fits z = record { sfits = sel-mag (ltb (mod16 z) 32768) (mod16 z) (mod16-le z) refl }
-
-pub cut-size : (z : ℤ) → Size (cut z) 32768
-cut-size z = size (natAbs-le (cut z) (cut-fits z .sfits))
 
 -- ---- a number in the range is its own cut
 

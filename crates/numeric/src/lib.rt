@@ -1,3 +1,4 @@
+// Cut to 16 bits, rounding with ties away from 0, and the clamp to a sample.
 ghost use mathlib.Core.Path.{_≡_};
 ghost use Prim.Native.Nat.{_+_, _*_, _^_, _≤_, _<_};
 ghost use lib.IntN.{pos, natAbs};

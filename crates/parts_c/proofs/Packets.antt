@@ -8,18 +8,17 @@ use lib.Dec.{ltb, lit<}
 use lib.IntN.{pos}
 use lib.ListN.{length, getD, replicate}
 use borrow.Author.Tests.{eqb-true, ltb-true}
-use Rattle.bitstream.specs.Reading.{Outcome, got, refused}
 use Rattle.geometry.specs.declared.PixelFormat.{PixelFormat}
 use Rattle.geometry.specs.Sizes.{blocksOf, superBlocksOf, macroBlocksOf}
 use Rattle.headers.specs.Sizes.{formatOf}
 use Rattle.huffman.specs.Tree.{Tree}
 use Rattle.headers.proofs.Fitting.{all-at, and-both}
-use Rattle.setup.specs.Header.{Setup}
-use Rattle.setup.specs.Answer.{Loaded}
-use Rattle.setup.specs.Table.{heldSetup, asTable}
-use Rattle.setup.specs.declared.TableAnswer.{TableAnswer}
-use Rattle.setup.specs.declared.TableAnswer.the-variants.{Genuine, NotGenuine}
-use Rattle.tables.proofs.Held.{holds-trees, held-reads}
+use Rattle.quantization.specs.declared.Place.the-variants as place
+use Rattle.quantization.specs.declared.Place.the-variants.{At}
+use Rattle.setup.specs.Loaded.{asSetupRead}
+use Rattle.setup.specs.Table.{heldSetup}
+use Rattle.setup.specs.declared.SetupRead.{SetupRead}
+use Rattle.setup.proofs.Held.{held-8, genuine-held, genuine-holds}
 use Rattle.tokens.specs.Answer.{Tables, treesOf}
 use Rattle.decoding.proofs.Held.{tables-held, trees-held}
 use Rattle.frame_packet.specs.declared.Read.{Read}
@@ -30,32 +29,20 @@ use Rattle.frame_packet.specs.Work.{Work, work, clear, workAfter, asFrame}
 use Rattle.parts_c.specs.Packet.{Returned, returned, kindNumber, numberOf, countsOf, numbersOf, zeroed, lengthsFit, byTrees, bySetup, readCall}
 
 -- ---- the trees of a table memory
--- a table memory that is genuine: the slice holds its trees, and the packet is read by them
-pub genuine-trees : (t : List ℕ) {r : TableAnswer} {m : ℕ} → r ≡ asTable (heldSetup t) → r ≡ Genuine m → (limits ac dc sizes indices nodes : List ℕ) → Loaded (heldSetup t) limits ac dc sizes indices nodes
-    → Tables nodes × ((f : PixelFormat) (w h : ℕ) (references : Bool) (packet old : List ℕ) → byTrees f w h references packet (treesOf nodes) ≡ bySetup f w h references packet old (heldSetup t))
-genuine-trees t {r} {m} a g limits ac dc sizes indices nodes l = go (heldSetup t) refl a l
-  where
-    go : (o : Outcome Setup) → heldSetup t ≡ o → r ≡ asTable o → Loaded o limits ac dc sizes indices nodes
-        → Tables nodes × ((f : PixelFormat) (w h : ℕ) (references : Bool) (packet old : List ℕ) → byTrees f w h references packet (treesOf nodes) ≡ bySetup f w h references packet old o)
-    go (got s e) h b stored =
-        let k = holds-trees t (held-reads t h) limits ac dc sizes indices nodes stored in
-        (tables-held (s .trees) nodes k, λ f w h references packet old. ap (byTrees f w h references packet) (trees-held (s .trees) nodes k))
-    go (refused j e) h b stored =
-        let u : Genuine m ≡ NotGenuine = sym g ∙ b in
-        let z : _≡_ {A = ℕ} 0 1 = cc in
-        absurd (omega arith)
+module _ (t : List ℕ) {r : SetupRead} (a : r ≡ asSetupRead (heldSetup t)) where
+  -- a table memory that is genuine: its nodes are those of its trees, and the packet is read by them
+  pub genuine-trees : {e : ℕ} → r .place ≡ At e
+      → Tables (r .setup .nodes) × ((f : PixelFormat) (w h : ℕ) (references : Bool) (packet old : List ℕ) → byTrees f w h references packet (treesOf (r .setup .nodes)) ≡ bySetup f w h references packet old (heldSetup t))
+  genuine-trees g =
+      let s = genuine-holds t a g in (
+        tables-held t (r .setup) s,
+        λ f w h references packet old. ap (byTrees f w h references packet) (trees-held t (r .setup) s) ∙ sym (ap (bySetup f w h references packet old) (genuine-held t a g)),
+      )
 
--- one that is not
-pub other-table : (t : List ℕ) {r : TableAnswer} → r ≡ asTable (heldSetup t) → r ≡ NotGenuine → (f : PixelFormat) (w h : ℕ) (references : Bool) (packet old : List ℕ) {m : Work} → m ≡ clear f w h
-    → returned 8 old m ≡ bySetup f w h references packet old (heldSetup t)
-other-table t {r} a g f w h references packet old {m} c = go (heldSetup t) a
-  where
-    go : (o : Outcome Setup) → r ≡ asTable o → returned 8 old m ≡ bySetup f w h references packet old o
-    go (got s e) b =
-        let u : NotGenuine ≡ asTable (got s e) = sym g ∙ b in
-        let z : _≡_ {A = ℕ} 0 1 = cc in
-        absurd (omega arith)
-    go (refused j e) b = ap (returned 8 old) c
+  -- one that is not
+  pub other-table : {k e : ℕ} → r .place ≡ place.Refused k e → (f : PixelFormat) (w h : ℕ) (references : Bool) (packet old : List ℕ) {m : Work} → m ≡ clear f w h
+      → returned 8 old m ≡ bySetup f w h references packet old (heldSetup t)
+  other-table g f w h references packet old c = ap (returned 8 old) c ∙ sym (ap (bySetup f w h references packet old) (held-8 t a g))
 
 -- ---- a packet that was read
 -- its numbers, by the two ways of reading it

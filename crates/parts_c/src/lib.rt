@@ -5,7 +5,7 @@ use frame_packet::FrameRead;
 use frame_packet::Read;
 use geometry::Block;
 use geometry::PixelFormat;
-use setup::TableAnswer;
+use quantization::Place;
 ghost use mathlib.Core.Path.{_≡_};
 ghost use mathlib.Core.List.{map};
 ghost use Prim.Native.Nat.{_+_, _*_, _≤_, _^_};
@@ -335,41 +335,31 @@ fn read_by_table(
     requires { ⌜ (length (now packet) ≤ 2 ^ 58) × (w ≤ 65535) × (h ≤ 65535) × (work (now records) (now coded) (now coefs) (now lasts) (now flags) (now bits) (now supers) (now modes) (now active) ≡ clear format w h) × (length (now answer) ≡ 8) ⌝ }
     ensures { λ r. ⌜ returned r (now (answer .exit)) (work (now (records .exit)) (now (coded .exit)) (now (coefs .exit)) (now (lasts .exit)) (now (flags .exit)) (now (bits .exit)) (now (supers .exit)) (now (modes .exit)) (now (active .exit))) ≡ bySetup format w h references (now (packet .entry)) (now (answer .entry)) (heldSetup (now (table .entry))) ⌝ }
 {
-    let mut limits = [0u16; 64];
-    let mut ac = [0u16; 64];
-    let mut dc = [0u16; 64];
-    let mut sizes = [0u16; 384];
-    let mut indices = [0u16; 384];
-    let mut nodes = [0u8; 5120];
-    let held = setup::load_table(
-        table,
-        &mut limits,
-        &mut ac,
-        &mut dc,
-        &mut sizes,
-        &mut indices,
-        &mut nodes,
-    );
-    match held {
-        TableAnswer::NotGenuine => 8,
-        TableAnswer::Genuine(_) => read_by_nodes(
-            packet,
-            references,
-            &nodes,
-            format,
-            w,
-            h,
-            records,
-            coded,
-            coefs,
-            lasts,
-            flags,
-            bits,
-            supers,
-            modes,
-            active,
-            answer,
-        ),
+    let held = setup::load_table(table);
+    let place = held.place;
+    match place {
+        Place::Refused(_, _) => 8,
+        Place::At(_) => {
+            let nodes = held.setup.nodes;
+            read_by_nodes(
+                packet,
+                references,
+                &nodes,
+                format,
+                w,
+                h,
+                records,
+                coded,
+                coefs,
+                lasts,
+                flags,
+                bits,
+                supers,
+                modes,
+                active,
+                answer,
+            )
+        }
     }
 }
 

@@ -17,6 +17,7 @@ ghost use mathlib.Core.Path.{_≡_};
 ghost use Prim.Native.Nat.{_≤_, _<_};
 ghost use lib.ListN.{length};
 ghost use Rattle.io.specs.Counts.{Counts};
+ghost use Rattle.play.specs.HandOn.{HandsOn};
 
 // Memory is lent for frames of up to 96 blocks.
 const BLOCKS: usize = 96;
@@ -121,10 +122,13 @@ fn decode(
 // After an accepted frame new becomes previous, after an intra frame also golden.
 fn hand_on(kind: Kind, golden: &mut [u8], previous: &mut [u8], new: &[u8])
     requires { ⌜ (length (now golden) ≡ length (now new)) × (length (now previous) ≡ length (now new)) ⌝ }
+    ensures { λ _. ⌜ HandsOn kind (now (golden .entry)) (now (previous .entry)) (now (new .entry)) (now (golden .exit)) (now (previous .exit)) ⌝ }
 {
     buffer::copy(previous, new);
-    if let Kind::Intra = kind {
-        buffer::copy(golden, new);
+    match kind {
+        Kind::Intra => buffer::copy(golden, new),
+        Kind::Inter => return,
+        Kind::Repeat => return,
     }
 }
 

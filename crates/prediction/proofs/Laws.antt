@@ -1,37 +1,18 @@
--- Laws of a prediction: it is a sample, and a whole vector fetches once.
+-- A vector that is whole in both axes fetches once; and worked examples of vectors.
 -- Assumes nothing.
 use mathlib.Core.Path.{_≡_, refl, ap, _∙_}
 use mathlib.Core.Bool.{Bool, true, false}
 use mathlib.Core.List.{List}
-use Prim.Native.Nat.{ℕ, suc, _+_, _/_, _%_, _≤_}
+use Prim.Native.Nat.{ℕ, suc, _+_, _/_, _%_}
 use native.Mathlib.Omega.{arith}
 use lib.IntN.{ℤ, pos, negsuc, negℤ, natAbs}
-use lib.ListN.{getD}
 use Rattle.geometry.specs.declared.PixelFormat.{PixelFormat}
 use Rattle.geometry.specs.declared.PixelFormat.the-variants.{Chroma420, Chroma422, Chroma444}
 use Rattle.geometry.specs.declared.Block.{Block}
 use Rattle.block_record.specs.declared.Vector.{Vector}
-use Rattle.block_record.specs.declared.Prediction.{Prediction}
-use Rattle.block_record.specs.declared.Prediction.the-variants.{None, Previous, Golden}
-use Rattle.prediction.specs.Motion.{subsampledAcross, subsampledUp, steps, down, upward, inside, fetch}
-use Rattle.prediction.specs.Predicted.{mean, fetched, moved, predicted}
+use Rattle.prediction.specs.Motion.{subsampledAcross, subsampledUp, steps, down, upward, inside}
+use Rattle.prediction.specs.Predicted.{mean, fetched, moved}
 use Rattle.prediction.proofs.Facts.{mean-same}
-
--- ---- a prediction from samples is a sample
-module _ (f : PixelFormat) (w h : ℕ) where
-  moved-le : (s : List ℕ) → ((i : ℕ) → getD s i 0 ≤ 255) → (b : Block) (v : Vector) (c r : ℕ) → moved f w h s b v c r ≤ 255
-  unfolding moved fetched fetch
-  moved-le s all b v c r = le (all _) (all _)
-    where
-      le : {m n : ℕ} → m ≤ 255 → n ≤ 255 → mean m n ≤ 255
-      le hm hn = omega arith
-
-  pub predicted-le : (golden previous : List ℕ) → ((i : ℕ) → getD golden i 0 ≤ 255) → ((i : ℕ) → getD previous i 0 ≤ 255)
-      → (p : Prediction) (b : Block) (c r : ℕ) → predicted f w h golden previous p b c r ≤ 255
-  unfolding predicted
-  predicted-le golden previous g q None b c r = omega arith
-  predicted-le golden previous g q (Previous v) b c r = moved-le previous q b v c r
-  predicted-le golden previous g q (Golden v) b c r = moved-le golden g b v c r
 
 -- ---- a whole number of samples is rounded to itself, up or down
 pub whole-component : (subsampled : Bool) (z : ℤ) → natAbs z % steps subsampled ≡ 0 → upward (steps subsampled) z ≡ down (steps subsampled) z

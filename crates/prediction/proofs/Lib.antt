@@ -1,4 +1,4 @@
--- What other crates cite: Laws (predicted-le, whole). Facts and Nearby have what the functions' proofs need.
+-- Laws: a vector that is whole fetches once, and worked examples. Facts and Nearby have what the functions' proofs need. Assumes nothing.
 pub mod Facts
 pub mod Nearby
 pub mod Laws

@@ -1,3 +1,4 @@
+-- What other crates cite: Laws, Soundness (what holds of parameters that were read), Layouts, Loops. Steps, Sets and Whole have what the functions' proofs need, Examples worked examples. Assumes nothing.
 pub mod Loops
 pub mod Layouts
 pub mod Steps

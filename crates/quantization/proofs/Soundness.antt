@@ -1,4 +1,4 @@
--- What holds of parameters that were read. Assumes nothing.
+-- What holds of parameters that were read, and that 63 ranges are enough for a set. Assumes nothing.
 use Prim.Native.Nat.{ℕ, zero, suc, _+_, _-_, _*_, _≤_, _<_}
 use native.Mathlib.Omega.{arith}
 use mathlib.Core.Path.{_≡_, refl, sym, ap, _∙_}
@@ -7,13 +7,13 @@ use mathlib.Core.Bool.{Bool, true, false}
 use lib.Dec.{eqb, leb, ltb}
 use lib.ListN.{length, getD, length-append, List·getD-append}
 use lib.Seq.{getD-at}
-use borrow.Author.Tests.{leb-true, eqb-false, ltb-true, ltb-false}
+use borrow.Author.Tests.{leb-true, le-leb, eqb-false, ltb-true, ltb-false}
 use Rattle.bitstream.specs.Bits.{bits}
-use Rattle.bitstream.specs.Reading.{got, refused, Parse, pure, bind, here, pick, field, many, until}
+use Rattle.bitstream.specs.Reading.{Outcome, got, refused, after, Parse, pure, bind, _>>=_, here, pick, field, many, until}
 use Rattle.bitstream.proofs.Fields.{no-mix}
-use Rattle.bitstream.proofs.Laws.{bind-got}
+use Rattle.bitstream.proofs.Laws.{bind-got, until-enough}
 use Rattle.quantization.specs.Parameters.{Ranges, Quantization, Begun, withRange, scales, matrixCount, baseMatrix, index, rangeSize, range, newSet, origin, none, setFrom, moreSets, quantization}
-use Rattle.quantization.specs.Answer.{Stored}
+use Rattle.quantization.specs.Answer.{loadedParameters}
 use Rattle.quantization.specs.Sound.{total, Sound, Whole, Holds}
 use Rattle.quantization.proofs.Steps.{Matrices, matrices-are, index-lt, size-le}
 use Rattle.quantization.proofs.Sets.{origin-is, one-le}
@@ -88,6 +88,40 @@ until-keeps n (suc fuel) s p i {t} {e} g h = go (leb 63 (s .reached)) refl h (λ
     go false b r ih =
         let u = bind-got (range n s) (until (λ s. leb 63 (s .reached)) (range n) 7 fuel) p i r in
         ih (u .0) (u .1) (range-keeps n s p i g (u .2)) (u .3)
+
+-- a range has a qi at least
+range-further : (n : ℕ) (s : Begun) (p : List ℕ) (i : ℕ) (t : Begun) (e : ℕ) → range n s p i ≡ got t e → s .reached < t .reached
+unfolding range
+range-further n s p i t e h =
+    let u = bind-got (rangeSize (s .reached)) (λ v. bind (index n) (λ b. pure (withRange s v b))) p i h in
+    let w = bind-got (index n) (λ b. pure (withRange s (u .0) b)) p (u .1) (u .3) in
+    let r = w .3 in
+    let z : withRange s (u .0) (w .0) ≡ t = cc in
+    rw (← z) (omega arith)
+
+-- `newSet` with the number k in the last clause of `until`
+abbrev pub newSetBy : ℕ → ℕ → Parse Ranges
+newSetBy k n = do
+  b ← index n
+  s ← until (λ s. leb 63 (s .reached)) (range n) k 63 (record { reached = 0; sizes = []; indices = b ∷ [] })
+  pure (record { sizes = s .sizes; indices = s .indices })
+
+abbrev rangesOf : Begun → Ranges
+rangesOf s = record { sizes = s .sizes; indices = s .indices }
+
+abbrev setBehind : ℕ → ℕ → List ℕ → ℕ → ℕ → Outcome Ranges
+setBehind k n p b e = after (until (λ s. leb 63 (s .reached)) (range n) k 63 (record { reached = 0; sizes = []; indices = b ∷ [] }) p e) (λ s d. got (rangesOf s) d)
+
+-- 63 ranges are enough: no packet reaches that clause, whatever number it has
+pub ranges-enough : (n k : ℕ) (p : List ℕ) (i : ℕ) → newSet n p i ≡ newSetBy k n p i
+unfolding newSet
+ranges-enough n k p i = go (index n p i)
+  where
+    go : (o : Outcome ℕ) → after o (setBehind 7 n p) ≡ after o (setBehind k n p)
+    go (got b e) =
+        ap (λ (o : Outcome Begun). after o (λ s d. got (rangesOf s) d))
+        (until-enough (λ s. leb 63 (s .reached)) (range n) (λ s. s .reached) 63 (λ s. le-leb 63 (s .reached)) (range-further n) 7 k 63 (record { reached = 0; sizes = []; indices = b ∷ [] }) (omega arith) p e)
+    go (refused j e) = refl
 
 new-sound : (n : ℕ) (p : List ℕ) (i : ℕ) {r : Ranges} {e : ℕ} → newSet n p i ≡ got r e → Sound n r
 unfolding newSet
@@ -170,6 +204,6 @@ quantization-whole p i {q} h =
           numbers = λ k c l h. m .1 .each k (omega arith) .each c h;
         })
 
--- the slices that the parameters were read into hold them
-pub read-holds : (p : List ℕ) (i : ℕ) {q : Quantization} {e : ℕ} (ac dc sizes indices : List ℕ) → quantization p i ≡ got q e → Stored q ac dc sizes indices → Holds q p (q .matricesAt) ac dc sizes indices
-read-holds p i ac dc sizes indices h s = record { stored = s; place-is = refl; whole = quantization-whole p i h }
+-- parameters that were read, as the code has them
+pub read-holds : (p : List ℕ) (i : ℕ) {q : Quantization} {e : ℕ} → quantization p i ≡ got q e → Holds p (loadedParameters q) q
+read-holds p i h = record { is = refl; whole = quantization-whole p i h }

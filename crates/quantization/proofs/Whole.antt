@@ -11,7 +11,7 @@ use Rattle.bitstream.proofs.Fields.{no-mix, field-value}
 use Rattle.bitstream.proofs.Laws.{bind-got}
 use Rattle.quantization.specs.Parameters.{Ranges, Quantization, scales, matrixCount, baseMatrix, moreSets, quantization}
 use Rattle.quantization.specs.Layout.{laid}
-use Rattle.quantization.specs.Answer.{SetsHeld, asParameters, Loaded}
+use Rattle.quantization.specs.Answer.{SetsHeld, asParameters, loadedParameters, Loaded}
 use Rattle.quantization.specs.declared.Parameters.the-variants.{Read, Refused}
 
 -- the count ends within the packet
@@ -72,4 +72,7 @@ sets-held (refused k d) sizes indices f h = no-mix (sym h)
 pub quant-stored : (o : Outcome Quantization) (so : Outcome (List Ranges)) (ac dc sizes indices : List ℕ) {x y : List ℕ} {c e : ℕ} {ms : List (List ℕ)} {sets : List Ranges}
     → o ≡ got (record { acScale = x; dcScale = y; matricesAt = c; matrices = ms; sets = sets }) e → ac ≡ x → dc ≡ y → SetsHeld so sizes indices → so ≡ got sets e
     → (Read c e ≡ asParameters o) × Loaded o ac dc sizes indices
-quant-stored o so ac dc sizes indices h a b s m = let g = sets-held so sizes indices s m in rw h (refl, record { ac-is = a; dc-is = b; sizes-are = g .0; indices-are = g .1 })
+unfolding loadedParameters
+quant-stored o so ac dc sizes indices {c = c} h a b s m =
+    let g = sets-held so sizes indices s m in
+    rw h (refl, λ i. record { place = c; «ac_scale» = a i; «dc_scale» = b i; sizes = g .0 i; indices = g .1 i })

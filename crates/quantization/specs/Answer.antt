@@ -11,6 +11,7 @@ use Rattle.quantization.specs.Parameters.{Ranges, Quantization, setFrom}
 use Rattle.quantization.specs.Layout.{over, laid}
 use Rattle.quantization.specs.declared.Place.{Place}
 use Rattle.quantization.specs.declared.Place.the-variants.{At, Refused}
+use Rattle.quantization.specs.declared.LoadedParameters.{LoadedParameters}
 use Rattle.quantization.specs.declared.Parameters.{Parameters}
 use Rattle.quantization.specs.declared.Parameters.the-variants.{Read, Refused as NotRead}
 
@@ -58,13 +59,17 @@ abbrev pub asParameters : Outcome Quantization → Parameters
 asParameters (got q e) = Read (q .matricesAt) e
 asParameters (refused k e) = NotRead k e
 
--- the parameters in the slices
-pub record Stored (q : Quantization) (ac dc sizes indices : List ℕ) : Type 0 where
-  pub ac-is : ac ≡ q .acScale
-  pub dc-is : dc ≡ q .dcScale
-  pub sizes-are : sizes ≡ laid (λ r. r .sizes) (q .sets)
-  pub indices-are : indices ≡ laid (λ r. r .indices) (q .sets)
+-- parameters as the code has them: sets one after the other, 64 elements each
+unfoldable pub loadedParameters : Quantization → LoadedParameters
+loadedParameters q = record {
+  place = q .matricesAt;
+  «ac_scale» = q .acScale;
+  «dc_scale» = q .dcScale;
+  sizes = laid (λ r. r .sizes) (q .sets);
+  indices = laid (λ r. r .indices) (q .sets);
+}
 
+-- the parameters that were read lie in four slices; after a refusal they may be anything
 abbrev pub Loaded : Outcome Quantization → (ac dc sizes indices : List ℕ) → Type 0
-Loaded (got q e) ac dc sizes indices = Stored q ac dc sizes indices
+Loaded (got q e) ac dc sizes indices = record { place = q .matricesAt; «ac_scale» = ac; «dc_scale» = dc; sizes = sizes; indices = indices } ≡ loadedParameters q
 Loaded (refused k e) ac dc sizes indices = Unit {0}

@@ -68,7 +68,7 @@ range n s = do
   b ← index n
   pure (withRange s v b)
 
--- a set that is new: an index, and ranges until 63 is reached, which takes at most 63 of them
+-- a set that is new: an index, and ranges until 63 is reached, which takes at most 63 of them: no packet reaches the 7 that stands here for more (law `ranges-enough` of proofs/Soundness)
 unfoldable pub newSet : ℕ → Parse Ranges
 newSet n = do
   b ← index n

@@ -1,11 +1,12 @@
--- What holds of parameters that were read (laws `quantization-whole` and `read-holds` of proofs/Soundness), and the slices that hold them.
+-- What holds of parameters that were read (laws `quantization-whole` and `read-holds` of proofs/Soundness).
 use Prim.Native.Nat.{ℕ, _+_, _*_, _≤_, _<_}
 use mathlib.Core.Path.{_≡_}
 use mathlib.Core.List.{List, [], _∷_}
 use lib.ListN.{length, getD}
 use Rattle.bitstream.specs.Bits.{bits, number}
 use Rattle.quantization.specs.Parameters.{Ranges, Quantization, none}
-use Rattle.quantization.specs.Answer.{Stored}
+use Rattle.quantization.specs.Answer.{loadedParameters}
+use Rattle.quantization.specs.declared.LoadedParameters.{LoadedParameters}
 
 -- the sum of a list
 abbrev pub total : List ℕ → ℕ
@@ -28,12 +29,11 @@ pub record Whole (q : Quantization) (p : List ℕ) : Type 0 where
   pub room : q .matricesAt + length (q .matrices) * 512 ≤ bits p
   pub numbers : (m c : ℕ) → m < length (q .matrices) → c < 64 → getD (getD (q .matrices) m []) c 0 ≡ number p (q .matricesAt + m * 512 + c * 8) 8
 
--- parameters that were read from the packet p, in slices, with the place of their first base matrix
-pub record Holds (q : Quantization) (p : List ℕ) (place : ℕ) (ac dc sizes indices : List ℕ) : Type 0 where
-  pub stored : Stored q ac dc sizes indices
-  pub place-is : place ≡ q .matricesAt
+-- l is the parameters q, whose base matrices stand in the packet p
+pub record Holds (p : List ℕ) (l : LoadedParameters) (q : Quantization) : Type 0 where
+  pub is : l ≡ loadedParameters q
   pub whole : Whole q p
 
--- the slices hold the parameters of some packet that was read
-abbrev pub Held : (p : List ℕ) (place : ℕ) (ac dc sizes indices : List ℕ) → Type 0
-Held p place ac dc sizes indices = (q : Quantization) × Holds q p place ac dc sizes indices
+-- l is some parameters
+abbrev pub Held : List ℕ → LoadedParameters → Type 0
+Held p l = (q : Quantization) × Holds p l q

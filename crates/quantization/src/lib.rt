@@ -1,4 +1,4 @@
-// The quantization parameters of the setup header, read into lent slices, and the quantization matrices.
+// The quantization parameters of the setup header, read into lent slices; the base matrices stay in the packet.
 use bitstream::Field;
 ghost use mathlib.Core.Path.{_≡_};
 ghost use mathlib.Core.List.{List, []};
@@ -21,6 +21,16 @@ pub enum Place {
 pub enum Parameters {
     Read(usize, usize),
     Refused(u32, usize),
+}
+
+// Parameters that were read: the AC and the DC scales, and the sizes and the indices of the quant ranges, 64 elements for each of six sets.
+// The base matrices stay in the packet: `place` is that of the first.
+pub struct LoadedParameters {
+    pub place: usize,
+    pub ac_scale: [u16; 64],
+    pub dc_scale: [u16; 64],
+    pub sizes: [u16; 384],
+    pub indices: [u16; 384],
 }
 
 // The place that a field's answer says.

@@ -5,23 +5,19 @@ use mathlib.Core.Path.{_≡_, refl}
 use mathlib.Core.List.{List}
 use lib.ListN.{length}
 use Rattle.bitstream.specs.Reading.{got}
-use Rattle.huffman.specs.Tree.{nodesOf}
-use Rattle.quantization.specs.Layout.{laid}
 use Rattle.quantization.specs.Sound.{Whole, Sound}
 use Rattle.matrices.specs.Matrix.{setOf}
 use Rattle.matrices.proofs.Ranges.{range-found}
 use Rattle.matrices.proofs.Borders.{border-same, two-same}
 use Rattle.setup.specs.Header.{Setup}
 use Rattle.setup.specs.Table.{heldSetup}
-use Rattle.tables.proofs.Held.{held-reads, holds-parameters}
+use Rattle.setup.specs.Loaded.{loadedSetup}
+use Rattle.setup.proofs.Held.{held-reads, held-parameters}
 use Rattle.queries.specs.Ranges.{RangesHold}
 
 -- the parameters that a table memory holds are sound
 held-whole : (t : List ℕ) {s : Setup} {e : ℕ} → heldSetup t ≡ got s e → Whole (s .parameters) t
-held-whole t {s} h =
-    let q = s .parameters in
-    holds-parameters t (held-reads t h) (s .limits) (q .acScale) (q .dcScale) (laid (λ r. r .sizes) (q .sets)) (laid (λ r. r .indices) (q .sets)) (laid nodesOf (s .trees))
-    (record { limits-are = refl; parameters-are = record { ac-is = refl; dc-is = refl; sizes-are = refl; indices-are = refl }; nodes-are = refl }) .whole
+held-whole t {s} {e} h = held-parameters t (loadedSetup s) (record { end = e; reads = held-reads t h; is = refl }) .whole
 
 pub ranges-hold : RangesHold
 ranges-hold t s e h type plane lt lp =

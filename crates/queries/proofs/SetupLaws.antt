@@ -4,18 +4,17 @@ use mathlib.Core.Path.{_≡_, refl, sym, ap, _∙_}
 use mathlib.Core.List.{List}
 use mathlib.Core.Bool.{true, false, _&&_}
 use lib.Dec.{ltb}
-use lib.ListN.{length}
+use lib.ListN.{length, getD}
 use borrow.Author.Tests.{eq-eqb, ne-eqb, lt-ltb, le-ltb, ltb-true}
 use Rattle.bitstream.specs.Reading.{got}
 use Rattle.headers.proofs.Fitting.{and-both}
+use Rattle.quantization.specs.declared.Place.the-variants.{At, Refused}
 use Rattle.matrices.specs.Matrix.{MatrixIs}
 use Rattle.setup.specs.Header.{Setup}
-use Rattle.setup.specs.Answer.{Loaded}
-use Rattle.setup.specs.Table.{tableBytes, heldSetup, asTable}
-use Rattle.setup.specs.declared.TableAnswer.{TableAnswer}
-use Rattle.setup.specs.declared.TableAnswer.the-variants.{Genuine, NotGenuine}
-use Rattle.tables.specs.Tables.{LimitIs}
-use Rattle.tables.proofs.Held.{held-8, genuine-setup, genuine-held, genuine-stored, genuine-holds}
+use Rattle.setup.specs.Loaded.{asSetupRead}
+use Rattle.setup.specs.Table.{tableBytes, heldSetup}
+use Rattle.setup.specs.declared.SetupRead.{SetupRead}
+use Rattle.setup.proofs.Held.{held-8, held-limits, held-parameters, genuine-setup, genuine-held, genuine-holds}
 use Rattle.queries.specs.Found as found
 use Rattle.queries.specs.Found.{Found, is, absent}
 use Rattle.queries.specs.Setup.{onTable, tableLimit, hasMatrix, tableMatrix, matrixInto, asMatrix, leaving}
@@ -26,9 +25,9 @@ module _ {A : Type 0} (t : List ℕ) (f : Setup → Found A) where
   unfolding onTable
   other-length h = rw (ne-eqb _ _ h)
 
-  on-other : length t ≡ tableBytes → {r : TableAnswer} → r ≡ asTable (heldSetup t) → r ≡ NotGenuine → onTable t f ≡ found.refused 8
+  on-other : length t ≡ tableBytes → {r : SetupRead} {k e : ℕ} → r ≡ asSetupRead (heldSetup t) → r .place ≡ Refused k e → onTable t f ≡ found.refused 8
   unfolding onTable
-  on-other h a e = rw (eq-eqb _ _ h, held-8 t a e)
+  on-other h a n = rw (eq-eqb _ _ h, held-8 t a n)
 
   on-held : length t ≡ tableBytes → {s : Setup} {e : ℕ} → heldSetup t ≡ got s e → onTable t f ≡ f s
   unfolding onTable
@@ -44,16 +43,16 @@ module _ (t : List ℕ) where
   unfolding tableMatrix
   matrix-1 type plane qi h = other-length t _ h
 
-  pub limit-8 : (qi : ℕ) → length t ≡ tableBytes → {r : TableAnswer} → r ≡ asTable (heldSetup t) → r ≡ NotGenuine → tableLimit t qi ≡ found.refused 8
+  pub limit-8 : (qi : ℕ) → length t ≡ tableBytes → {r : SetupRead} {k e : ℕ} → r ≡ asSetupRead (heldSetup t) → r .place ≡ Refused k e → tableLimit t qi ≡ found.refused 8
   unfolding tableLimit
-  limit-8 qi h a e = on-other t _ h a e
+  limit-8 qi h a n = on-other t _ h a n
 
-  pub matrix-8 : (type plane qi : ℕ) → length t ≡ tableBytes → {r : TableAnswer} → r ≡ asTable (heldSetup t) → r ≡ NotGenuine → tableMatrix t type plane qi ≡ found.refused 8
+  pub matrix-8 : (type plane qi : ℕ) → length t ≡ tableBytes → {r : SetupRead} {k e : ℕ} → r ≡ asSetupRead (heldSetup t) → r .place ≡ Refused k e → tableMatrix t type plane qi ≡ found.refused 8
   unfolding tableMatrix
-  matrix-8 type plane qi h a e = on-other t _ h a e
+  matrix-8 type plane qi h a n = on-other t _ h a n
 
--- ---- a memory that is genuine, and what the slices hold
-module _ (t : List ℕ) {r : TableAnswer} {m : ℕ} (a : r ≡ asTable (heldSetup t)) (g : r ≡ Genuine m) where
+-- ---- a memory that is genuine
+module _ (t : List ℕ) {r : SetupRead} {e : ℕ} (a : r ≡ asSetupRead (heldSetup t)) (g : r .place ≡ At e) where
   pub limit-absent : (qi : ℕ) → length t ≡ tableBytes → 64 ≤ qi → tableLimit t qi ≡ absent
   unfolding tableLimit
   limit-absent qi h q = on-held t _ h (genuine-held t a g) ∙ rw (le-ltb _ _ q)
@@ -62,14 +61,14 @@ module _ (t : List ℕ) {r : TableAnswer} {m : ℕ} (a : r ≡ asTable (heldSetu
   unfolding tableMatrix
   matrix-absent type plane qi h q = on-held t _ h (genuine-held t a g) ∙ rw q
 
-  module _ (limits ac dc sizes indices nodes : List ℕ) (l : Loaded (heldSetup t) limits ac dc sizes indices nodes) where
-    pub limit-is : (qi n : ℕ) → length t ≡ tableBytes → qi < 64 → LimitIs limits qi n → tableLimit t qi ≡ is n
-    unfolding tableLimit
-    limit-is qi n h q u = on-held t _ h (genuine-held t a g) ∙ rw (lt-ltb _ _ q) (ap is (sym (u (genuine-setup t a g) (genuine-stored t a g limits ac dc sizes indices nodes l .limits-are))))
+  pub limit-is : (qi : ℕ) → length t ≡ tableBytes → qi < 64 → tableLimit t qi ≡ is (getD (r .setup .limits) qi 0)
+  unfolding tableLimit
+  limit-is qi h q = on-held t _ h (genuine-held t a g) ∙ rw (lt-ltb _ _ q) (ap (λ (x : List ℕ). is (getD x qi 0)) (sym (held-limits t (r .setup) (genuine-holds t a g))))
 
-    pub matrix-is : (type plane qi : ℕ) (new : List ℕ) → length t ≡ tableBytes → hasMatrix type plane qi ≡ true → MatrixIs t m ac dc sizes indices type plane qi new → tableMatrix t type plane qi ≡ is new
-    unfolding tableMatrix
-    matrix-is type plane qi new h q u = on-held t _ h (genuine-held t a g) ∙ rw q (ap is (sym (u (genuine-setup t a g .parameters) (genuine-holds t a g limits ac dc sizes indices nodes l))))
+  pub matrix-is : (type plane qi : ℕ) (new : List ℕ) → length t ≡ tableBytes → hasMatrix type plane qi ≡ true
+      → MatrixIs t (r .setup .parameters) type plane qi new → tableMatrix t type plane qi ≡ is new
+  unfolding tableMatrix
+  matrix-is type plane qi new h q u = on-held t _ h (genuine-held t a g) ∙ rw q (ap is (sym (u (genuine-setup t a g .parameters) (held-parameters t (r .setup) (genuine-holds t a g)))))
 
 -- ---- the numbers of a matrix
 pub has-matrix : (type plane qi : ℕ) → hasMatrix type plane qi ≡ true → (type < 2) × (plane < 3) × (qi < 64)

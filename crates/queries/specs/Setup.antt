@@ -8,7 +8,7 @@ use Rattle.bitstream.specs.Reading.{Outcome, got, refused, choose}
 use Rattle.matrices.specs.Matrix.{matrixOf}
 use Rattle.setup.specs.Header.{Setup}
 use Rattle.setup.specs.Table.{tableBytes, heldSetup}
-use Rattle.tables.specs.Tables.{limitOf}
+use Rattle.setup.specs.Loaded.{limitOf}
 use Rattle.queries.specs.Found as found
 use Rattle.queries.specs.Found.{Found, is, absent, provided}
 use Rattle.queries.specs.declared.MatrixAnswer.{MatrixAnswer}

@@ -3,7 +3,7 @@ use geometry::Block;
 use geometry::PixelFormat;
 use geometry::Place;
 use headers::Session;
-use setup::TableAnswer;
+use quantization::Place as Behind;
 ghost use mathlib.Core.Path.{_≡_};
 ghost use Prim.Native.Nat.{ℕ, _≤_, _<_};
 ghost use Rattle.geometry.specs.Frame.{block};
@@ -155,27 +155,15 @@ pub fn loop_limit(table: &[u8], qi: u64) -> NumberAnswer
     if table.len() != setup::TABLE_BYTES {
         return NumberAnswer::Refused(1);
     }
-    let mut limits = [0u16; 64];
-    let mut ac = [0u16; 64];
-    let mut dc = [0u16; 64];
-    let mut sizes = [0u16; 384];
-    let mut indices = [0u16; 384];
-    let mut nodes = [0u8; 5120];
-    let answer = setup::load_table(
-        table,
-        &mut limits,
-        &mut ac,
-        &mut dc,
-        &mut sizes,
-        &mut indices,
-        &mut nodes,
-    );
-    match answer {
-        TableAnswer::NotGenuine => NumberAnswer::Refused(8),
-        TableAnswer::Genuine(_) => {
+    let answer = setup::load_table(table);
+    let place = answer.place;
+    match place {
+        Behind::Refused(_, _) => NumberAnswer::Refused(8),
+        Behind::At(_) => {
             if qi < 64 {
-                let limit = tables::loop_limit(&limits, qi as usize);
-                return NumberAnswer::Is(limit as u64);
+                let limits = answer.setup.limits;
+                let limit = limits[qi as usize] as u64;
+                return NumberAnswer::Is(limit);
             }
             NumberAnswer::Absent
         }
@@ -193,32 +181,16 @@ pub fn matrix(table: &[u8], kind: u64, plane: u64, qi: u64, out: &mut [u16]) -> 
     if table.len() != setup::TABLE_BYTES {
         return MatrixAnswer::Refused(1);
     }
-    let mut limits = [0u16; 64];
-    let mut ac = [0u16; 64];
-    let mut dc = [0u16; 64];
-    let mut sizes = [0u16; 384];
-    let mut indices = [0u16; 384];
-    let mut nodes = [0u8; 5120];
-    let answer = setup::load_table(
-        table,
-        &mut limits,
-        &mut ac,
-        &mut dc,
-        &mut sizes,
-        &mut indices,
-        &mut nodes,
-    );
-    match answer {
-        TableAnswer::NotGenuine => MatrixAnswer::Refused(8),
-        TableAnswer::Genuine(place) => {
+    let answer = setup::load_table(table);
+    let place = answer.place;
+    match place {
+        Behind::Refused(_, _) => MatrixAnswer::Refused(8),
+        Behind::At(_) => {
             if (kind < 2) & (plane < 3) & (qi < 64) {
+                let parameters = answer.setup.parameters;
                 matrices::matrix(
                     table,
-                    place,
-                    &ac,
-                    &dc,
-                    &sizes,
-                    &indices,
+                    parameters,
                     kind as usize,
                     plane as usize,
                     qi as usize,

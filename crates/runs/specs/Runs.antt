@@ -70,7 +70,7 @@ oneRun code n s = do
 abbrev pub complete : ℕ → Sent → Bool
 complete n s = leb n (length (s .done))
 
--- a string of n bits. "No bits wanted: nothing read." A run has a bit at least, so n runs are enough
+-- a string of n bits. "No bits wanted: nothing read." A run has a bit at least, so n runs are enough: no packet reaches the 12 that stands here for more of them (law `runs-enough` of proofs/Strings)
 unfoldable pub sent : RunCode → ℕ → Parse Sent
 sent code n = until (complete n) (oneRun code n) 12 n (record { done = []; value = 0; anew = 1 })
 

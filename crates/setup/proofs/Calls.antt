@@ -7,39 +7,32 @@ use mathlib.Core.Bool.{Bool, true, false}
 use lib.ListN.{length, replicate}
 use borrow.Author.Tests.{eq-eqb, ne-eqb}
 use Rattle.bitstream.specs.Bits.{bits}
-use Rattle.bitstream.specs.Reading.{Outcome, got, refused}
+use Rattle.bitstream.specs.Reading.{got, refused}
 use Rattle.bitstream.specs.Answer.{readable}
 use Rattle.bitstream.proofs.Spends.{readable-same}
+use Rattle.quantization.specs.Answer.{asPlace}
+use Rattle.quantization.specs.declared.Place.{Place}
+use Rattle.quantization.specs.declared.Place.the-variants as place
+use Rattle.quantization.proofs.Loops.{place-at, place-refused}
 use Rattle.table_memory.specs.Kept.{kept, clearFrom}
 use Rattle.table_memory.specs.Genuine.{Bytes, genuine}
 use Rattle.setup.specs.Header.{Setup, setupHeader}
-use Rattle.setup.specs.Answer.{asTables, Loaded}
-use Rattle.setup.specs.Table.{tableBytes, setupOutcome, asSetupAnswer, tableAfter, isTable, Exactly, heldSetup, asTable}
-use Rattle.setup.specs.declared.Tables.{Tables}
-use Rattle.setup.specs.declared.Tables.the-variants as tables
+use Rattle.setup.specs.Loaded.{asSetupRead}
+use Rattle.setup.specs.declared.SetupRead.{SetupRead}
+use Rattle.setup.specs.Table.{tableBytes, setupOutcome, asSetupAnswer, tableAfter, isTable, Exactly, heldSetup}
 use Rattle.setup.specs.declared.SetupAnswer.the-variants.{Accepted, Refused}
-use Rattle.setup.specs.declared.TableAnswer.the-variants.{Genuine, NotGenuine}
 use Rattle.setup.proofs.Laws.{setup-lawful, setup-spends, exactly-so}
 
--- ---- what an answer says
-pub tables-read : (o : Outcome Setup) {r : Tables} {m e : ℕ} → r ≡ asTables o → r ≡ tables.Read m e → (s : Setup) × (o ≡ got s e) × (s .parameters .matricesAt ≡ m)
-tables-read (got s d) a h = (s, cc, cc)
-tables-read (refused k d) a h = let z : _≡_ {A = ℕ} 0 1 = cc in absurd (omega arith)
-
-pub tables-refused : (o : Outcome Setup) {r : Tables} {k e : ℕ} → r ≡ asTables o → r ≡ tables.Refused k e → o ≡ refused k e
-tables-refused (got s d) a h = let z : _≡_ {A = ℕ} 0 1 = cc in absurd (omega arith)
-tables-refused (refused j d) a h = cc
-
 -- ---- a packet of any length is read as its readable part
-module _ (p : List ℕ) {r : Tables} (a : r ≡ asTables (setupHeader (readable p) 0)) where
+module _ (p : List ℕ) {r : Place} (a : r ≡ asPlace (setupHeader (readable p) 0)) where
   same : setupHeader (readable p) 0 ≡ setupHeader p 0
   same = readable-same setup-lawful setup-spends (omega arith) p
 
-  pub whole-read : {m e : ℕ} → r ≡ tables.Read m e → (s : Setup) × (setupHeader p 0 ≡ got s e)
-  whole-read q = let g = tables-read (setupHeader (readable p) 0) a q in (g .0, sym same ∙ g .1)
+  pub whole-read : {e : ℕ} → r ≡ place.At e → (s : Setup) × (setupHeader p 0 ≡ got s e)
+  whole-read q = let g = place-at (setupHeader (readable p) 0) a q in (g .0, sym same ∙ g .1)
 
-  pub whole-refused : {k e : ℕ} → r ≡ tables.Refused k e → setupHeader p 0 ≡ refused k e
-  whole-refused q = sym same ∙ tables-refused (setupHeader (readable p) 0) a q
+  pub whole-refused : {k e : ℕ} → r ≡ place.Refused k e → setupHeader p 0 ≡ refused k e
+  whole-refused q = sym same ∙ place-refused (setupHeader (readable p) 0) a q
 
 pub header-end : (p : List ℕ) {s : Setup} {e : ℕ} → setupHeader p 0 ≡ got s e → e ≤ bits p
 header-end p h = setup-lawful .moves p 0 _ _ (omega arith) h .1
@@ -75,15 +68,13 @@ module _ (t : List ℕ) where
   is-read h f = rw (eq-eqb _ _ h, f)
 
   -- ---- and what it holds
-  module _ (limits ac dc sizes indices nodes : List ℕ) where
-    pub held-not : false ≡ isTable t → (NotGenuine ≡ asTable (heldSetup t)) × Loaded (heldSetup t) limits ac dc sizes indices nodes
-    unfolding heldSetup
-    held-not h = rw (sym h) (refl, tt)
+  pub held-not : false ≡ isTable t → {r : SetupRead} → r ≡ asSetupRead (refused 8 0) → r ≡ asSetupRead (heldSetup t)
+  unfolding heldSetup
+  held-not h a = rw (sym h) a
 
-    pub held-is : true ≡ isTable t → {s : Setup} {m e : ℕ} → setupHeader t 0 ≡ got s e → s .parameters .matricesAt ≡ m → Loaded (setupHeader t 0) limits ac dc sizes indices nodes
-        → (Genuine m ≡ asTable (heldSetup t)) × Loaded (heldSetup t) limits ac dc sizes indices nodes
-    unfolding heldSetup
-    held-is h f y l = rw (sym h) (ap Genuine (sym y) ∙ sym (ap asTable f), l)
+  pub held-is : true ≡ isTable t → {r : SetupRead} → r ≡ asSetupRead (setupHeader t 0) → r ≡ asSetupRead (heldSetup t)
+  unfolding heldSetup
+  held-is h a = rw (sym h) a
 
 -- the test's answer, and what it says of packets
 pub both : (t : List ℕ) → Bytes t → (r : Bool) → r ≡ isTable t → (r ≡ isTable t) × Exactly r t

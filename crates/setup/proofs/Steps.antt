@@ -21,7 +21,7 @@ use Rattle.huffman.proofs.Nodes.{nodes-length}
 use Rattle.huffman.proofs.Trees.{read-proper}
 use Rattle.quantization.specs.Parameters.{Quantization, quantization}
 use Rattle.quantization.specs.Layout.{padded, laid}
-use Rattle.quantization.specs.Answer.{asPlace, Filled, asParameters}
+use Rattle.quantization.specs.Answer.{asPlace, Filled, asParameters, loadedParameters}
 use Rattle.quantization.specs.Answer as parameters
 use Rattle.quantization.specs.declared.Place.{Place}
 use Rattle.quantization.specs.declared.Place.the-variants.{At, Refused}
@@ -30,8 +30,8 @@ use Rattle.quantization.specs.declared.Parameters.the-variants as parameters-ar
 use Rattle.quantization.proofs.Loops.{times-start, times-got, times-refused, times-all}
 use Rattle.quantization.proofs.Layouts.{laid-length, put-more}
 use Rattle.setup.specs.Header.{Setup, loopLimits, setupHeader}
-use Rattle.setup.specs.Answer.{TreesFilled, asTables, Stored, Loaded}
-use Rattle.setup.specs.declared.Tables.the-variants as tables
+use Rattle.setup.specs.Answer.{TreesFilled}
+use Rattle.setup.specs.Loaded.{loadedSetup, asSetupRead}
 
 -- ---- the loop limits
 module _ (p : List ℕ) (i : ℕ) where
@@ -132,27 +132,21 @@ module _ (p : List ℕ) where
         unfolding setupHeader
         header-got m = rw (f, g, h, m)
 
--- what is answered and left
-pub load-refused : (o : Outcome Setup) (limits ac dc sizes indices nodes : List ℕ) {k e : ℕ} → o ≡ refused k e → (tables.Refused k e ≡ asTables o) × Loaded o limits ac dc sizes indices nodes
-load-refused o limits ac dc sizes indices nodes h = rw h (refl, tt)
-
-parameters-loaded : (o : Outcome Quantization) (ac dc sizes indices : List ℕ) {q : Quantization} {e : ℕ} → parameters.Loaded o ac dc sizes indices → o ≡ got q e → parameters.Stored q ac dc sizes indices
-parameters-loaded (got x d) ac dc sizes indices {q} f h = let z : x ≡ q = cc in rw (← z) f
-parameters-loaded (refused k d) ac dc sizes indices f h = no-mix (sym h)
+-- the parts that were read, in the struct
+parameters-loaded : (o : Outcome Quantization) (ac dc sizes indices : List ℕ) {q : Quantization} {m e : ℕ} → parameters.Loaded o ac dc sizes indices → o ≡ got q e → q .matricesAt ≡ m
+    → record { place = m; «ac_scale» = ac; «dc_scale» = dc; sizes = sizes; indices = indices } ≡ loadedParameters q
+parameters-loaded (got x d) ac dc sizes indices {q} f h y = let z : x ≡ q = cc in rw (← y, ← z) f
+parameters-loaded (refused k d) ac dc sizes indices f h y = no-mix (sym h)
 
 trees-filled : (o : Outcome (List Tree)) (nodes : List ℕ) {ts : List Tree} {e : ℕ} → TreesFilled o nodes → o ≡ got ts e → nodes ≡ laid nodesOf ts
 trees-filled (got x d) nodes {ts} f h = let z : x ≡ ts = cc in rw (← z) f
 trees-filled (refused k d) nodes f h = no-mix (sym h)
 
-pub load-stored : (o : Outcome Setup) (qo : Outcome Quantization) (to : Outcome (List Tree)) (limits ac dc sizes indices nodes : List ℕ) {l : List ℕ} {q : Quantization} {ts : List Tree} {m c e : ℕ}
+pub load-read : (o : Outcome Setup) (qo : Outcome Quantization) (to : Outcome (List Tree)) (limits ac dc sizes indices nodes : List ℕ) {l : List ℕ} {q : Quantization} {ts : List Tree} {m c e : ℕ}
     → o ≡ got (record { limits = l; parameters = q; trees = ts }) e → limits ≡ l → parameters.Loaded qo ac dc sizes indices → qo ≡ got q c → q .matricesAt ≡ m → TreesFilled to nodes → to ≡ got ts e
-    → (tables.Read m e ≡ asTables o) × Loaded o limits ac dc sizes indices nodes
-load-stored o qo to limits ac dc sizes indices nodes {l} {q} {ts} {m} {c} {e} h a b f y t g =
-    rw h (
-      ap (λ (x : ℕ). tables.Read x e) (sym y),
-      record {
-        limits-are = a;
-        parameters-are = parameters-loaded qo ac dc sizes indices b f;
-        nodes-are = trees-filled to nodes t g;
-      },
-    )
+    → record { place = At e; setup = record { limits = limits; parameters = record { place = m; «ac_scale» = ac; «dc_scale» = dc; sizes = sizes; indices = indices }; nodes = nodes } } ≡ asSetupRead o
+unfolding loadedSetup
+load-read o qo to limits ac dc sizes indices nodes {l} {q} {ts} {m} {c} {e} h a b f y t g =
+    let k = parameters-loaded qo ac dc sizes indices b f y in
+    let n = trees-filled to nodes t g in
+    rw h (λ i. record { place = At e; setup = record { limits = a i; parameters = k i; nodes = n i } })

@@ -1,3 +1,4 @@
 pub mod Header
 pub mod Answer
 pub mod Table
+pub mod Loaded

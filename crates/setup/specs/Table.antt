@@ -10,8 +10,6 @@ use Rattle.table_memory.specs.Genuine.{Leaves, genuine}
 use Rattle.setup.specs.Header.{Setup, setupHeader}
 use Rattle.setup.specs.declared.SetupAnswer.{SetupAnswer}
 use Rattle.setup.specs.declared.SetupAnswer.the-variants.{Accepted, Refused}
-use Rattle.setup.specs.declared.TableAnswer.{TableAnswer}
-use Rattle.setup.specs.declared.TableAnswer.the-variants.{Genuine, NotGenuine}
 
 -- the published length of table memory, in bytes: law `setup-spends` says that no setup header needs more
 abbrev pub tableBytes : ℕ
@@ -47,8 +45,3 @@ Exactly false t = ((p : List ℕ) × Leaves setupHeader tableBytes p t) → ⊥
 -- the setup that a table memory holds. "no accepted setup packet leaves this table memory" is number 8
 unfoldable pub heldSetup : List ℕ → Outcome Setup
 heldSetup t = choose (isTable t) (setupHeader t 0) (refused 8 0)
-
--- the place of the first base matrix in a table memory that is genuine; NotGenuine stands for number 8, the only one that `heldSetup` refuses by
-abbrev pub asTable : Outcome Setup → TableAnswer
-asTable (got s e) = Genuine (s .parameters .matricesAt)
-asTable (refused k e) = NotGenuine

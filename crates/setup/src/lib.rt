@@ -1,35 +1,38 @@
-// The setup header: read into lent slices, kept in table memory, and read from there.
+// The setup header: read into a struct, kept in table memory, and read from there.
 use bitstream::Field;
 use headers::Passed;
+use quantization::LoadedParameters;
 use quantization::Parameters;
 use quantization::Place;
 ghost use mathlib.Core.Path.{_≡_};
 ghost use mathlib.Core.List.{List};
 ghost use Prim.Native.Nat.{ℕ, _+_, _-_, _*_, _≤_, _<_, _^_};
 ghost use lib.ListN.{length, replicate};
-ghost use Rattle.bitstream.specs.Reading.{many};
+ghost use Rattle.bitstream.specs.Reading.{refused, many};
 ghost use Rattle.huffman.specs.Tree.{huffmanTree};
 ghost use Rattle.quantization.specs.Answer.{asPlace, Filled};
 ghost use Rattle.setup.specs.Header.{loopLimits, setupHeader};
-ghost use Rattle.setup.specs.Answer.{TreesFilled, Fresh, asTables, Loaded};
-ghost use Rattle.setup.specs.Table.{setupOutcome, asSetupAnswer, tableAfter, isTable, Exactly, heldSetup, asTable};
+ghost use Rattle.setup.specs.Answer.{TreesFilled};
+ghost use Rattle.setup.specs.Loaded.{emptySetup, asSetupRead};
+ghost use Rattle.setup.specs.Table.{setupOutcome, asSetupAnswer, tableAfter, isTable, Exactly, heldSetup};
 
-// The place of the first base matrix and the place behind the header, or the number of the refusal and the place of the field at fault.
-pub enum Tables {
-    Read(usize, usize),
-    Refused(u32, usize),
+// A setup that was read: the loop limits, the quantization parameters, and the nodes of the trees, 64 for each.
+pub struct LoadedSetup {
+    pub limits: [u16; 64],
+    pub parameters: LoadedParameters,
+    pub nodes: [u8; 5120],
+}
+
+// The place behind a header, and the setup that it says: all zero beside a refusal. (An enum may hold no array.)
+pub struct SetupRead {
+    pub place: Place,
+    pub setup: LoadedSetup,
 }
 
 // The answer of the setup call.
 pub enum SetupAnswer {
     Accepted,
     Refused(u32),
-}
-
-// Whether a table memory is what an accepted setup packet leaves, and the place of its first base matrix.
-pub enum TableAnswer {
-    Genuine(usize),
-    NotGenuine,
 }
 
 // The length of table memory, in bytes.
@@ -76,43 +79,95 @@ fn read_trees(packet: &[u8], at: usize, nodes: &mut [u8]) -> Place
     Place::At(place)
 }
 
-// The whole header of a packet, into slices for the loop limits, the AC and the DC scales, the sizes and the indices of the quant ranges, and the trees' nodes.
-// The base matrices stay in the packet.
-fn load(
-    packet: &[u8],
-    limits: &mut [u16],
-    ac: &mut [u16],
-    dc: &mut [u16],
-    sizes: &mut [u16],
-    indices: &mut [u16],
-    nodes: &mut [u8],
-) -> Tables
-    requires { ⌜ (length (now packet) ≤ 2 ^ 58) × Fresh (now limits) (now ac) (now dc) (now sizes) (now indices) (now nodes) ⌝ }
-    ensures { λ r. ⌜ r ≡ asTables (setupHeader (now (packet .entry)) 0) ⌝ }
-    ensures { λ r. ⌜ Loaded (setupHeader (now (packet .entry)) 0) (now (limits .exit)) (now (ac .exit)) (now (dc .exit)) (now (sizes .exit)) (now (indices .exit)) (now (nodes .exit)) ⌝ }
+// No setup.
+fn empty() -> LoadedSetup
+    ensures { λ r. ⌜ r ≡ emptySetup ⌝ }
+{
+    let scales = [0u16; 64];
+    let ranges = [0u16; 384];
+    let nodes = [0u8; 5120];
+    let parameters = LoadedParameters {
+        place: 0,
+        ac_scale: scales,
+        dc_scale: scales,
+        sizes: ranges,
+        indices: ranges,
+    };
+    LoadedSetup {
+        limits: scales,
+        parameters,
+        nodes,
+    }
+}
+
+// A header that is refused.
+fn not_read(number: u32, fault: usize) -> SetupRead
+    ensures { λ r. ⌜ r ≡ asSetupRead (refused number fault) ⌝ }
+{
+    let setup = empty();
+    SetupRead {
+        place: Place::Refused(number, fault),
+        setup,
+    }
+}
+
+// The whole header of a packet. The base matrices stay in the packet.
+fn load(packet: &[u8]) -> SetupRead
+    requires { ⌜ length (now packet) ≤ 2 ^ 58 ⌝ }
+    ensures { λ r. ⌜ r ≡ asSetupRead (setupHeader (now (packet .entry)) 0) ⌝ }
 {
     let head = headers::read_common_header(packet, 0, 0x82);
     let a = match head {
         Passed::Refused(number, fault) => {
-            return Tables::Refused(number, fault);
+            return not_read(number, fault);
         }
         Passed::To(place) => place,
     };
-    let first = read_limits(packet, a, limits);
+    let mut limits = [0u16; 64];
+    let first = read_limits(packet, a, &mut limits);
     let b = match first {
         Place::Refused(number, fault) => {
-            return Tables::Refused(number, fault);
+            return not_read(number, fault);
         }
         Place::At(place) => place,
     };
-    let second = quantization::read_parameters(packet, b, ac, dc, sizes, indices);
+    let mut ac_scale = [0u16; 64];
+    let mut dc_scale = [0u16; 64];
+    let mut sizes = [0u16; 384];
+    let mut indices = [0u16; 384];
+    let second = quantization::read_parameters(
+        packet,
+        b,
+        &mut ac_scale,
+        &mut dc_scale,
+        &mut sizes,
+        &mut indices,
+    );
     match second {
-        Parameters::Refused(number, fault) => Tables::Refused(number, fault),
-        Parameters::Read(matrices, c) => {
-            let third = read_trees(packet, c, nodes);
+        Parameters::Refused(number, fault) => not_read(number, fault),
+        Parameters::Read(place, c) => {
+            let mut nodes = [0u8; 5120];
+            let third = read_trees(packet, c, &mut nodes);
             match third {
-                Place::Refused(number, fault) => Tables::Refused(number, fault),
-                Place::At(end) => Tables::Read(matrices, end),
+                Place::Refused(number, fault) => not_read(number, fault),
+                Place::At(end) => {
+                    let parameters = LoadedParameters {
+                        place,
+                        ac_scale,
+                        dc_scale,
+                        sizes,
+                        indices,
+                    };
+                    let setup = LoadedSetup {
+                        limits,
+                        parameters,
+                        nodes,
+                    };
+                    SetupRead {
+                        place: Place::At(end),
+                        setup,
+                    }
+                }
             }
         }
     }
@@ -128,65 +183,42 @@ pub fn setup(packet: &[u8], table: &mut [u8]) -> SetupAnswer
     }
     let answer = scan(bitstream::readable(packet));
     match answer {
-        Tables::Refused(number, _) => {
+        Place::Refused(number, _) => {
             table_memory::clear(table);
             SetupAnswer::Refused(number)
         }
-        Tables::Read(_, end) => {
+        Place::At(end) => {
             table_memory::keep(packet, end, table);
             SetupAnswer::Accepted
         }
     }
 }
 
-// The header of a packet, read into slices of its own: what the packet says is not wanted any further.
-fn scan(packet: &[u8]) -> Tables
+// The header of a packet: what the packet says is not wanted any further.
+fn scan(packet: &[u8]) -> Place
     requires { ⌜ length (now packet) ≤ 2 ^ 58 ⌝ }
-    ensures { λ r. ⌜ r ≡ asTables (setupHeader (now (packet .entry)) 0) ⌝ }
+    ensures { λ r. ⌜ r ≡ asPlace (setupHeader (now (packet .entry)) 0) ⌝ }
 {
-    let mut limits = [0u16; 64];
-    let mut ac = [0u16; 64];
-    let mut dc = [0u16; 64];
-    let mut sizes = [0u16; 384];
-    let mut indices = [0u16; 384];
-    let mut nodes = [0u8; 5120];
-    load(
-        packet,
-        &mut limits,
-        &mut ac,
-        &mut dc,
-        &mut sizes,
-        &mut indices,
-        &mut nodes,
-    )
+    let read = load(packet);
+    read.place
 }
 
-// Loads a table memory, if it is what an accepted setup packet leaves.
-pub fn load_table(
-    table: &[u8],
-    limits: &mut [u16],
-    ac: &mut [u16],
-    dc: &mut [u16],
-    sizes: &mut [u16],
-    indices: &mut [u16],
-    nodes: &mut [u8],
-) -> TableAnswer
-    requires { ⌜ Fresh (now limits) (now ac) (now dc) (now sizes) (now indices) (now nodes) ⌝ }
-    ensures { λ r. ⌜ r ≡ asTable (heldSetup (now (table .entry))) ⌝ }
-    ensures { λ r. ⌜ Loaded (heldSetup (now (table .entry))) (now (limits .exit)) (now (ac .exit)) (now (dc .exit)) (now (sizes .exit)) (now (indices .exit)) (now (nodes .exit)) ⌝ }
+// The setup that a table memory holds, if it is what an accepted setup packet leaves.
+pub fn load_table(table: &[u8]) -> SetupRead
+    ensures { λ r. ⌜ r ≡ asSetupRead (heldSetup (now (table .entry))) ⌝ }
 {
     if table.len() != TABLE_BYTES {
-        return TableAnswer::NotGenuine;
+        return not_read(8, 0);
     }
-    let read = load(table, limits, ac, dc, sizes, indices, nodes);
-    match read {
-        Tables::Refused(_, _) => TableAnswer::NotGenuine,
-        Tables::Read(matrices, end) => {
+    let read = load(table);
+    let place = read.place;
+    match place {
+        Place::Refused(_, _) => not_read(8, 0),
+        Place::At(end) => {
             if table_memory::rest_is_zero(table, end) {
-                TableAnswer::Genuine(matrices)
-            } else {
-                TableAnswer::NotGenuine
+                return read;
             }
+            not_read(8, 0)
         }
     }
 }
@@ -200,7 +232,7 @@ pub fn table_is_genuine(table: &[u8]) -> bool
         return false;
     }
     match scan(table) {
-        Tables::Refused(_, _) => false,
-        Tables::Read(_, end) => table_memory::rest_is_zero(table, end),
+        Place::Refused(_, _) => false,
+        Place::At(end) => table_memory::rest_is_zero(table, end),
     }
 }

@@ -96,9 +96,6 @@ kept-unique p t e n l b front back =
 pub kept-self : (t : List ℕ) (e n : ℕ) → length t ≡ n → Bytes t → ((i : ℕ) → e ≤ i → i < n * 8 → bitAt t i ≡ 0) → t ≡ kept t e n
 kept-self t e n l b back = kept-unique t t e n l b (λ i h u. refl) back
 
-pub kept-kept : (p : List ℕ) (e n : ℕ) → kept (kept p e n) e n ≡ kept p e n
-kept-kept p e n = sym (kept-self (kept p e n) e n (kept-length p e n) (kept-bytes p e n) (kept-back p e n))
-
 -- ---- clear from a place on
 pub clear-bits : (t : List ℕ) (e : ℕ) → clearFrom t e ≡ true → (i : ℕ) → e ≤ i → i < bits t → bitAt t i ≡ 0
 unfolding clearFrom

@@ -1,5 +1,7 @@
 pub mod Lengths
 pub mod Calls
 pub mod Table
+pub mod LeftBySetup
 pub mod Demand
+pub mod Promised
 pub mod Examples

@@ -5,5 +5,6 @@
 -- 3. A list of calls: Demand, `Demand3Holds`.
 pub mod Lengths
 pub mod Call
+pub mod LeftBySetup
 pub mod Demand
 pub mod Table

@@ -1,13 +1,17 @@
 -- "Table to prove": each row by the project's definitions, and as the paper states it.
 use Prim.Native.Nat.{ℕ}
+use mathlib.Core.Bool.{false}
 use mathlib.Core.List.{List, [], _∷_, map}
 use lib.IntN.{ℤ, pos, negsuc, _+ℤ_}
 use Rattle.numeric.specs.Cut.{cut}
 use Rattle.numeric.specs.Divide.{roundOver}
 use Rattle.bitstream.specs.Reading.{Outcome, got, refused, Parse, pure, bind, field, _>>=_, _>>_}
 use Rattle.geometry.specs.declared.PixelFormat.{PixelFormat}
-use Rattle.geometry.specs.Sizes.{across, up, planeOf, blocksOf}
-use Rattle.geometry.specs.Order.{blockNumber}
+use Rattle.geometry.specs.Sizes.{planeOf, blocksOf}
+use Rattle.geometry.specs.Frame.{block}
+use Rattle.headers.specs.declared.Session.{Session}
+use Rattle.queries.specs.Found.{Found, is, absent, refused as refusedBy}
+use Rattle.queries.specs.Orders.{blockNumber}
 use Rattle.quantization.specs.Parameters.{matrixCount}
 use Rattle.matrices.specs.Matrix.{minimum, scaled}
 use Rattle.loop_filter.specs.Filter.{limitedOf}
@@ -25,9 +29,37 @@ threeThenFive = do
   b ← field 5
   pure (a ∷ b ∷ [])
 
--- the number of luma block (x, y) of a frame of w by h macro blocks
+-- a session whose frames have w by h macro blocks in 4:2:0
+abbrev pub framed : ℕ → ℕ → Session
+framed w h = record {
+  vrev = 0;
+  fmbw = w;
+  fmbh = h;
+  picw = 0;
+  pich = 0;
+  picx = 0;
+  picy = 0;
+  frn = 1;
+  frd = 1;
+  parn = 0;
+  pard = 0;
+  cs = 0;
+  nombr = 0;
+  qual = 0;
+  kfgshift = 0;
+  pf = 0;
+  references = false;
+}
+
+-- the number that a question finds; no number of a block is negative
+abbrev pub foundNumber : Found ℕ → ℤ
+foundNumber (is n) = pos n
+foundNumber absent = negsuc 0
+foundNumber (refusedBy k) = negsuc k
+
+-- the number of luma block (x, y) of a frame of w by h macro blocks, as `queries::block_number` answers it
 abbrev pub lumaNumber : ℕ → ℕ → ℕ → ℕ → ℤ
-lumaNumber w h x y = pos (blockNumber (across PixelFormat.Chroma420 w 0) (up PixelFormat.Chroma420 h 0) x y)
+lumaNumber w h x y = foundNumber (blockNumber (framed w h) (block 0 x y))
 
 -- 0 and the number that is read; or the number of the refusal
 abbrev pub judgement : Outcome ℕ → List ℤ
@@ -38,7 +70,7 @@ judgement (refused k e) = pos k ∷ []
 unfoldable pub worked : List (List ℤ)
 worked =
     readings (threeThenFive (0xB1 ∷ []) 0)
-    ∷ (pos (blockNumber 4 4 3 3) ∷ [])
+    ∷ (lumaNumber 2 2 3 3 ∷ [])
     ∷ (lumaNumber 15 3 0 4 ∷ lumaNumber 15 3 3 5 ∷ [])
     ∷ (pos (planeOf PixelFormat.Chroma420 4096 4097 0 .length) ∷ pos (blocksOf PixelFormat.Chroma420 4096 4097) ∷ [])
     ∷ (pos (blocksOf PixelFormat.Chroma444 65535 65535) ∷ [])

@@ -2,14 +2,14 @@
 use Prim.Native.Nat.{ℕ, _<_}
 use native.Mathlib.Omega.{arith}
 use mathlib.Core.Path.{_≡_, refl, sym, ap, ap₂, _∙_}
-use mathlib.Core.Bool.{Bool, true, false, _&&_}
+use mathlib.Core.Bool.{Bool, true, false}
 use mathlib.Core.List.{List, [], _∷_}
 use lib.Dec.{eqb}
 use lib.ListN.{length, getD, set}
 use lib.Seq.{getD-set-same, getD-set-other, set-getD}
 use borrow.Author.Tests.{eqb-true, eq-eqb, ne-eqb}
 use Rattle.bitstream.specs.Reading.{Outcome, got, refused, choose}
-use Rattle.headers.proofs.Fitting.{and-both}
+use Rattle.headers.specs.Fits.{sessionFits}
 use Rattle.headers.specs.declared.Session.{Session}
 use Rattle.setup.specs.declared.SetupAnswer.{SetupAnswer}
 use Rattle.setup.specs.Table.{tableBytes, setupOutcome, asSetupAnswer, tableAfter, isTable}
@@ -23,7 +23,7 @@ use Rattle.ways.specs.Ways.{firstWay}
 use Rattle.decoding.specs.declared.Verdict.{Verdict}
 use Rattle.decoding.specs.Answer.{Done, Asked, state, sessionAfter, answerFor}
 use Rattle.theora.specs.Call.{Call, said, byRules}
-use Rattle.theora_c.specs.Face.{Returned, gives, flag, numbersOf, sessionOf, onList, setupNumber, setupCall, tableCall, matrixReturned, matrixFound, matrixCall, headerNumbers, referenceNumber, sessionNumbers, Answered, answers, verdictReturned, frameGives, stateOf, frameCall}
+use Rattle.theora_c.specs.Face.{Returned, gives, flag, numbersOf, sessionOf, listsNumber, onList, setupNumber, setupCall, tableCall, matrixReturned, matrixFound, matrixCall, headerNumbers, referenceNumber, sessionNumbers, Answered, answers, verdictReturned, frameGives, stateOf, frameCall}
 
 -- the numbers of a session, with the last one found by `flag_number`
 pub with-flag : (s : Session) (n : ℕ) → n ≡ flag (s .references)
@@ -32,18 +32,45 @@ pub with-flag : (s : Session) (n : ℕ) → n ≡ flag (s .references)
 unfolding numbersOf
 with-flag s n e = rw e
 
-module _ (n : ℕ) (session old : List ℕ) where
-  pub lengths : (eqb (length session) 17 && eqb (length old) n) ≡ true → (length session ≡ 17) × (length old ≡ n)
-  lengths t = let k = and-both (eqb (length session) 17) (eqb (length old) n) t in (eqb-true _ _ (k .0), eqb-true _ _ (k .1))
+-- ---- by what the lists of a call on a session are refused
+module _ (n : ℕ) (session : List ℕ) (room : ℕ) where
+  pub lists-length : (length session ≡ 17 → ⊥) → 1 ≡ listsNumber n session room
+  unfolding listsNumber
+  lists-length h = rw (ne-eqb _ _ h)
 
-  -- a call that is made on the session s of the list, and one whose lists have other lengths
-  pub made : (call : Session → Returned) {s : Session} {x : Returned} → (eqb (length session) 17 && eqb (length old) n) ≡ true → s ≡ sessionOf session → x ≡ call s → x ≡ onList n session old call
-  unfolding onList
-  made call t e h = rw t (h ∙ ap call e)
+  module _ (h : length session ≡ 17) {s : Session} (e : s ≡ sessionOf session) where
+    pub lists-none : sessionFits s ≡ true → room ≡ n → 0 ≡ listsNumber n session room
+    unfolding listsNumber
+    lists-none f r = rw (eq-eqb _ _ h, ← e, f, eq-eqb _ _ r)
 
-  pub refused-1 : (call : Session → Returned) → (eqb (length session) 17 && eqb (length old) n) ≡ false → gives 1 old ≡ onList n session old call
+    pub lists-room : sessionFits s ≡ true → (room ≡ n → ⊥) → 1 ≡ listsNumber n session room
+    unfolding listsNumber
+    lists-room f r = rw (eq-eqb _ _ h, ← e, f, ne-eqb _ _ r)
+
+    pub lists-fields : sessionFits s ≡ false → 8 ≡ listsNumber n session room
+    unfolding listsNumber
+    lists-fields f = rw (eq-eqb _ _ h, ← e, f)
+
+  -- lists that are not refused have their lengths
+  pub lengths : listsNumber n session room ≡ 0 → (length session ≡ 17) × (room ≡ n)
+  unfolding listsNumber
+  lengths t = go (eqb (length session) 17) (sessionFits (sessionOf session)) (eqb room n) refl refl t
+    where
+      go : (a b c : Bool) → eqb (length session) 17 ≡ a → eqb room n ≡ c → _≡_ {A = ℕ} (choose a (choose b (choose c 0 1) 8) 1) 0 → (length session ≡ 17) × (room ≡ n)
+      go true true true h r z = (eqb-true _ _ h, eqb-true _ _ r)
+      go true true false h r z = absurd (omega arith)
+      go true false c h r z = absurd (omega arith)
+      go false b c h r z = absurd (omega arith)
+
+module _ (n : ℕ) (session old : List ℕ) {k : ℕ} (e : k ≡ listsNumber n session (length old)) where
+  -- a call that is made on the session s of the list, and one whose lists are refused
+  pub made : (call : Session → Returned) {s : Session} {x : Returned} → k ≡ 0 → s ≡ sessionOf session → x ≡ call s → x ≡ onList n session old call
   unfolding onList
-  refused-1 call t = rw t
+  made call z f h = rw (eq-eqb _ 0 (sym e ∙ z)) (h ∙ ap call f)
+
+  pub unmade : (call : Session → Returned) → (k ≡ 0 → ⊥) → gives k old ≡ onList n session old call
+  unfolding onList
+  unmade call z = rw (ne-eqb _ 0 (λ w. z (e ∙ w))) (ap (λ (m : ℕ). gives m old) e)
 
 -- the setup call, from what `setup` answers and leaves
 pub setup-returned : (packet old new : List ℕ) {a b : SetupAnswer} → (a ≡ asSetupAnswer (setupOutcome (length old) packet)) × (new ≡ tableAfter old packet) → a ≡ b → gives (setupNumber b) new ≡ setupCall packet old
@@ -85,18 +112,17 @@ module _ (session old : List ℕ) (h : Header) {v : Verdict} where
   pub frame-refused : {k : ℕ} → v ≡ Verdict.Refused k → answers k session old ≡ verdictReturned session old h v
   frame-refused e = rw e
 
--- a frame call that is made on the session s of the list, and one whose lists have other lengths
-module _ (session old golden previous : List ℕ) (c : Call) where
-  pub frame-made : (eqb (length session) 17 && eqb (length old) 5) ≡ true → {s : Session} {d : Done} {a : Answered} → s ≡ sessionOf session
+-- a frame call that is made on the session s of the list, and one whose lists are refused
+module _ (session old golden previous : List ℕ) (c : Call) {k : ℕ} (e : k ≡ listsNumber 5 session (length old)) where
+  pub frame-made : k ≡ 0 → {s : Session} {d : Done} {a : Answered} → s ≡ sessionOf session
       → d ≡ byRules firstWay (state s golden previous) c → a ≡ verdictReturned session old (d .answer .header) (d .answer .verdict)
       → frameGives a (d .new) (d .memory) ≡ frameCall session old golden previous c
   unfolding frameCall
-  frame-made t e h k = rw (t, k, h, e)
+  frame-made z f h g = rw (eq-eqb _ 0 (sym e ∙ z), g, h, f)
 
-  pub frame-unmade : (eqb (length session) 17 && eqb (length old) 5) ≡ false
-      → frameGives (answers 1 session old) (c .new) (c .memory) ≡ frameCall session old golden previous c
+  pub frame-unmade : (k ≡ 0 → ⊥) → frameGives (answers k session old) (c .new) (c .memory) ≡ frameCall session old golden previous c
   unfolding frameCall
-  frame-unmade t = rw t
+  frame-unmade z = rw (ne-eqb _ 0 (λ w. z (e ∙ w))) (ap (λ (m : ℕ). frameGives (answers m session old) (c .new) (c .memory)) e)
 
 -- the numbers of a session after a frame say the session that the rules hand on
 module _ (l : List ℕ) (h : length l ≡ 17) where
@@ -131,9 +157,3 @@ module _ (l : List ℕ) (h : length l ≡ 17) where
   answer-handed : (old : List ℕ) (o : Outcome Asked) → let a = answerFor (sessionOf l) o in sessionOf (verdictReturned l old (a .header) (a .verdict) .session) ≡ a .session
   answer-handed old (refused k e) = refl
   answer-handed old (got a e) = session-handed (a .frame .header .kind)
-
-  -- so the session that demand 3 speaks of is the one that the list says, from call to call
-  pub session-kept : (old golden previous : List ℕ) (c : Call) → length old ≡ 5
-      → sessionOf (frameCall l old golden previous c .answered .session) ≡ byRules firstWay (stateOf l golden previous) c .answer .session
-  unfolding frameCall byRules
-  session-kept old golden previous c k = rw (eq-eqb _ _ h, eq-eqb _ _ k) (answer-handed old (said (stateOf l golden previous) c))

@@ -1,6 +1,6 @@
 -- The face for C: sessions and answers as lists of numbers, and what each call returns and leaves.
 use Prim.Native.Nat.{ℕ}
-use mathlib.Core.Bool.{Bool, true, false, not, _&&_}
+use mathlib.Core.Bool.{Bool, true, false, not}
 use mathlib.Core.List.{List, [], _∷_}
 use lib.Dec.{eqb}
 use lib.ListN.{length, getD, set}
@@ -11,6 +11,7 @@ use Rattle.headers.specs.declared.Session.{Session}
 use Rattle.headers.specs.declared.IdentificationAnswer.{IdentificationAnswer}
 use Rattle.headers.specs.declared.SizesAnswer.{SizesAnswer}
 use Rattle.headers.specs.Identification.{identification, asIdentification}
+use Rattle.headers.specs.Fits.{sessionFits}
 use Rattle.headers.specs.Sizes.{sessionSizes}
 use Rattle.setup.specs.declared.SetupAnswer.{SetupAnswer}
 use Rattle.setup.specs.Table.{tableBytes, setupOutcome, asSetupAnswer, tableAfter, isTable}
@@ -108,7 +109,7 @@ numberReturned old (NumberAnswer.Is n) = gives 0 (n ∷ [])
 numberReturned old NumberAnswer.Absent = gives 255 old
 numberReturned old (NumberAnswer.Refused k) = gives k old
 
--- "a lent length differs from the published one" is 1, before all else
+-- "a lent length differs from the published one" is 1: in a call without a session before all else
 abbrev pub sized : Bool → List ℕ → Returned → Returned
 sized lengths old x = choose lengths x (gives 1 old)
 
@@ -116,9 +117,16 @@ sized lengths old x = choose lengths x (gives 1 old)
 unfoldable pub identificationCall : List ℕ → List ℕ → Returned
 identificationCall packet old = sized (eqb (length old) 17) old (sessionReturned old (asIdentification (identification packet 0)))
 
--- the calls on a session: its list has 17 numbers, the answer's n
+-- by what the lists of a call on a session are refused, 0 if by nothing. A session's list of another length than 17 is 1: there is no session to
+-- judge. Then "that" (the identification part of 8), "then 1": a list for the answer that has not the n numbers wanted
+unfoldable pub listsNumber : (n : ℕ) → (session : List ℕ) → (room : ℕ) → ℕ
+listsNumber n session room = choose (eqb (length session) 17) (choose (sessionFits (sessionOf session)) (choose (eqb room n) 0 1) 8) 1
+
+-- the calls on a session, whose answer has n numbers
 unfoldable pub onList : ℕ → List ℕ → List ℕ → (Session → Returned) → Returned
-onList n session old call = sized (eqb (length session) 17 && eqb (length old) n) old (call (sessionOf session))
+onList n session old call =
+    let k = listsNumber n session (length old) in
+    choose (eqb k 0) (call (sessionOf session)) (gives k old)
 
 -- the sizes of a session's frames
 abbrev pub sizesCall : List ℕ → List ℕ → Returned
@@ -244,9 +252,10 @@ stateOf session golden previous = state (sessionOf session) golden previous
 abbrev pub doneReturned : (session old : List ℕ) → Done → FrameReturned
 doneReturned session old d = frameGives (verdictReturned session old (d .answer .header) (d .answer .verdict)) (d .new) (d .memory)
 
--- a frame call: 1 for a session or an answer of another length, before all else; then the rules
+-- a frame call: the lists of the session and of the answer, then the rules
 unfoldable pub frameCall : (session old golden previous : List ℕ) → Call → FrameReturned
 frameCall session old golden previous c =
-    choose (eqb (length session) 17 && eqb (length old) 5)
+    let k = listsNumber 5 session (length old) in
+    choose (eqb k 0)
     (doneReturned session old (byRules firstWay (stateOf session golden previous) c))
-    (frameGives (answers 1 session old) (c .new) (c .memory))
+    (frameGives (answers k session old) (c .new) (c .memory))

@@ -15,7 +15,7 @@ use theora::WorkAnswer;
 ghost use mathlib.Core.Path.{_≡_};
 ghost use Prim.Native.Nat.{ℕ};
 ghost use lib.ListN.{length};
-ghost use Rattle.theora_c.specs.Face.{gives, flag, numbersOf, sessionOf, sessionReturned, sizesReturned, blockReturned, placeReturned, numberReturned, identificationCall, sizesCall, blockAtCall, blockNumberCall, macroBlockAtCall, macroBlockNumberCall, macroBlockOfCall, sampleOffsetCall, setupCall, tableCall, limitCall, matrixReturned, matrixCall, lengthsReturned, workLengthsCall, kindNumber, headerNumbers, referenceNumber, answers, verdictReturned, frameGives, frameCall};
+ghost use Rattle.theora_c.specs.Face.{gives, flag, numbersOf, sessionOf, listsNumber, sessionReturned, sizesReturned, blockReturned, placeReturned, numberReturned, identificationCall, sizesCall, blockAtCall, blockNumberCall, macroBlockAtCall, macroBlockNumberCall, macroBlockOfCall, sampleOffsetCall, setupCall, tableCall, limitCall, matrixReturned, matrixCall, lengthsReturned, workLengthsCall, kindNumber, headerNumbers, referenceNumber, answers, verdictReturned, frameGives, frameCall};
 ghost use Rattle.decoding.specs.Memory.{memory};
 ghost use Rattle.theora.specs.Call.{call};
 
@@ -51,6 +51,24 @@ fn session_of(list: &[u64]) -> Session
         pf: list[15],
         references: list[16] != 0,
     }
+}
+
+// By what the lists of a call on a session are refused, 0 if by nothing: 1 for a session's list of another length, 8 for its fields, then 1
+// for a list for the answer that has another length than the one wanted.
+fn lists_refusal(session: &[u64], room: usize, wanted: usize) -> u32
+    ensures { λ r. ⌜ r ≡ listsNumber wanted (now (session .entry)) room ⌝ }
+{
+    if session.len() != 17 {
+        return 1;
+    }
+    let s = session_of(session);
+    if headers::session_fits(s) {
+        if room == wanted {
+            return 0;
+        }
+        return 1;
+    }
+    8
 }
 
 // Stores the numbers of an accepted call, which returns 0.
@@ -293,10 +311,11 @@ pub extern "C" fn wedgepetal_identification(packet: &[u8], session: &mut [u64]) 
 pub extern "C" fn wedgepetal_sizes(session: &[u64], sizes: &mut [u64]) -> u32
     ensures { λ r. ⌜ gives r (now (sizes .exit)) ≡ sizesCall (now (session .entry)) (now (sizes .entry)) ⌝ }
 {
-    if (session.len() == 17) & (sizes.len() == 16) {
+    let k = lists_refusal(session, sizes.len(), 16);
+    if k == 0 {
         return return_sizes(theora::sizes(session_of(session)), sizes);
     }
-    1
+    k
 }
 
 // The block that is this number in coded order.
@@ -304,10 +323,11 @@ pub extern "C" fn wedgepetal_sizes(session: &[u64], sizes: &mut [u64]) -> u32
 pub extern "C" fn wedgepetal_block_at(session: &[u64], number: u64, block: &mut [u64]) -> u32
     ensures { λ r. ⌜ gives r (now (block .exit)) ≡ blockAtCall (now (session .entry)) number (now (block .entry)) ⌝ }
 {
-    if (session.len() == 17) & (block.len() == 3) {
+    let k = lists_refusal(session, block.len(), 3);
+    if k == 0 {
         return return_block(queries::block_at(session_of(session), number), block);
     }
-    1
+    k
 }
 
 // The number in coded order of block (x, y) of a plane.
@@ -321,13 +341,14 @@ pub extern "C" fn wedgepetal_block_number(
 ) -> u32
     ensures { λ r. ⌜ gives r (now (number .exit)) ≡ blockNumberCall (now (session .entry)) plane x y (now (number .entry)) ⌝ }
 {
-    if (session.len() == 17) & (number.len() == 1) {
+    let k = lists_refusal(session, number.len(), 1);
+    if k == 0 {
         return return_number(
             queries::block_number(session_of(session), plane, x, y),
             number,
         );
     }
-    1
+    k
 }
 
 // The macro block that is this number in coded order.
@@ -335,10 +356,11 @@ pub extern "C" fn wedgepetal_block_number(
 pub extern "C" fn wedgepetal_macro_block_at(session: &[u64], number: u64, place: &mut [u64]) -> u32
     ensures { λ r. ⌜ gives r (now (place .exit)) ≡ macroBlockAtCall (now (session .entry)) number (now (place .entry)) ⌝ }
 {
-    if (session.len() == 17) & (place.len() == 2) {
+    let k = lists_refusal(session, place.len(), 2);
+    if k == 0 {
         return return_place(queries::macro_block_at(session_of(session), number), place);
     }
-    1
+    k
 }
 
 // The number in coded order of macro block (x, y).
@@ -351,13 +373,14 @@ pub extern "C" fn wedgepetal_macro_block_number(
 ) -> u32
     ensures { λ r. ⌜ gives r (now (number .exit)) ≡ macroBlockNumberCall (now (session .entry)) x y (now (number .entry)) ⌝ }
 {
-    if (session.len() == 17) & (number.len() == 1) {
+    let k = lists_refusal(session, number.len(), 1);
+    if k == 0 {
         return return_number(
             queries::macro_block_number(session_of(session), x, y),
             number,
         );
     }
-    1
+    k
 }
 
 // The macro block that block (x, y) of a plane belongs to.
@@ -371,13 +394,14 @@ pub extern "C" fn wedgepetal_macro_block_of(
 ) -> u32
     ensures { λ r. ⌜ gives r (now (place .exit)) ≡ macroBlockOfCall (now (session .entry)) plane x y (now (place .entry)) ⌝ }
 {
-    if (session.len() == 17) & (place.len() == 2) {
+    let k = lists_refusal(session, place.len(), 2);
+    if k == 0 {
         return return_place(
             queries::macro_block_of(session_of(session), plane, x, y),
             place,
         );
     }
-    1
+    k
 }
 
 // Where in a plane buffer a sample of block (x, y) of a plane lies.
@@ -393,13 +417,14 @@ pub extern "C" fn wedgepetal_sample_offset(
 ) -> u32
     ensures { λ r. ⌜ gives r (now (offset .exit)) ≡ sampleOffsetCall (now (session .entry)) plane x y column row (now (offset .entry)) ⌝ }
 {
-    if (session.len() == 17) & (offset.len() == 1) {
+    let k = lists_refusal(session, offset.len(), 1);
+    if k == 0 {
         return return_number(
             queries::sample_offset(session_of(session), plane, x, y, column, row),
             offset,
         );
     }
-    1
+    k
 }
 
 // Reads a setup header into table memory.
@@ -462,10 +487,11 @@ pub extern "C" fn wedgepetal_matrix(
 pub extern "C" fn wedgepetal_work_lengths(session: &[u64], lengths: &mut [u64]) -> u32
     ensures { λ r. ⌜ gives r (now (lengths .exit)) ≡ workLengthsCall (now (session .entry)) (now (lengths .entry)) ⌝ }
 {
-    if (session.len() == 17) & (lengths.len() == 11) {
+    let k = lists_refusal(session, lengths.len(), 11);
+    if k == 0 {
         return return_lengths(theora::work_lengths(session_of(session)), lengths);
     }
-    1
+    k
 }
 
 // Decodes a frame packet into new.
@@ -493,7 +519,8 @@ pub extern "C" fn wedgepetal_frame(
         ≡ frameCall (now (session .entry)) (now (answer .entry)) (now (golden .entry)) (now (previous .entry))
         (call (now (packet .entry)) (now (table .entry)) (memory (now (records .entry)) (now (coded .entry)) (now (coefs .entry)) (now (dc .entry)) (now (lasts .entry)) (now (flags .entry)) (now (bits .entry)) (now (supers .entry)) (now (modes .entry)) (now (active .entry))) (now (new .entry))) ⌝ }
 {
-    if (session.len() == 17) & (answer.len() == 5) {
+    let k = lists_refusal(session, answer.len(), 5);
+    if k == 0 {
         let s = session_of(session);
         let done = theora::frame(
             s,
@@ -515,5 +542,5 @@ pub extern "C" fn wedgepetal_frame(
         );
         return return_frame(done, session, answer);
     }
-    1
+    k
 }

@@ -1,3 +1,4 @@
+-- What other crates cite: Laws. Rows and Facts have what the functions' proofs need, Examples worked examples. Assumes nothing.
 pub mod Rows
 pub mod Facts
 pub mod Laws

@@ -1,3 +1,4 @@
+-- What other crates cite: Laws, Tables, Fronts. The others have what the functions' proofs need, Examples worked examples. Assumes nothing.
 pub mod Ways
 pub mod Goes
 pub mod Unfinished

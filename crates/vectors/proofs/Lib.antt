@@ -1,3 +1,4 @@
+-- What other crates cite: Laws. LastRead: what FOUR keeps. Components, Motions and Records have what the functions' proofs need, Examples worked examples. Assumes nothing.
 pub mod Components
 pub mod Motions
 pub mod LastRead

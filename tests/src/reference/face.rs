@@ -1,7 +1,9 @@
 //! The calls of `include/wedgepetal.h`: what each answers for any lists.
 //!
-//! The lengths are judged first (number 1), then the session (number 8) or the
-//! packet, then whether the frame has what is asked for (number 255).
+//! The length of the session's list is judged first (number 1: there is no
+//! session to judge), then its fields (number 8), then the length of the list
+//! for the answer (number 1), then whether the frame has what is asked for
+//! (number 255). Without a session the length comes before the packet.
 
 use super::identification::identification;
 use super::members::{Block, macro_block_of};
@@ -130,11 +132,10 @@ impl Answer {
 /// What a call answers, given its session's list (if it takes one) and the
 /// length of the list that it is lent to write.
 pub fn answer(call: Call, session: &[u64], output_length: usize) -> Answer {
-    if output_length != call.output_length() {
-        return Answer::Refused(1);
-    }
+    let fits = output_length == call.output_length();
     if let Call::Identification { packet } = call {
         return match identification(packet) {
+            _ if !fits => Answer::Refused(1),
             Ok(fields) => Answer::accepted(&fields.session(0)),
             Err(fault) => Answer::Refused(fault.number),
         };
@@ -145,6 +146,9 @@ pub fn answer(call: Call, session: &[u64], output_length: usize) -> Answer {
     let fields = Fields::of_session(list);
     if !fields.sound() {
         return Answer::Refused(8);
+    }
+    if !fits {
+        return Answer::Refused(1);
     }
     answer_for(call, &fields).unwrap_or(Answer::Refused(255))
 }
@@ -222,10 +226,11 @@ mod tests {
     }
 
     #[test]
-    fn lengths_come_first() {
-        assert_eq!(answer(Call::Sizes, &[0; 17], 15), Answer::Refused(1));
+    fn the_session_comes_before_the_other_lengths() {
         assert_eq!(answer(Call::Sizes, &[0; 16], 16), Answer::Refused(1));
         assert_eq!(answer(Call::Sizes, &[0; 17], 16), Answer::Refused(8));
+        assert_eq!(answer(Call::Sizes, &[0; 17], 15), Answer::Refused(8));
+        assert_eq!(answer(Call::Sizes, &session(), 15), Answer::Refused(1));
         let call = Call::Identification { packet: &[] };
         assert_eq!(answer(call, &[], 16), Answer::Refused(1));
         assert_eq!(answer(call, &[], 17), Answer::Refused(4));

@@ -67,12 +67,20 @@ pub struct Left {
 }
 
 impl Lists<'_> {
-    /// The session that the list says, if its length and the answer's are right.
-    /// "references: 0 is no, any other number is yes"
-    pub fn session(&self) -> Option<Session> {
-        let list: &[u64; SESSION_NUMBERS] = self.session.try_into().ok()?;
-        (self.answer.len() == ANSWER_NUMBERS).then(|| Session {
-            fields: Fields::of_session(list),
+    /// The session that the list says; or by what the lists of session and
+    /// answer are refused: 1 for the session's length, 8 for its fields, then 1
+    /// for the answer's length. "references: 0 is no, any other number is yes"
+    pub fn session(&self) -> Result<Session, u32> {
+        let list: &[u64; SESSION_NUMBERS] = self.session.try_into().map_err(|_| 1u32)?;
+        let fields = Fields::of_session(list);
+        if !fields.sound() {
+            return Err(8);
+        }
+        if self.answer.len() != ANSWER_NUMBERS {
+            return Err(1);
+        }
+        Ok(Session {
+            fields,
             references: list[SESSION_NUMBERS - 1] != 0,
         })
     }
@@ -89,8 +97,9 @@ impl Lists<'_> {
 
     /// What the call returns and leaves, new being made in one of the ways.
     pub fn call(&self, way: Way) -> Left {
-        let Some(session) = self.session() else {
-            return self.refused(1, Work::Untouched);
+        let session = match self.session() {
+            Ok(session) => session,
+            Err(number) => return self.refused(number, Work::Untouched),
         };
         let mut new = self.new.to_vec();
         let outcome = frame_call(&session, self.packet, self.lent(), way, &mut new);

@@ -1,3 +1,4 @@
+-- `block_record::is_coded` meets its contract. Assumes nothing.
 use mathlib.Core.Path.{refl}
 use Rattle.block_record.specs.Packed.{unpacked}
 use Rattle.block_record.proofs.is_coded.Statement.{statement}

@@ -1,3 +1,4 @@
+-- `block_record::unpack` meets its contract. Assumes nothing.
 use borrow.Author.Needs.{needs}
 use Prim.Native.Nat.{_/_, _%_}
 use lib.Dec.{eqb}

@@ -1,3 +1,4 @@
+-- `block_record::with_qi_index` meets its contract. Assumes nothing.
 use borrow.Author.Needs.{needs}
 use mathlib.Core.Path.{sym, ap, _∙_, subst}
 use Rattle.block_record.specs.declared.BlockRecord.{BlockRecord}

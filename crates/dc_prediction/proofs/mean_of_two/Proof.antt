@@ -1,3 +1,4 @@
+-- `dc_prediction::mean_of_two` meets its contract. Assumes nothing.
 use lib.IntN.{_+ℤ_}
 use mir.Syntax.{w32}
 use Rattle.numeric.proofs.Known.{Known, k-wide, ask-wide, k-add, k-div, ask-add, ask-quot, ask-size}

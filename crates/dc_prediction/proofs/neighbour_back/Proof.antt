@@ -1,3 +1,4 @@
+-- `dc_prediction::neighbour_back` meets its contract. Assumes nothing.
 use mathlib.Core.Path.{sym, _∙_}
 use native.Mathlib.Omega.{arith}
 use Rattle.dc_prediction.specs.Neighbours.{neighbourBack}

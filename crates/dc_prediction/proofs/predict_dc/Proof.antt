@@ -1,3 +1,4 @@
+-- `dc_prediction::predict_dc` meets its contract. Assumes nothing.
 use borrow.Author.Needs.{needs}
 use mathlib.Core.Path.{ap, _∙_}
 use mathlib.Core.List.{map}

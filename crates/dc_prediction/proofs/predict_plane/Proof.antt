@@ -1,3 +1,4 @@
+-- `dc_prediction::predict_plane` meets its contract. The loop's invariant: the first y rows of the plane are predicted. Assumes nothing.
 use borrow.Author.Tests.{ltb-true}
 use mathlib.Core.Path.{_≡_, refl, sym, ap, _∙_}
 use mathlib.Core.List.{List, map}

@@ -1,3 +1,4 @@
+-- `dc_prediction::predict_row` meets its contract. The loop's invariant: the first x blocks of the row are predicted. Assumes nothing.
 use mathlib.Core.Path.{_≡_, refl, sym, ap, _∙_}
 use mathlib.Core.List.{map}
 use Prim.Native.Nat.{ℕ, _≤_, _-_}

@@ -1,3 +1,4 @@
+-- `dc_prediction::prediction` meets its contract. Assumes nothing.
 use borrow.Author.Needs.{needs}
 use borrow.Author.Tests.{ltb-true}
 use mathlib.Core.Path.{_∙_}

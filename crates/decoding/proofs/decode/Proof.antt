@@ -1,29 +1,10 @@
 -- `decoding::decode` meets its contract. Assumes nothing.
-use borrow.Author.Needs.{needs}
 use native.Mathlib.Omega.{arith}
-use Rattle.tables.proofs.Held.{held-8, genuine-setup, genuine-held}
-use Rattle.decoding.proofs.Held.{holds-setup}
+use Rattle.setup.proofs.Held.{held-8, genuine-setup, genuine-held, genuine-holds}
 use Rattle.decoding.proofs.Answers.{decoded-8, decoded-by}
+use borrow.Author.Needs.{needs}
 use Rattle.decoding.proofs.decode.Statement.{statement}
 use Rattle.decoding.proofs.decode.Tie as tie
-
-slice-aggregate-load-table : tie.Need-slice-aggregate-load-table
-slice-aggregate-load-table c = search needs
-
-slice-aggregate-load-table-2 : tie.Need-slice-aggregate-load-table-2
-slice-aggregate-load-table-2 c = search needs
-
-slice-aggregate-load-table-3 : tie.Need-slice-aggregate-load-table-3
-slice-aggregate-load-table-3 c = search needs
-
-slice-aggregate-load-table-4 : tie.Need-slice-aggregate-load-table-4
-slice-aggregate-load-table-4 c = search needs
-
-slice-aggregate-load-table-5 : tie.Need-slice-aggregate-load-table-5
-slice-aggregate-load-table-5 c = search needs
-
-slice-aggregate-load-table-6 : tie.Need-slice-aggregate-load-table-6
-slice-aggregate-load-table-6 c = search needs
 
 load-table-requires : tie.Need-load-table-requires
 load-table-requires c κs = search needs
@@ -34,42 +15,20 @@ enum-told c = search needs
 refusal-requires : tie.Need-refusal-requires
 refusal-requires c κs = search needs
 
-enum-known-held : tie.Need-enum-known-held
-enum-known-held c = search needs
-
-slice-aggregate-decode-packet : tie.Need-slice-aggregate-decode-packet
-slice-aggregate-decode-packet c = search needs
-
-slice-aggregate-decode-packet-2 : tie.Need-slice-aggregate-decode-packet-2
-slice-aggregate-decode-packet-2 c = search needs
-
-slice-aggregate-decode-packet-3 : tie.Need-slice-aggregate-decode-packet-3
-slice-aggregate-decode-packet-3 c = search needs
-
-slice-aggregate-decode-packet-4 : tie.Need-slice-aggregate-decode-packet-4
-slice-aggregate-decode-packet-4 c = search needs
-
-slice-aggregate-decode-packet-5 : tie.Need-slice-aggregate-decode-packet-5
-slice-aggregate-decode-packet-5 c = search needs
-
-slice-aggregate-decode-packet-6 : tie.Need-slice-aggregate-decode-packet-6
-slice-aggregate-decode-packet-6 c = search needs
+enum-told-2 : tie.Need-enum-told-2
+enum-told-2 c = search needs
 
 decode-packet-requires : tie.Need-decode-packet-requires
 decode-packet-requires c κs =
-    let z = c .before .before .before .before .before .before .before .before .before .before .before .before .before .before .before .before .before .before .before .before .before .before .before .before .before .before .before .before .before .before .before .before .before .before .before .before .before .before .before .before .before .before .before .before .before .before in
+    let z = c .before .before .before .before .before .before .before .before .before .before .before .before .before .before .before .before .before .before .before .before .before .before .before .before .before .before .before in
     let t = z .args .table .now in
-    let r = c .before .before .before .before .before .before .before .before .before .before .before .before .before .before .before .before .before .before .before .before .before .before .before .before .before .before .load-table in
-    let g = c .before .before .before .before .before .before .before .before .before .before .before .before .before .before .before .before .before .before .held .given .1 in (
-      (z .pre .0, z .pre .1, omega (arith, z .pre .2), (genuine-setup t (r .ensures .0) g, holds-setup t (r .ensures .0) g _ _ _ _ _ _ (r .ensures .1))),
-      (z .pre .3, z .pre .4, z .pre .5, z .pre .6),
-    )
+    ((z .pre .0, z .pre .1, omega (arith, z .pre .2), (_, genuine-holds t (c .before .before .before .before .before .before .before .before .before .before .before .before .before .load-table .ensures) (c .before .before .before .before .before .before .before .before .before .before .before .enum-told2 .given .1))), (z .pre .3, z .pre .4, z .pre .5, z .pre .6))
 
 returns : tie.Need-returns
 returns c =
-    let z = c .before .before .before .before .before .before .before .before .before .before .before .before .before .before .before .before .before .before .before .before .before .before .before .before .before .before .before .before .before in
+    let z = c .before .before .before .before .before .before .before .before .before .before .before .before .before .before .before .before .before in
     let a = z .args in
-    decoded-8 (a .s) (a .golden .now) (a .previous .now) (a .packet .now) (a .table .now) (a .new .now) (held-8 (a .table .now) (c .before .before .before .before .before .before .before .before .before .load-table .ensures .0) (c .before .enum-told .given .1)) (c .refusal .result) (c .refusal .ensures) _ (z .pre .3)
+    decoded-8 (a .s) (a .golden .now) (a .previous .now) (a .packet .now) (a .table .now) (a .new .now) (held-8 (a .table .now) (c .before .before .before .load-table .ensures) (c .before .enum-told .given .1)) (c .refusal .result) (c .refusal .ensures) _ (z .pre .3)
 
 same-length : tie.Need-same-length
 same-length c = search needs
@@ -106,34 +65,20 @@ same-length-11 c = search needs
 
 returns-2 : tie.Need-returns-2
 returns-2 c =
-    let z = c .before .before .before .before .before .before .before .before .before .before .before .before .before .before .before .before .before .before .before .before .before .before .before .before .before .before .before .before .before .before .before .before .before .before .before .before .before .before .before .before .before .before .before .before .before .before .before .before .before .before .before .before .before .before .before .before .before .before .before .before .before .before .before .before .before .before .before in
-    let a = z .args in
+    let a = c .before .before .before .before .before .before .before .before .before .before .before .before .before .before .before .before .before .before .before .before .before .before .before .before .before .before .before .before .before .before .before .before .before .before .before .before .before .before .before .before .before .before .before .before .before .before .before .before .args in
     let t = a .table .now in
-    let r = c .before .before .before .before .before .before .before .before .before .before .before .before .before .before .before .before .before .before .before .before .before .before .before .before .before .before .before .before .before .before .before .before .before .before .before .before .before .before .before .before .before .before .before .before .before .before .before .load-table in
-    let g = c .before .before .before .before .before .before .before .before .before .before .before .before .before .before .before .before .before .before .before .before .before .before .before .before .before .before .before .before .before .before .before .before .before .before .before .before .before .before .before .held .given .1 in
-    decoded-by (a .s) (a .golden .now) (a .previous .now) (a .packet .now) t (a .new .now) (genuine-held t (r .ensures .0) g) _
-    (c .before .before .before .before .before .before .before .before .before .before .before .before .before .before .before .before .before .before .before .before .decode-packet .ensures (genuine-setup t (r .ensures .0) g) (holds-setup t (r .ensures .0) g _ _ _ _ _ _ (r .ensures .1)))
+    let r = c .before .before .before .before .before .before .before .before .before .before .before .before .before .before .before .before .before .before .before .before .before .before .before .before .before .before .before .before .before .before .before .before .before .before .load-table in
+    let g = c .before .before .before .before .before .before .before .before .before .before .before .before .before .before .before .before .before .before .before .before .before .before .before .before .before .before .before .before .before .before .before .before .enum-told2 .given .1 in
+    decoded-by (a .s) (a .golden .now) (a .previous .now) (a .packet .now) t (a .new .now) (genuine-held t (r .ensures) g) _ (c .before .before .before .before .before .before .before .before .before .before .before .before .before .before .before .before .before .before .before .before .decode-packet .ensures (genuine-setup t (r .ensures) g) (genuine-holds t (r .ensures) g))
 
 pub decode-spec : {M : Type 1} → statement M
 decode-spec =
     tie.close
     (tie.spec
-    slice-aggregate-load-table
-    slice-aggregate-load-table-2
-    slice-aggregate-load-table-3
-    slice-aggregate-load-table-4
-    slice-aggregate-load-table-5
-    slice-aggregate-load-table-6
     load-table-requires
     enum-told
     refusal-requires
-    enum-known-held
-    slice-aggregate-decode-packet
-    slice-aggregate-decode-packet-2
-    slice-aggregate-decode-packet-3
-    slice-aggregate-decode-packet-4
-    slice-aggregate-decode-packet-5
-    slice-aggregate-decode-packet-6
+    enum-told-2
     decode-packet-requires
     returns
     same-length

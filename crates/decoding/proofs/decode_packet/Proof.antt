@@ -1,5 +1,4 @@
 -- `decoding::decode_packet` meets its contract. Assumes nothing.
-use borrow.Author.Needs.{needs}
 use Prim.Native.Nat.{_*_}
 use lib.IntN.{pos}
 use lib.ListN.{replicate}
@@ -9,8 +8,9 @@ use Rattle.geometry.specs.declared.PixelFormat.{PixelFormat}
 use Rattle.headers.proofs.Fitting.{fits-macro-blocks}
 use Rattle.frame_packet.specs.Work.{clear}
 use Rattle.decoding.specs.Memory.{Memory, blocks}
-use Rattle.decoding.proofs.Held.{tables-held}
+use Rattle.decoding.proofs.Held.{tables-held, trees-held}
 use Rattle.decoding.proofs.Decoded.{on-refused, lent, header-few, on-accepted}
+use borrow.Author.Needs.{needs}
 use Rattle.decoding.proofs.decode_packet.Statement.{statement}
 use Rattle.decoding.proofs.decode_packet.Tie as tie
 
@@ -19,15 +19,14 @@ pixel-format-requires c κs = search needs
 
 read-frame-requires : tie.Need-read-frame-requires
 read-frame-requires c κs =
-    let z = c .before .before .before .before .before .before .before .before .before .before .before .before .before .before .before .before .before .before .before .before .before .before .before .before .before .before .before .before .before in
+    let z = c .before .before .before .before .before .before .before .before .before .before .before .before .before .before .before .before .before .before .before .before .before .before .before .before .before .before in
     let a = z .args in
-    let k = fits-macro-blocks (a .s) (z .pre .0 .0) in
-    let h = z .pre .0 .3 in (
+    let k = fits-macro-blocks (a .s) (z .pre .0 .0) in (
       z .pre .0 .1,
       k .1,
       k .3,
-      tables-held (h .0 .trees) (a .nodes .now) (h .1 .trees),
-      ap (λ (m : Memory). m .work) (z .pre .1 .0) ∙ ap (λ (f : PixelFormat). clear f (a .s .fmbw) (a .s .fmbh)) (sym (c .before .before .before .before .before .before .before .before .before .pixel-format .ensures)),
+      tables-held (a .table .now) (a .t4) (z .pre .0 .3 .1),
+      ap (λ (m : Memory). m .work) (z .pre .1 .0) ∙ ap (λ (f : PixelFormat). clear f (a .s .fmbw) (a .s .fmbh)) (sym (c .before .before .before .before .before .before .before .before .before .before .before .before .pixel-format .ensures)),
     )
 
 enum-known-read : tie.Need-enum-known-read
@@ -41,18 +40,18 @@ enum-known-read-2 c = search needs
 
 make-requires : tie.Need-make-requires
 make-requires c κs =
-    let z = c .before .before .before .before .before .before .before .before .before .before .before .before .before .before .before .before .before .before .before .before .before .before .before .before .before .before .before .before .before .before .before .before .before .before .before .before .before .before .before .before .before .before .before .before .before .before .before .before .before .before .before .before .before .before .before .before .before in
+    let z = c .before .before .before .before .before .before .before .before .before .before .before .before .before .before .before .before .before .before .before .before .before .before .before .before .before .before .before .before .before .before .before .before .before .before .before .before .before .before .before .before .before .before .before .before .before .before .before .before .before .before .before .before .before .before in
     let a = z .args in
     let r = c .before .before .before .before .before .before .before .before .before .before .before .before .before .before .before .before .before .before .before .before .before .before .before .before .before .before .before .read-frame in
     let setup = z .pre .0 .3 .0 in
-    let h = z .pre .0 .3 .1 in
-    let ef = c .before .before .before .before .before .before .before .before .before .before .before .before .before .before .before .before .before .before .before .before .before .before .before .before .before .before .before .before .before .before .before .before .before .before .before .before .before .pixel-format .ensures in
+    let t = trees-held (a .table .now) (a .t4) (z .pre .0 .3 .1) in
+    let ef = c .before .before .before .before .before .before .before .before .before .before .before .before .before .before .before .before .before .before .before .before .before .before .before .before .before .before .before .before .before .before .before .before .before .before .before .before .before .before .before .before .pixel-format .ensures in
     let k = fits-macro-blocks (a .s) (z .pre .0 .0) in
-    let q = header-few (a .s) setup (a .packet .now) (a .nodes .now) (h .trees) ef (r .ensures .0) (r .ensures .1) (c .before .before .before .before .before .before .before .before .read2 .given .1) in
-    let b = lent (a .s) setup (a .packet .now) (a .nodes .now) (h .trees) ef (r .ensures .0) (r .ensures .1) (c .before .before .before .before .before .before .before .before .read2 .given .1) in
+    let q = header-few (a .s) setup (a .packet .now) (a .t4 .nodes) t ef (r .ensures .0) (r .ensures .1) (c .before .before .before .before .before .before .before .before .read2 .given .1) in
+    let b = lent (a .s) setup (a .packet .now) (a .t4 .nodes) t ef (r .ensures .0) (r .ensures .1) (c .before .before .before .before .before .before .before .before .read2 .given .1) in
     let m = z .pre .1 in
-    let n : 64 * blocks (a .s) ≡ 64 * blocksOf (c .before .before .before .before .before .before .before .before .before .before .before .before .before .before .before .before .before .before .before .before .before .before .before .before .before .before .before .before .before .before .before .before .before .before .before .before .before .pixel-format .result) (a .s .fmbw) (a .s .fmbh) = ap (λ (f : PixelFormat). 64 * blocksOf f (a .s .fmbw) (a .s .fmbh)) (sym ef) in (
-      (z .pre .0 .2, (setup .parameters, h .parameters), h .limits-few, q .1, q .0, k .1, k .3),
+    let n : 64 * blocks (a .s) ≡ 64 * blocksOf (c .before .before .before .before .before .before .before .before .before .before .before .before .before .before .before .before .before .before .before .before .before .before .before .before .before .before .before .before .before .before .before .before .before .before .before .before .before .before .before .before .pixel-format .result) (a .s .fmbw) (a .s .fmbh) = ap (λ (f : PixelFormat). 64 * blocksOf f (a .s .fmbw) (a .s .fmbh)) (sym ef) in (
+      (z .pre .0 .2, z .pre .0 .3, q .1, q .0, k .1, k .3),
       (b, ap (λ (m : Memory). m .dc) (m .0) ∙ ap (λ (f : PixelFormat). replicate (blocksOf f (a .s .fmbw) (a .s .fmbh)) (pos 0)) (sym ef), m .1 ∙ n, m .2 ∙ n, m .3 ∙ n),
     )
 
@@ -88,10 +87,10 @@ same-length-9 c = search needs
 
 returns : tie.Need-returns
 returns c = λ setup h.
-    let z = c .before .before .before .before .before .before .before .before .before .before .before .before .before .before .before .before .before .before .before .before .before .before .before .before .before .before .before .before .before .before .before .before .before .before .before .before .before .before .before .before .before .before .before .before .before .before .before .before .before .before .before in
+    let z = c .before .before .before .before .before .before .before .before .before .before .before .before .before .before .before .before .before .before .before .before .before .before .before .before .before .before .before .before .before .before .before .before .before .before .before .before .before .before .before .before .before .before .before .before .before .before .before .before in
     let a = z .args in
     let r = c .before .before .before .before .before .before .before .before .before .before .before .before .before .before .before .before .before .before .before .before .before .read-frame in
-    on-refused (a .s) setup (a .packet .now) (a .nodes .now) (h .trees) (c .before .before .before .before .before .before .before .before .before .before .before .before .before .before .before .before .before .before .before .before .before .before .before .before .before .before .before .before .before .before .before .pixel-format .ensures) (r .ensures .0) (r .ensures .1) (a .golden .now) (a .previous .now) (a .new .now)
+    on-refused (a .s) setup (a .packet .now) (a .t4 .nodes) (trees-held (a .table .now) (a .t4) h) (c .before .before .before .before .before .before .before .before .before .before .before .before .before .before .before .before .before .before .before .before .before .before .before .before .before .before .before .before .before .before .before .before .before .before .pixel-format .ensures) (r .ensures .0) (r .ensures .1) (a .golden .now) (a .previous .now) (a .new .now)
     (c .before .before .read .given .1) (c .refusal .result) (c .refusal .ensures) (a .dc .now) (ap (λ (m : Memory). m .dc) (z .pre .1 .0))
 
 same-length-10 : tie.Need-same-length-10
@@ -129,12 +128,12 @@ same-length-20 c = search needs
 
 returns-2 : tie.Need-returns-2
 returns-2 c = λ setup h.
-    let z = c .before .before .before .before .before .before .before .before .before .before .before .before .before .before .before .before .before .before .before .before .before .before .before .before .before .before .before .before .before .before .before .before .before .before .before .before .before .before .before .before .before .before .before .before .before .before .before .before .before .before .before .before .before .before .before .before .before .before .before .before .before .before .before .before .before .before .before .before .before in
+    let z = c .before .before .before .before .before .before .before .before .before .before .before .before .before .before .before .before .before .before .before .before .before .before .before .before .before .before .before .before .before .before .before .before .before .before .before .before .before .before .before .before .before .before .before .before .before .before .before .before .before .before .before .before .before .before .before .before .before .before .before .before .before .before .before .before .before .before in
     let a = z .args in
     let r = c .before .before .before .before .before .before .before .before .before .before .before .before .before .before .before .before .before .before .before .before .before .before .before .before .before .before .before .before .before .before .before .before .before .before .before .before .before .before .before .read-frame in
     let k = c .before .before .before .before .before .before .before .before .before .before .before .make in
-    on-accepted (a .s) setup (a .packet .now) (a .nodes .now) (h .trees) (c .before .before .before .before .before .before .before .before .before .before .before .before .before .before .before .before .before .before .before .before .before .before .before .before .before .before .before .before .before .before .before .before .before .before .before .before .before .before .before .before .before .before .before .before .before .before .before .before .before .pixel-format .ensures) (r .ensures .0) (r .ensures .1) (c .before .before .before .before .before .before .before .before .before .before .before .before .before .before .before .before .before .before .before .before .read2 .given .1)
-    (a .limits .now) (h .limits-are) (a .golden .now) (a .previous .now) _ (k .ensures .0 (setup .parameters) (h .parameters)) _ _ _ _ (a .dc .now) _ (ap (λ (m : Memory). m .dc) (z .pre .1 .0)) (k .ensures .1)
+    on-accepted (a .s) setup (a .packet .now) (a .t4 .nodes) (trees-held (a .table .now) (a .t4) h) (c .before .before .before .before .before .before .before .before .before .before .before .before .before .before .before .before .before .before .before .before .before .before .before .before .before .before .before .before .before .before .before .before .before .before .before .before .before .before .before .before .before .before .before .before .before .before .before .before .before .before .before .before .pixel-format .ensures) (r .ensures .0) (r .ensures .1) (c .before .before .before .before .before .before .before .before .before .before .before .before .before .before .before .before .before .before .before .before .read2 .given .1)
+    (a .golden .now) (a .previous .now) _ (k .ensures .0 setup h) _ _ _ _ (a .dc .now) _ (ap (λ (m : Memory). m .dc) (z .pre .1 .0)) (k .ensures .1)
     (a .new .now) (c .session-after .result) (c .session-after .ensures)
 
 pub decode-packet-spec : {M : Type 1} → statement M

@@ -5,16 +5,16 @@ use mathlib.Core.Path.{_≡_, _∙_}
 use lib.ListN.{length}
 use borrow.Author.Count.{below-none}
 use borrow.Rule.Slice.PartMut.{mid-len}
-use borrow.Author.Needs.{needs}
 use Rattle.decoding.proofs.Matrices.{placeOf, LoadedTo, loaded-more, loaded-all}
+use borrow.Author.Needs.{needs}
 use Rattle.decoding.proofs.load_matrices.Statement.{statement}
 use Rattle.decoding.proofs.load_matrices.Tie as tie
 
 abbrev Inv-loop : tie.InvT-loop
-Inv-loop table place ac-scale dc-scale sizes indices count matrices₀ qis j₀ matrices j = (j ≤ 6 * count) × (length matrices ≡ 1152) × LoadedTo table place ac-scale dc-scale sizes indices qis j matrices
+Inv-loop table parameters count matrices₀ qis j₀ matrices j = (j ≤ 6 * count) × (length matrices ≡ 1152) × LoadedTo table parameters qis j matrices
 
 abbrev μ-loop : tie.MeasureT-loop
-μ-loop table place ac-scale dc-scale sizes indices count matrices₀ qis j₀ matrices j = 6 * count - j
+μ-loop table parameters count matrices₀ qis j₀ matrices j = 6 * count - j
 
 loop-holds : tie.Need-loop-holds Inv-loop μ-loop
 loop-holds c = (search needs, search needs, λ q h. below-none _)
@@ -54,7 +54,7 @@ part-matrix-end c = search needs
 
 matrix-requires : tie.Need-matrix-requires Inv-loop μ-loop
 matrix-requires c κs =
-    let a = c .before .before .before .before .before .before .before .before .before in
+    let a = c .before .before .before .before .before in
     let l = c .before .before .loop in
     let at = placeOf (l .j) in
     let e : at + 64 - at ≡ 64 = omega arith in
@@ -69,15 +69,15 @@ loop-less c = search needs
 
 loop-again : tie.Need-loop-again Inv-loop μ-loop
 loop-again c =
-    let a = c .before .before .before .before .before .before .before .before .before .before .before .before in
+    let a = c .before .before .before .before .before .before .before .before in
     let l = c .before .before .before .before .before .loop in
     let r = c .before .before .matrix in
     let at = placeOf (l .j) in
     let few : l .j < 18 = omega (arith, c .before .before .before .before .loop-test .taken, a .pre .3) in
     let e : at + 64 - at ≡ 64 = omega arith in (
-      search needs,
+      omega (arith, c .before .before .before .before .loop-test .taken),
       c .before .matrices .given .1 ∙ l .inv .1,
-      loaded-more _ _ _ _ _ _ (a .args .t7) (l .j) (at + 64 - at) (l .matrices) (r .last .1 .1 .1 .1 .1 .1 .1 .1 .1 .0) few e (l .inv .1) (c .before .matrices .given .0 ∙ mid-len at (at + 64) (l .matrices) (omega (arith, l .inv .1)) ∙ e) (l .inv .2) (r .ensures),
+      loaded-more (a .args .table .now) (a .args .parameters) (a .args .t3) (l .j) (at + 64 - at) (l .matrices) (r .last .1 .1 .1 .1 .1 .0) few e (l .inv .1) (c .before .matrices .given .0 ∙ mid-len at (at + 64) (l .matrices) (omega (arith, l .inv .1)) ∙ e) (l .inv .2) (r .ensures),
     )
 
 same-length : tie.Need-same-length Inv-loop μ-loop
@@ -85,9 +85,9 @@ same-length c = search needs
 
 returns : tie.Need-returns Inv-loop μ-loop
 returns c =
-    let a = c .before .before .before .before .before .before .before .before in
+    let a = c .before .before .before .before in
     let l = c .before .loop in
-    loaded-all _ _ _ _ _ _ (a .args .t7) (a .args .count) (l .j) (l .matrices) (c .loop-test .left) (l .inv .2)
+    loaded-all (a .args .table .now) (a .args .parameters) (a .args .t3) (a .args .count) (l .j) (l .matrices) (c .loop-test .left) (l .inv .2)
 
 pub load-matrices-spec : {M : Type 1} → statement M
 load-matrices-spec =

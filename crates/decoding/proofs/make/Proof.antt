@@ -1,8 +1,9 @@
 -- `decoding::make` meets its contract. Assumes nothing.
 use native.Mathlib.Omega.{arith}
 use lib.ListN.{getD}
+use Rattle.setup.proofs.Held.{held-few, held-parameters}
+use Rattle.decoding.proofs.Made.{frame-is}
 use borrow.Author.Needs.{needs}
-use Rattle.decoding.proofs.Made.{frame-is, limit-at}
 use Rattle.decoding.proofs.make.Statement.{statement}
 use Rattle.decoding.proofs.make.Tie as tie
 
@@ -13,31 +14,33 @@ slice-aggregate-load-matrices : tie.Need-slice-aggregate-load-matrices
 slice-aggregate-load-matrices c = search needs
 
 load-matrices-requires : tie.Need-load-matrices-requires
-load-matrices-requires c κs = let z = c .before .before .before .before .before .before .before .before .before .before .before .before .before .before .before in (z .pre .0 .0, z .pre .0 .1, (λ i l. z .pre .0 .3 i (omega (arith, z .pre .0 .4))), z .pre .0 .4, search needs)
+load-matrices-requires c κs = let z = c .before .before .before .before .before .before .before .before .before .before .before in (z .pre .0 .0, (_, held-parameters (z .args .table .now) (z .args .t2) (z .pre .0 .1 .1)), (λ i l. z .pre .0 .2 i (omega (arith, z .pre .0 .3))), z .pre .0 .3, search needs)
 
 array-read-first : tie.Need-array-read-first
 array-read-first c = search needs
 
 cast-first : tie.Need-cast-first
-cast-first c = omega (arith, c .before .before .before .before .before .before .before .before .before .before .before .before .before .before .before .before .before .pre .0 .3 0 (omega arith))
+cast-first c = omega (arith, c .before .before .before .before .before .before .before .before .before .before .before .before .before .pre .0 .2 0 (omega arith))
 
-loop-limit-requires : tie.Need-loop-limit-requires
-loop-limit-requires c κs = let z = c .before .before .before .before .before .before .before .before .before .before .before .before .before .before .before .before .before in (z .pre .0 .2 .0, z .pre .0 .3 0 (omega arith))
+mul-limit : tie.Need-mul-limit
+mul-limit c = omega (arith, c .before .before .before .before .before .before .before .before .before .before .before .before .before .pre .0 .2 0 (omega arith))
+
+element-copy-out-limit : tie.Need-element-copy-out-limit
+element-copy-out-limit c = omega (arith, c .before .before .before .before .before .before .before .before .before .before .before .before .before .pre .0 .2 0 (omega arith))
 
 cast-limit : tie.Need-cast-limit
-cast-limit c = search needs
+cast-limit c = let z = c .before .before .before .before .before .before .before .before .before .before .before .before .before .before in omega (arith, held-few (z .args .table .now) (z .args .t2) (z .pre .0 .1 .1) (getD (z .args .header .qis) 0 0) (z .pre .0 .2 0 (omega arith)))
 
 slice-aggregate-make-frame : tie.Need-slice-aggregate-make-frame
 slice-aggregate-make-frame c = search needs
 
 make-frame-requires : tie.Need-make-frame-requires
 make-frame-requires c κs =
-    let z = c .before .before .before .before .before .before .before .before .before .before .before .before .before .before .before .before .before .before .before .before .before .before .before .before .before in
+    let z = c .before .before .before .before .before .before .before .before .before .before .before .before .before .before .before .before .before .before .before .before .before in
     let k = z .pre .1 in
     let m = z .pre .0 in
     let a = z .args in
-    let e = limit-at (m .1 .0) (a .limits .now) (getD (a .header .qis) 0 0) (c .before .before .before .before .before .before .before .loop-limit .result) (c .before .before .before .before .before .before .before .loop-limit .ensures) in
-    (m .5, m .6, k .0 .lent (c .before .before .before .before .before .before .before .before .before .load-matrices .last .1 .1 .1 .1 .1 .1 .1 .1 .0) (c .before .before .before .before .before .before .before .before .matrices2 .given), k .0 .behind, k .1, omega (arith, e, m .2 .1 (getD (a .header .qis) 0 0) (m .3 0 (omega arith))), k .2, k .3, k .4)
+    (m .4, m .5, k .0 .lent (c .before .before .before .before .before .before .before .before .before .load-matrices .last .1 .1 .1 .1 .0) (c .before .before .before .before .before .before .before .before .matrices2 .given), k .0 .behind, k .1, omega (arith, held-few (a .table .now) (a .t2) (m .1 .1) (getD (a .header .qis) 0 0) (m .2 0 (omega arith))), k .2, k .3, k .4)
 
 same-length : tie.Need-same-length
 same-length c = search needs
@@ -59,14 +62,12 @@ same-length-6 c = search needs
 
 returns : tie.Need-returns
 returns c =
-    let z = c .before .before .before .before .before .before .before .before .before .before .before .before .before .before .before .before .before .before .before .before .before .before .before .before .before .before .before .before .before .before .before .before .before .before .before .before in
+    let z = c .before .before .before .before .before .before .before .before .before .before .before .before .before .before .before .before .before .before .before .before .before .before .before .before .before .before .before .before .before .before .before .before in
     let a = z .args in
     let m = c .before .before .before .before .before .before .before .before .before .before .make-frame in
-    let l = c .before .before .before .before .before .before .before .before .before .before .before .before .before .before .before .before .before .before .before .before .load-matrices in
-    let e = limit-at (z .pre .0 .1 .0) (a .limits .now) (getD (a .header .qis) 0 0) (c .before .before .before .before .before .before .before .before .before .before .before .before .before .before .before .before .before .before .loop-limit .result) (c .before .before .before .before .before .before .before .before .before .before .before .before .before .before .before .before .before .before .loop-limit .ensures) in (
+    let l = c .before .before .before .before .before .before .before .before .before .before .before .before .before .before .before .before .before .before .before .before .load-matrices in (
       frame-is (a .format) (a .w) (a .h) (a .records .now) (a .coded .now) (a .count) (a .coefs .now) (a .lasts .now) (a .header .count) (z .pre .1 .0)
-          (a .table .now) (a .place) (a .ac-scale .now) (a .dc-scale .now) (a .sizes .now) (a .indices .now) (a .header .qis) (a .limits .now)
-          (l .last .1 .1 .1 .1 .1 .1 .1 .1 .0) (c .before .before .before .before .before .before .before .before .before .before .before .before .before .before .before .before .before .before .loop-limit .result) (a .golden .now) (a .previous .now) (m .last .0) (l .ensures) e (m .ensures .0),
+          (a .table .now) (a .t2) (a .header .qis) (l .last .1 .1 .1 .1 .0) (a .golden .now) (a .previous .now) (m .last .0) (l .ensures) (m .ensures .0),
       m .ensures .1,
     )
 
@@ -79,7 +80,8 @@ make-spec =
     load-matrices-requires
     array-read-first
     cast-first
-    loop-limit-requires
+    mul-limit
+    element-copy-out-limit
     cast-limit
     slice-aggregate-make-frame
     make-frame-requires

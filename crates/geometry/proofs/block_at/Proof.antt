@@ -1,3 +1,4 @@
+-- `geometry::block_at` meets its contract. Assumes nothing.
 use Rattle.geometry.proofs.SizeLaws.{plane-of-small}
 use Rattle.geometry.proofs.FrameLaws.{at-fits, at-by}
 use Prim.Native.Nat.{_-_, _*_, _/_, _≤_, _<_}

@@ -1,3 +1,4 @@
+-- `geometry::block_number` meets its contract. Assumes nothing.
 use Rattle.geometry.proofs.SizeLaws.{plane-of-small, sizes-small}
 use Rattle.geometry.proofs.FrameLaws.{number-fits, number-by}
 use mathlib.Core.Path.{_≡_}

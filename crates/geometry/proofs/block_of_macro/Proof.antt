@@ -1,3 +1,4 @@
+-- `geometry::block_of_macro` meets its contract. Assumes nothing.
 use Rattle.geometry.proofs.MacroLaws.{luma-at, chroma-420, chroma-422, chroma-444}
 use mathlib.Core.Path.{_∙_}
 use borrow.Author.Needs.{needs}

@@ -1,3 +1,4 @@
+-- `geometry::chroma_across` meets its contract. Assumes nothing.
 use mathlib.Core.Path.{sym, ap}
 use native.Mathlib.Omega.{arith}
 use Rattle.geometry.specs.declared.PixelFormat.{PixelFormat}

@@ -1,3 +1,4 @@
+-- `geometry::macro_block_at` meets its contract. Assumes nothing.
 use native.Mathlib.Omega.{arith}
 use Rattle.geometry.proofs.Products.{plane-small}
 use Rattle.geometry.proofs.LumaMacros.{macro-at-by}

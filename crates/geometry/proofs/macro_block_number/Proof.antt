@@ -1,3 +1,4 @@
+-- `geometry::macro_block_number` meets its contract. Assumes nothing.
 use Rattle.geometry.proofs.LumaMacros.{macro-number-by}
 use borrow.Author.Needs.{needs}
 use Rattle.geometry.proofs.macro_block_number.Statement.{statement}

@@ -1,3 +1,4 @@
+-- `geometry::macro_of_block` meets its contract. Assumes nothing.
 use mathlib.Core.Path.{sym, ap, _∙_}
 use Rattle.geometry.specs.declared.PixelFormat.{PixelFormat}
 use Rattle.geometry.specs.Macro.{macroOf, macroOfChroma}

@@ -1,3 +1,4 @@
+-- `geometry::one_of_four` meets its contract. Assumes nothing.
 use Rattle.geometry.proofs.MacroLaws.{four-at}
 use borrow.Author.Needs.{needs}
 use Rattle.geometry.proofs.one_of_four.Statement.{statement}

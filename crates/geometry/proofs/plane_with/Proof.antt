@@ -1,3 +1,4 @@
+-- `geometry::plane_with` meets its contract. Assumes nothing.
 use mathlib.Core.Path.{_≡_, ap}
 use Prim.Native.Nat.{_*_}
 use native.Mathlib.Omega.{arith}

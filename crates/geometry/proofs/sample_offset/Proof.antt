@@ -1,3 +1,4 @@
+-- `geometry::sample_offset` meets its contract. Assumes nothing.
 use Prim.Native.Nat.{_+_, _*_, _≤_, _<_}
 use native.Mathlib.Omega.{arith}
 use mathlib.Core.Path.{_≡_}

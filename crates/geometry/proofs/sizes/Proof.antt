@@ -1,3 +1,4 @@
+-- `geometry::sizes` meets its contract. Assumes nothing.
 use native.Mathlib.Omega.{arith}
 use Rattle.geometry.proofs.SizeLaws.{PlaneSmall, plane-of-small, sizes-small, sizes-by}
 use borrow.Author.Needs.{needs}

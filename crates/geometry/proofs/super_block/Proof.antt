@@ -1,3 +1,4 @@
+-- `geometry::super_block` meets its contract. Assumes nothing.
 use mathlib.Core.Path.{_≡_}
 use Prim.Native.Nat.{_+_, _/_, _≤_}
 use lib.ListN.{length}

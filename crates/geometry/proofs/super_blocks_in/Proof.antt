@@ -1,3 +1,4 @@
+-- `geometry::super_blocks_in` meets its contract. Assumes nothing.
 use mathlib.Core.Path.{refl}
 use Rattle.geometry.proofs.SizeLaws.{super-blocks-small}
 use borrow.Author.Needs.{needs}

@@ -25,22 +25,22 @@ abbrev μ-loop : tie.MeasureT-loop
 μ-loop packet first second range kind qi dc ac out₀ c₀ out c = 64 - c
 
 value-at-requires : tie.Need-value-at-requires Inv-loop μ-loop
-value-at-requires c κs = let a = c .before .before .pre in (a .0, a .1, a .2, a .3, a .4, omega arith)
+value-at-requires c κs = let a = c .before .before .pre in (a .0, a .1, a .2, a .3, omega arith)
 
 slice-write-out : tie.Need-slice-write-out Inv-loop μ-loop
-slice-write-out c = omega (arith, c .before .before .before .pre .6)
+slice-write-out c = omega (arith, c .before .before .before .pre .4)
 
 loop-holds : tie.Need-loop-holds Inv-loop μ-loop
 loop-holds c =
     let a = c .before .before .before .args in (
       omega arith,
       omega arith,
-      simp length-set (c .before .before .before .pre .6),
-      λ j h. let z : j ≡ 0 = omega arith in rw z (getD-set-same (a .out .now) 0 (c .value-at .result) 0 (omega (arith, c .before .before .before .pre .6)) ∙ c .value-at .ensures ∙ value-dc (a .kind) (a .dc) (a .ac) (a .range) (a .qi) 0 _ _ refl),
+      simp length-set (c .before .before .before .pre .4),
+      λ j h. let z : j ≡ 0 = omega arith in rw z (getD-set-same (a .out .now) 0 (c .value-at .result) 0 (omega (arith, c .before .before .before .pre .4)) ∙ c .value-at .ensures ∙ value-dc (a .kind) (a .dc) (a .ac) (a .range) (a .qi) 0 _ _ refl),
     )
 
 value-at-requires-2 : tie.Need-value-at-requires-2 Inv-loop μ-loop
-value-at-requires-2 c κs = let a = c .before .before .before .before .before .pre in (a .0, a .1, a .2, a .3, a .5, c .loop-test .taken)
+value-at-requires-2 c κs = let a = c .before .before .before .before .before .pre in (a .0, a .1, a .2, a .3, c .loop-test .taken)
 
 mul-out : tie.Need-mul-out Inv-loop μ-loop
 mul-out c = omega (arith, c .before .loop-test .taken)
@@ -69,7 +69,7 @@ loop-again c =
     )
 
 same-length : tie.Need-same-length Inv-loop μ-loop
-same-length c = c .before .loop .inv .2 ∙ sym (c .before .before .before .before .before .pre .6)
+same-length c = c .before .loop .inv .2 ∙ sym (c .before .before .before .before .before .pre .4)
 
 returns : tie.Need-returns Inv-loop μ-loop
 returns c =

@@ -2,10 +2,10 @@
 use Prim.Native.Nat.{ℕ, _+_, _-_, _*_, _≤_, _<_}
 use native.Mathlib.Omega.{arith}
 use mathlib.Core.Path.{_≡_, refl, ap, _∙_}
-use lib.ListN.{length, getD}
+use lib.ListN.{getD}
 use Rattle.bitstream.specs.Bits.{bits}
 use Rattle.matrices.specs.Matrix.{InRange}
-use Rattle.matrices.proofs.Matrices.{sizes-long, indices-long, scales-long, enough, in-range, number-few, base-room, matrix-is}
+use Rattle.matrices.proofs.Matrices.{sizes-long, enough, in-range, number-few, base-room, matrix-is}
 use borrow.Author.Needs.{needs}
 use Rattle.matrices.proofs.matrix.Statement.{statement}
 use Rattle.matrices.proofs.matrix.Tie as tie
@@ -21,117 +21,109 @@ mul-start-2 c = search needs
 
 range-of-requires : tie.Need-range-of-requires
 range-of-requires c κs =
-    let a = c .before .before .before .before .before .before .args in
-    let g = c .before .before .before .before .before .before .pre in
+    let a = c .before .before .before .before .before .args in
+    let g = c .before .before .before .before .before .pre in
+    let l = a .t2 in
     let q = g .1 .0 in (
-      omega (arith, sizes-long q (a .packet .now) (a .place) (a .ac .now) (a .dc .now) (a .sizes .now) (a .indices .now) (g .1 .1) (a .kind) (a .plane) (a .qi) (g .2) (g .3) (g .4)),
-      enough q (a .packet .now) (a .place) (a .ac .now) (a .dc .now) (a .sizes .now) (a .indices .now) (g .1 .1) (a .kind) (a .plane) (a .qi) (g .2) (g .3) (g .4),
+      omega (arith, sizes-long (a .packet .now) l q (g .1 .1) (a .kind) (a .plane) (a .qi) (g .2) (g .3) (g .4)),
+      enough (a .packet .now) l q (g .1 .1) (a .kind) (a .plane) (a .qi) (g .2) (g .3) (g .4),
       omega arith,
     )
 
 -- what is known of the range and of the base matrices at its ends
 facts : (c : tie.After-range-of)
-    → let a = c .before .before .before .before .before .before .before .args in
+    → let a = c .before .before .before .before .before .before .args in
     let k = (3 * a .kind + a .plane) * 64 in
     let r = c .range-of .result in
-    let i = a .indices .now in
-    (r .number < 63) × (length i ≡ 384) × (length (a .ac .now) ≡ 64) × (length (a .dc .now) ≡ 64) × InRange r (a .qi)
-    × (a .place + getD i (k + r .number) 0 * 512 + 512 ≤ bits (a .packet .now)) × (a .place + getD i (k + r .number + 1) 0 * 512 + 512 ≤ bits (a .packet .now))
+    let i = a .t2 .indices in
+    (r .number < 63) × InRange r (a .qi) × (a .t2 .place + getD i (k + r .number) 0 * 512 + 512 ≤ bits (a .packet .now)) × (a .t2 .place + getD i (k + r .number + 1) 0 * 512 + 512 ≤ bits (a .packet .now))
 facts c =
-    let a = c .before .before .before .before .before .before .before .args in
-    let g = c .before .before .before .before .before .before .before .pre in
+    let a = c .before .before .before .before .before .before .args in
+    let g = c .before .before .before .before .before .before .pre in
+    let l = a .t2 in
     let q = g .1 .0 in
     let h = g .1 .1 in
     let k = (3 * a .kind + a .plane) * 64 in
     let r = c .range-of .result in
-    let e : k + r .number + 1 ≡ k + (r .number + 1) = omega arith in
-    let s = scales-long q (a .packet .now) (a .place) (a .ac .now) (a .dc .now) (a .sizes .now) (a .indices .now) h (a .kind) (a .plane) (a .qi) (g .2) (g .3) (g .4) in (
-      number-few q (a .packet .now) (a .place) (a .ac .now) (a .dc .now) (a .sizes .now) (a .indices .now) h (a .kind) (a .plane) (a .qi) (g .2) (g .3) (g .4) r (c .range-of .ensures),
-      indices-long q (a .packet .now) (a .place) (a .ac .now) (a .dc .now) (a .sizes .now) (a .indices .now) h (a .kind) (a .plane) (a .qi) (g .2) (g .3) (g .4),
-      s .0,
-      s .1,
-      in-range q (a .packet .now) (a .place) (a .ac .now) (a .dc .now) (a .sizes .now) (a .indices .now) h (a .kind) (a .plane) (a .qi) (g .2) (g .3) (g .4) r (c .range-of .ensures),
-      base-room q (a .packet .now) (a .place) (a .ac .now) (a .dc .now) (a .sizes .now) (a .indices .now) h (a .kind) (a .plane) (a .qi) (g .2) (g .3) (g .4) r (c .range-of .ensures) (r .number) (omega arith) (getD (a .indices .now) (k + r .number) 0) refl,
-      base-room q (a .packet .now) (a .place) (a .ac .now) (a .dc .now) (a .sizes .now) (a .indices .now) h (a .kind) (a .plane) (a .qi) (g .2) (g .3) (g .4) r (c .range-of .ensures) (r .number + 1) (omega arith) (getD (a .indices .now) (k + r .number + 1) 0) (ap (λ (x : ℕ). getD (a .indices .now) x 0) e),
+    let e : k + r .number + 1 ≡ k + (r .number + 1) = omega arith in (
+      number-few (a .packet .now) l q h (a .kind) (a .plane) (a .qi) (g .2) (g .3) (g .4) r (c .range-of .ensures),
+      in-range (a .packet .now) l q h (a .kind) (a .plane) (a .qi) (g .2) (g .3) (g .4) r (c .range-of .ensures),
+      base-room (a .packet .now) l q h (a .kind) (a .plane) (a .qi) (g .2) (g .3) (g .4) r (c .range-of .ensures) (r .number) (omega arith) (getD (l .indices) (k + r .number) 0) refl,
+      base-room (a .packet .now) l q h (a .kind) (a .plane) (a .qi) (g .2) (g .3) (g .4) r (c .range-of .ensures) (r .number + 1) (omega arith) (getD (l .indices) (k + r .number + 1) 0) (ap (λ (x : ℕ). getD (l .indices) x 0) e),
     )
 
 add-one : tie.Need-add-one
-add-one c = let f = facts c in omega (arith, f .0)
+add-one c = omega (arith, facts c .0)
 
 mul-one : tie.Need-mul-one
-mul-one c = let f = facts c in omega (arith, f .0, f .1, c .before .before .before .before .before .before .before .pre .2, c .before .before .before .before .before .before .before .pre .3)
+mul-one c = omega (arith, facts c .0, c .before .before .before .before .before .before .pre .2, c .before .before .before .before .before .before .pre .3)
 
-shared-slice-read-one : tie.Need-shared-slice-read-one
-shared-slice-read-one c = let f = facts (c .before) in omega (arith, f .0, f .1, c .before .before .before .before .before .before .before .before .pre .2, c .before .before .before .before .before .before .before .before .pre .3)
+element-copy-out-one : tie.Need-element-copy-out-one
+element-copy-out-one c = omega (arith, facts c .0, c .before .before .before .before .before .before .pre .2, c .before .before .before .before .before .before .pre .3)
 
 cast-one : tie.Need-cast-one
-cast-one c = let a = c .before .before .before .before .before .before .before .before .args in omega (arith, c .shared-slice-known6 .given ((3 * a .kind + a .plane) * 64 + c .before .range-of .result .number))
+cast-one c = search needs
 
 add-two : tie.Need-add-two
-add-two c = let f = facts (c .before) in omega (arith, f .0, c .before .before .before .before .before .before .before .before .pre .2, c .before .before .before .before .before .before .before .before .pre .3)
+add-two c = omega (arith, facts (c .before) .0, c .before .before .before .before .before .before .before .pre .2, c .before .before .before .before .before .before .before .pre .3)
 
 add-two-2 : tie.Need-add-two-2
-add-two-2 c = let f = facts (c .before) in omega (arith, f .0, c .before .before .before .before .before .before .before .before .pre .2, c .before .before .before .before .before .before .before .before .pre .3)
+add-two-2 c = omega (arith, facts (c .before) .0, c .before .before .before .before .before .before .before .pre .2, c .before .before .before .before .before .before .before .pre .3)
 
 mul-two : tie.Need-mul-two
-mul-two c = let f = facts (c .before) in omega (arith, f .0, c .before .before .before .before .before .before .before .before .pre .2, c .before .before .before .before .before .before .before .before .pre .3)
+mul-two c = omega (arith, facts (c .before) .0, c .before .before .before .before .before .before .before .pre .2, c .before .before .before .before .before .before .before .pre .3)
 
-shared-slice-read-two : tie.Need-shared-slice-read-two
-shared-slice-read-two c = let f = facts (c .before .before) in omega (arith, f .0, f .1, c .before .before .before .before .before .before .before .before .before .pre .2, c .before .before .before .before .before .before .before .before .before .pre .3)
+element-copy-out-two : tie.Need-element-copy-out-two
+element-copy-out-two c = omega (arith, facts (c .before) .0, c .before .before .before .before .before .before .before .pre .2, c .before .before .before .before .before .before .before .pre .3)
 
 cast-two : tie.Need-cast-two
-cast-two c = let a = c .before .before .before .before .before .before .before .before .before .args in omega (arith, c .shared-slice-known7 .given ((3 * a .kind + a .plane) * 64 + c .before .before .range-of .result .number + 1))
+cast-two c = search needs
 
 mul-first : tie.Need-mul-first
-mul-first c = let f = facts (c .before .before) in omega (arith, f .5, c .before .before .before .before .before .before .before .before .before .pre .0)
+mul-first c = omega (arith, facts (c .before .before) .2, c .before .before .before .before .before .before .before .before .pre .0)
 
 add-first : tie.Need-add-first
-add-first c = let f = facts (c .before .before) in omega (arith, f .5, c .before .before .before .before .before .before .before .before .before .pre .0)
+add-first c = omega (arith, facts (c .before .before) .2, c .before .before .before .before .before .before .before .before .pre .0)
 
 mul-second : tie.Need-mul-second
-mul-second c = let f = facts (c .before .before) in omega (arith, f .6, c .before .before .before .before .before .before .before .before .before .pre .0)
+mul-second c = omega (arith, facts (c .before .before) .3, c .before .before .before .before .before .before .before .before .pre .0)
 
 add-second : tie.Need-add-second
-add-second c = let f = facts (c .before .before) in omega (arith, f .6, c .before .before .before .before .before .before .before .before .before .pre .0)
+add-second c = omega (arith, facts (c .before .before) .3, c .before .before .before .before .before .before .before .before .pre .0)
 
-mul-fill-matrix : tie.Need-mul-fill-matrix
-mul-fill-matrix c = search needs
+mul-dc : tie.Need-mul-dc
+mul-dc c = search needs
 
-shared-slice-read-fill-matrix : tie.Need-shared-slice-read-fill-matrix
-shared-slice-read-fill-matrix c = let f = facts (c .before .before .before) in omega (arith, f .3, c .before .before .before .before .before .before .before .before .before .before .pre .4)
+element-copy-out-dc : tie.Need-element-copy-out-dc
+element-copy-out-dc c = search needs
 
-cast-fill-matrix : tie.Need-cast-fill-matrix
-cast-fill-matrix c = omega (arith, c .shared-slice-known8 .given (c .before .before .before .before .before .before .before .before .before .before .args .qi))
+mul-ac : tie.Need-mul-ac
+mul-ac c = search needs
 
-mul-fill-matrix-2 : tie.Need-mul-fill-matrix-2
-mul-fill-matrix-2 c = search needs
-
-shared-slice-read-fill-matrix-2 : tie.Need-shared-slice-read-fill-matrix-2
-shared-slice-read-fill-matrix-2 c = let f = facts (c .before .before .before .before) in omega (arith, f .2, c .before .before .before .before .before .before .before .before .before .before .before .pre .4)
-
-cast-fill-matrix-2 : tie.Need-cast-fill-matrix-2
-cast-fill-matrix-2 c = omega (arith, c .shared-slice-known9 .given (c .before .before .before .before .before .before .before .before .before .before .before .args .qi))
+element-copy-out-ac : tie.Need-element-copy-out-ac
+element-copy-out-ac c = search needs
 
 fill-matrix-requires : tie.Need-fill-matrix-requires
 fill-matrix-requires c κs =
     let f = facts (c .before .before .before .before .before) in
-    let a = c .before .before .before .before .before .before .before .before .before .before .before .before .args in
-    (c .before .before .before .before .before .before .before .before .before .before .before .before .pre .0, f .5, f .6, f .4, c .before .before .shared-slice-known8 .given (a .qi) .fits, c .before .shared-slice-known9 .given (a .qi) .fits, c .before .before .before .before .before .before .before .before .before .before .before .before .pre .5)
+    let g = c .before .before .before .before .before .before .before .before .before .before .before .pre in
+    (g .0, f .2, f .3, f .1, g .5)
 
 same-length : tie.Need-same-length
-same-length c = c .before .before .fill-matrix .kept .1 .1 .1 .1 .1 .1 .1 .1 .0
+same-length c = search needs
 
 returns : tie.Need-returns
 returns c =
     λ q h.
-    let a = c .before .before .before .before .before .before .before .before .before .before .before .before .before .before .before .args in
-    let g = c .before .before .before .before .before .before .before .before .before .before .before .before .before .before .before .pre in
+    let a = c .before .before .before .before .before .before .before .before .before .before .before .before .before .before .args in
+    let g = c .before .before .before .before .before .before .before .before .before .before .before .before .before .before .pre in
+    let l = a .t2 in
     let k = (3 * a .kind + a .plane) * 64 in
-    let r = c .before .before .before .before .before .before .before .before .range-of .result in
-    let e : k + r .number + 1 ≡ k + (r .number + 1) = omega arith in
+    let r = c .before .before .before .before .before .before .before .before .range-of in
+    let e : k + r .result .number + 1 ≡ k + (r .result .number + 1) = omega arith in
     c .before .before .fill-matrix .ensures
-    ∙ matrix-is q (a .packet .now) (a .place) (a .ac .now) (a .dc .now) (a .sizes .now) (a .indices .now) h (a .kind) (a .plane) (a .qi) (g .2) (g .3) (g .4) r (c .before .before .before .before .before .before .before .before .range-of .ensures)
-    (getD (a .indices .now) (k + r .number) 0) (getD (a .indices .now) (k + r .number + 1) 0) refl (ap (λ (x : ℕ). getD (a .indices .now) x 0) e) (getD (a .dc .now) (a .qi) 0) (getD (a .ac .now) (a .qi) 0) refl refl
+    ∙ matrix-is (a .packet .now) l q h (a .kind) (a .plane) (a .qi) (g .2) (g .3) (g .4) (r .result) (r .ensures)
+    (getD (l .indices) (k + r .result .number) 0) (getD (l .indices) (k + r .result .number + 1) 0) refl (ap (λ (x : ℕ). getD (l .indices) x 0) e) (getD (l .«dc_scale») (a .qi) 0) (getD (l .«ac_scale») (a .qi) 0) refl refl
 
 pub matrix-spec : {M : Type 1} → statement M
 matrix-spec =
@@ -143,23 +135,21 @@ matrix-spec =
     range-of-requires
     add-one
     mul-one
-    shared-slice-read-one
+    element-copy-out-one
     cast-one
     add-two
     add-two-2
     mul-two
-    shared-slice-read-two
+    element-copy-out-two
     cast-two
     mul-first
     add-first
     mul-second
     add-second
-    mul-fill-matrix
-    shared-slice-read-fill-matrix
-    cast-fill-matrix
-    mul-fill-matrix-2
-    shared-slice-read-fill-matrix-2
-    cast-fill-matrix-2
+    mul-dc
+    element-copy-out-dc
+    mul-ac
+    element-copy-out-ac
     fill-matrix-requires
     same-length
     returns)

@@ -7,10 +7,10 @@ use Rattle.matrices.proofs.scale_value.Statement.{statement}
 use Rattle.matrices.proofs.scale_value.Tie as tie
 
 mul-whole : tie.Need-mul-whole
-mul-whole c = omega (arith, product-fits (c .args .scale) (c .args .value) (c .pre .1) (c .pre .2))
+mul-whole c = omega (arith, product-fits (c .args .scale) (c .args .value) (omega arith) (c .pre .1))
 
 mul-whole-2 : tie.Need-mul-whole-2
-mul-whole-2 c = omega (arith, product-fits (c .args .scale) (c .args .value) (c .pre .1) (c .pre .2))
+mul-whole-2 c = omega (arith, product-fits (c .args .scale) (c .args .value) (omega arith) (c .pre .1))
 
 returns : tie.Need-returns
 returns c = let a = c .before .args in scaled-high (a .low) (a .scale) (a .value) (c .before .pre .0) (c .if1 .taken)

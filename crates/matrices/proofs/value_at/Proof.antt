@@ -16,7 +16,7 @@ add-byte-at : tie.Need-add-byte-at
 add-byte-at c = search needs
 
 byte-at-requires : tie.Need-byte-at-requires
-byte-at-requires c κs = (c .before .pre .0, omega (arith, c .before .pre .1, c .before .pre .5))
+byte-at-requires c κs = (c .before .pre .0, omega (arith, c .before .pre .1, c .before .pre .4))
 
 mul-byte-at-2 : tie.Need-mul-byte-at-2
 mul-byte-at-2 c = search needs
@@ -25,7 +25,7 @@ add-byte-at-2 : tie.Need-add-byte-at-2
 add-byte-at-2 c = search needs
 
 byte-at-requires-2 : tie.Need-byte-at-requires-2
-byte-at-requires-2 c κs = (c .before .before .pre .0, omega (arith, c .before .before .pre .2, c .before .before .pre .5))
+byte-at-requires-2 c κs = (c .before .before .pre .0, omega (arith, c .before .before .pre .2, c .before .before .pre .4))
 
 interpolate-requires : tie.Need-interpolate-requires
 interpolate-requires c κs =
@@ -36,7 +36,7 @@ least-requires : tie.Need-least-requires
 least-requires c κs = search needs
 
 scale-value-requires : tie.Need-scale-value-requires
-scale-value-requires c κs = (c .least .ensures .1, c .before .before .before .before .before .pre .4, c .before .interpolate .ensures .1)
+scale-value-requires c κs = (c .least .ensures .1, c .before .interpolate .ensures .1)
 
 returns : tie.Need-returns
 returns c =

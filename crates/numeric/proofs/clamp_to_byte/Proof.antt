@@ -1,3 +1,4 @@
+-- `numeric::clamp_to_byte` meets its contract: one bound after the other. Assumes nothing.
 use mathlib.Core.Path.{_≡_, ap, _∙_}
 use native.Mathlib.Omega.{arith}
 use Rattle.numeric.specs.Clamp.{positivePart}

@@ -1,3 +1,4 @@
+-- `numeric::cut16` meets its contract: the mask gives the low 16 bits, and those from 32768 on stand for 65536 less. Assumes nothing.
 use mir.Syntax.{w16, w32}
 use lib.IntN.{pos}
 use Rattle.numeric.specs.Cut.{mod16, cut}

@@ -1,3 +1,4 @@
+-- `numeric::divide` meets its contract: the quotient of the language goes toward zero, as the definition's. Assumes nothing.
 use mathlib.Core.Path.{_≡_, refl, ap₂, _∙_}
 use Prim.Native.Nat.{_≤_, _<_}
 use lib.Dec.{ltb→lt}

@@ -1,3 +1,4 @@
+-- `numeric::positive_part` meets its contract. Assumes nothing.
 use mathlib.Core.Path.{_∙_}
 use Prim.Native.Nat.{_^_}
 use mir.Syntax.{w32}

@@ -1,3 +1,4 @@
+-- `numeric::round_over` meets its contract: 2 x with d added on the side of its sign, over 2 d. Assumes nothing.
 use borrow.Author.Needs.{needs}
 use mathlib.Core.Path.{ap₂, _∙_}
 use Prim.Native.Nat.{ℕ, _+_, _*_, _^_}

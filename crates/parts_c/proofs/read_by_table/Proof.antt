@@ -1,28 +1,9 @@
--- `parts_c::read_by_table` meets its contract.
--- Assumes nothing.
+-- `parts_c::read_by_table` meets its contract. Assumes nothing.
 use mathlib.Core.Path.{_∙_}
 use Rattle.parts_c.proofs.Packets.{genuine-trees, other-table}
 use borrow.Author.Needs.{needs}
 use Rattle.parts_c.proofs.read_by_table.Statement.{statement}
 use Rattle.parts_c.proofs.read_by_table.Tie as tie
-
-slice-aggregate-load-table : tie.Need-slice-aggregate-load-table
-slice-aggregate-load-table c = search needs
-
-slice-aggregate-load-table-2 : tie.Need-slice-aggregate-load-table-2
-slice-aggregate-load-table-2 c = search needs
-
-slice-aggregate-load-table-3 : tie.Need-slice-aggregate-load-table-3
-slice-aggregate-load-table-3 c = search needs
-
-slice-aggregate-load-table-4 : tie.Need-slice-aggregate-load-table-4
-slice-aggregate-load-table-4 c = search needs
-
-slice-aggregate-load-table-5 : tie.Need-slice-aggregate-load-table-5
-slice-aggregate-load-table-5 c = search needs
-
-slice-aggregate-load-table-6 : tie.Need-slice-aggregate-load-table-6
-slice-aggregate-load-table-6 c = search needs
 
 load-table-requires : tie.Need-load-table-requires
 load-table-requires c κs = search needs
@@ -38,16 +19,15 @@ slice-aggregate-read-by-nodes c = search needs
 
 read-by-nodes-requires : tie.Need-read-by-nodes-requires
 read-by-nodes-requires c κs =
-    let z = c .before .before .before .before .before .before .before .before .before .before .before .before .before .before .before .before .before .before .before .before .before .before .before .before .before .before .before .before .before .before .before .before .before .before .before .before .before in
-    let r = c .before .before .before .before .before .before .before .before .before .before .before .before .before .before .before .before .before .before .before .load-table .ensures in
-    let g = genuine-trees (z .args .table .now) (r .0) (c .before .before .before .before .before .before .before .before .before .before .before .enum-told2 .given .1) _ _ _ _ _ _ (r .1) in
+    let z = c .before .before .before .before .before .before .before .before .before .before .before .before .before .before .before .before .before .before .before .before .before .before .before .before .before .before in
+    let g = genuine-trees (z .args .table .now) (c .before .before .before .before .before .before .before .before .before .before .before .before .before .before .load-table .ensures) (c .before .before .before .before .before .before .before .before .before .before .before .before .enum-told2 .given .1) in
     (z .pre .0, z .pre .1, z .pre .2, g .0, z .pre .3, z .pre .4)
 
 returns : tie.Need-returns
 returns c =
-    let z = c .before .before .before .before .before .before .before .before .before .before .before .before .before .before .before .before .before .before .before .before .before .before .before .before .before .before in
+    let z = c .before .before .before .before .before .before .before .before .before .before .before .before .before .before in
     let a = z .args in
-    other-table (a .table .now) (c .before .before .before .before .before .before .before .before .load-table .ensures .0) (c .enum-told .given .1) (a .format) (a .w) (a .h) (a .references) (a .packet .now) (a .answer .now) (z .pre .3)
+    other-table (a .table .now) (c .before .before .load-table .ensures) (c .enum-told .given .1) (a .format) (a .w) (a .h) (a .references) (a .packet .now) (a .answer .now) (z .pre .3)
 
 same-length : tie.Need-same-length
 same-length c = search needs
@@ -81,21 +61,14 @@ same-length-10 c = search needs
 
 returns-2 : tie.Need-returns-2
 returns-2 c =
-    let a = c .before .before .before .before .before .before .before .before .before .before .before .before .before .before .before .before .before .before .before .before .before .before .before .before .before .before .before .before .before .before .before .before .before .before .before .before .before .before .before .before .before .before .before .before .before .before .before .before .before .before .before .before .before .before .before .before .before .args in
-    let r = c .before .before .before .before .before .before .before .before .before .before .before .before .before .before .before .before .before .before .before .before .before .before .before .before .before .before .before .before .before .before .before .before .before .before .before .before .before .before .before .load-table .ensures in
-    let g = genuine-trees (a .table .now) (r .0) (c .before .before .before .before .before .before .before .before .before .before .before .before .before .before .before .before .before .before .before .before .before .before .before .before .before .before .before .before .before .before .before .enum-told2 .given .1) _ _ _ _ _ _ (r .1) in
+    let a = c .before .before .before .before .before .before .before .before .before .before .before .before .before .before .before .before .before .before .before .before .before .before .before .before .before .before .before .before .before .before .before .before .before .before .before .before .before .before .before .before .before .before .before .before .before .before .args in
+    let g = genuine-trees (a .table .now) (c .before .before .before .before .before .before .before .before .before .before .before .before .before .before .before .before .before .before .before .before .before .before .before .before .before .before .before .before .before .before .before .before .before .before .load-table .ensures) (c .before .before .before .before .before .before .before .before .before .before .before .before .before .before .before .before .before .before .before .before .before .before .before .before .before .before .before .before .before .before .before .before .enum-told2 .given .1) in
     c .before .before .before .before .before .before .before .before .before .before .before .before .before .before .before .before .before .before .before .read-by-nodes .ensures ∙ g .1 (a .format) (a .w) (a .h) (a .references) (a .packet .now) (a .answer .now)
 
 pub read-by-table-spec : {M : Type 1} → statement M
 read-by-table-spec =
     tie.close
     (tie.spec
-    slice-aggregate-load-table
-    slice-aggregate-load-table-2
-    slice-aggregate-load-table-3
-    slice-aggregate-load-table-4
-    slice-aggregate-load-table-5
-    slice-aggregate-load-table-6
     load-table-requires
     enum-told
     enum-told-2

@@ -1,8 +1,8 @@
 -- `queries::matrix` meets its contract. Assumes nothing.
-use borrow.Author.Needs.{needs}
 use native.Mathlib.Omega.{arith}
-use Rattle.tables.proofs.Held.{genuine-holds}
+use Rattle.setup.proofs.Held.{held-parameters, genuine-holds}
 use Rattle.queries.proofs.SetupLaws.{matrix-1, matrix-8, matrix-is, matrix-absent, has-matrix, answered, answered-1}
+use borrow.Author.Needs.{needs}
 use Rattle.queries.proofs.matrix.Statement.{statement}
 use Rattle.queries.proofs.matrix.Tie as tie
 
@@ -12,68 +12,40 @@ returns c = let a = c .before .before .before .args in answered-1 (a .out .now) 
 returns-2 : tie.Need-returns-2
 returns-2 c = let a = c .before .before .before .before .args in answered (a .out .now) (a .table .now) (a .kind) (a .plane) (a .qi) (c .before .if1 .left) (matrix-1 (a .table .now) (a .kind) (a .plane) (a .qi) (c .if2 .taken))
 
-slice-aggregate-load-table : tie.Need-slice-aggregate-load-table
-slice-aggregate-load-table c = search needs
-
-slice-aggregate-load-table-2 : tie.Need-slice-aggregate-load-table-2
-slice-aggregate-load-table-2 c = search needs
-
-slice-aggregate-load-table-3 : tie.Need-slice-aggregate-load-table-3
-slice-aggregate-load-table-3 c = search needs
-
-slice-aggregate-load-table-4 : tie.Need-slice-aggregate-load-table-4
-slice-aggregate-load-table-4 c = search needs
-
-slice-aggregate-load-table-5 : tie.Need-slice-aggregate-load-table-5
-slice-aggregate-load-table-5 c = search needs
-
-slice-aggregate-load-table-6 : tie.Need-slice-aggregate-load-table-6
-slice-aggregate-load-table-6 c = search needs
-
 load-table-requires : tie.Need-load-table-requires
 load-table-requires c κs = search needs
 
 enum-told : tie.Need-enum-told
 enum-told c = search needs
 
-enum-known-answer : tie.Need-enum-known-answer
-enum-known-answer c = search needs
-
-slice-aggregate-matrix : tie.Need-slice-aggregate-matrix
-slice-aggregate-matrix c = search needs
-
-slice-aggregate-matrix-2 : tie.Need-slice-aggregate-matrix-2
-slice-aggregate-matrix-2 c = search needs
-
-slice-aggregate-matrix-3 : tie.Need-slice-aggregate-matrix-3
-slice-aggregate-matrix-3 c = search needs
-
-slice-aggregate-matrix-4 : tie.Need-slice-aggregate-matrix-4
-slice-aggregate-matrix-4 c = search needs
+enum-told-2 : tie.Need-enum-told-2
+enum-told-2 c = search needs
 
 matrix-requires : tie.Need-matrix-requires
 matrix-requires c κs =
-    let a = c .before .before .before .before .before .before .before .before .before .before .before .before .before .before .before .before .before .before .before .before .before .before .before .before .before .before .args in
-    let k = has-matrix (a .kind) (a .plane) (a .qi) (c .before .before .before .before .before .if3 .taken) in
-    (omega (arith, c .before .before .before .before .before .before .before .before .before .before .before .before .before .before .before .before .before .before .before .before .before .before .if2 .left), (_, genuine-holds (a .table .now) (c .before .before .before .before .before .before .before .before .before .before .before .before .before .before .before .load-table .ensures .0) (c .before .before .before .before .before .before .before .answer .given .1) _ _ _ _ _ _ (c .before .before .before .before .before .before .before .before .before .before .before .before .before .before .before .load-table .ensures .1)), k .0, k .1, k .2, c .before .before .before .before .before .before .before .before .before .before .before .before .before .before .before .before .before .before .before .before .before .before .before .if1 .left)
+    let a = c .before .before .before .before .before .before .before .before .before .before .args in
+    let k = has-matrix (a .kind) (a .plane) (a .qi) (c .before .before .if3 .taken) in
+    let h = genuine-holds (a .table .now) (c .before .before .before .before .before .load-table .ensures) (c .before .before .before .enum-told2 .given .1) in
+    (omega (arith, c .before .before .before .before .before .before .if2 .left), (_, held-parameters (a .table .now) _ h), k .0, k .1, k .2, c .before .before .before .before .before .before .before .if1 .left)
 
 same-length : tie.Need-same-length
 same-length c = search needs
 
 returns-3 : tie.Need-returns-3
 returns-3 c =
-    let a = c .before .before .before .before .before .before .before .before .before .before .before .before .before .before .before .before .before .before .before .before .before .before .before .before .before .before .before .before .before .args in
-    answered (a .out .now) (a .table .now) (a .kind) (a .plane) (a .qi) (c .before .before .before .before .before .before .before .before .before .before .before .before .before .before .before .before .before .before .before .before .before .before .before .before .before .before .if1 .left) (matrix-is (a .table .now) (c .before .before .before .before .before .before .before .before .before .before .before .before .before .before .before .before .before .before .load-table .ensures .0) (c .before .before .before .before .before .before .before .before .before .before .answer .given .1) _ _ _ _ _ _ (c .before .before .before .before .before .before .before .before .before .before .before .before .before .before .before .before .before .before .load-table .ensures .1) (a .kind) (a .plane) (a .qi) _ (c .before .before .before .before .before .before .before .before .before .before .before .before .before .before .before .before .before .before .before .before .before .before .before .before .before .if2 .left) (c .before .before .before .before .before .before .before .before .if3 .taken) (c .before .before .matrix .ensures))
+    let a = c .before .before .before .before .before .before .before .before .before .before .before .before .before .args in
+    answered (a .out .now) (a .table .now) (a .kind) (a .plane) (a .qi) (c .before .before .before .before .before .before .before .before .before .before .if1 .left)
+    (matrix-is (a .table .now) (c .before .before .before .before .before .before .before .before .load-table .ensures) (c .before .before .before .before .before .before .enum-told2 .given .1) (a .kind) (a .plane) (a .qi) _ (c .before .before .before .before .before .before .before .before .before .if2 .left) (c .before .before .before .before .before .if3 .taken) (c .before .before .matrix .ensures))
 
 returns-4 : tie.Need-returns-4
 returns-4 c =
-    let a = c .before .before .before .before .before .before .before .before .before .before .before .before .before .before .before .before .before .before .before .args in
-    answered (a .out .now) (a .table .now) (a .kind) (a .plane) (a .qi) (c .before .before .before .before .before .before .before .before .before .before .before .before .before .before .before .before .if1 .left) (matrix-8 (a .table .now) (a .kind) (a .plane) (a .qi) (c .before .before .before .before .before .before .before .before .before .before .before .before .before .before .before .if2 .left) (c .before .before .before .before .before .before .before .before .load-table .ensures .0) (c .enum-told .given .1))
+    let a = c .before .before .before .before .before .before .before .args in
+    answered (a .out .now) (a .table .now) (a .kind) (a .plane) (a .qi) (c .before .before .before .before .if1 .left) (matrix-8 (a .table .now) (a .kind) (a .plane) (a .qi) (c .before .before .before .if2 .left) (c .before .before .load-table .ensures) (c .enum-told .given .1))
 
 returns-5 : tie.Need-returns-5
 returns-5 c =
-    let a = c .before .before .before .before .before .before .before .before .before .before .before .before .before .before .before .before .before .before .before .before .before .args in
-    answered (a .out .now) (a .table .now) (a .kind) (a .plane) (a .qi) (c .before .before .before .before .before .before .before .before .before .before .before .before .before .before .before .before .before .before .if1 .left) (matrix-absent (a .table .now) (c .before .before .before .before .before .before .before .before .before .before .load-table .ensures .0) (c .before .before .answer .given .1) (a .kind) (a .plane) (a .qi) (c .before .before .before .before .before .before .before .before .before .before .before .before .before .before .before .before .before .if2 .left) (c .if3 .left))
+    let a = c .before .before .before .before .before .before .before .before .args in
+    answered (a .out .now) (a .table .now) (a .kind) (a .plane) (a .qi) (c .before .before .before .before .before .if1 .left) (matrix-absent (a .table .now) (c .before .before .before .load-table .ensures) (c .before .enum-told2 .given .1) (a .kind) (a .plane) (a .qi) (c .before .before .before .before .if2 .left) (c .if3 .left))
 
 pub matrix-spec : {M : Type 1} → statement M
 matrix-spec =
@@ -81,19 +53,9 @@ matrix-spec =
     (tie.spec
     returns
     returns-2
-    slice-aggregate-load-table
-    slice-aggregate-load-table-2
-    slice-aggregate-load-table-3
-    slice-aggregate-load-table-4
-    slice-aggregate-load-table-5
-    slice-aggregate-load-table-6
     load-table-requires
     enum-told
-    enum-known-answer
-    slice-aggregate-matrix
-    slice-aggregate-matrix-2
-    slice-aggregate-matrix-3
-    slice-aggregate-matrix-4
+    enum-told-2
     matrix-requires
     same-length
     returns-3

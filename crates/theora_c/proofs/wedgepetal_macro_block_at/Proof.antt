@@ -1,33 +1,47 @@
 -- `theora_c::wedgepetal_macro_block_at` meets its contract. Assumes nothing.
 use borrow.Author.Needs.{needs}
-use mathlib.Core.Path.{ap, _∙_}
+use mathlib.Core.Path.{sym, ap, _∙_}
+use lib.ListN.{length}
 use Rattle.theora_c.specs.Face.{placeReturned}
-use Rattle.theora_c.proofs.Calls.{lengths, made, refused-1}
+use Rattle.theora_c.proofs.Calls.{lengths, made, unmade}
 use Rattle.theora_c.proofs.wedgepetal_macro_block_at.Statement.{statement}
 use Rattle.theora_c.proofs.wedgepetal_macro_block_at.Tie as tie
 
+lists-refusal-requires : tie.Need-lists-refusal-requires
+lists-refusal-requires c κs = search needs
+
 session-of-requires : tie.Need-session-of-requires
-session-of-requires c κs = lengths 2 (c .before .before .before .args .session .now) (c .before .before .before .args .place .now) (c .if1 .taken) .0
+session-of-requires c κs =
+    let a = c .before .before .before .before .args in
+    lengths 2 (a .session .now) (length (a .place .now)) (sym (c .before .lists-refusal .ensures) ∙ c .if1 .taken) .0
 
 macro-block-at-requires : tie.Need-macro-block-at-requires
 macro-block-at-requires c κs = search needs
 
 return-place-requires : tie.Need-return-place-requires
-return-place-requires c κs = lengths 2 (c .before .before .before .before .before .before .args .session .now) (c .before .before .before .before .before .before .args .place .now) (c .before .before .before .if1 .taken) .1
+return-place-requires c κs =
+    let a = c .before .before .before .before .before .before .before .args in
+    lengths 2 (a .session .now) (length (a .place .now)) (sym (c .before .before .before .before .lists-refusal .ensures) ∙ c .before .before .before .if1 .taken) .1
 
 same-length : tie.Need-same-length
 same-length c = search needs
 
 returns : tie.Need-returns
-returns c = made 2 (c .before .before .before .before .before .before .before .before .before .args .session .now) (c .before .before .before .before .before .before .before .before .before .args .place .now) _ (c .before .before .before .before .before .before .if1 .taken) (c .before .before .before .before .before .session-of .ensures) (c .before .before .return-place .ensures ∙ ap (placeReturned (c .before .before .before .before .before .before .before .before .before .args .place .now)) (c .before .before .before .before .macro-block-at .ensures))
+returns c =
+    let a = c .before .before .before .before .before .before .before .before .before .before .args in
+    made 2 (a .session .now) (a .place .now) (c .before .before .before .before .before .before .before .lists-refusal .ensures) _ (c .before .before .before .before .before .before .if1 .taken) (c .before .before .before .before .before .session-of .ensures)
+    (c .before .before .return-place .ensures ∙ ap (placeReturned (a .place .now)) (c .before .before .before .before .macro-block-at .ensures))
 
 returns-2 : tie.Need-returns-2
-returns-2 c = refused-1 2 (c .before .before .before .args .session .now) (c .before .before .before .args .place .now) _ (c .if1 .left)
+returns-2 c =
+    let a = c .before .before .before .before .args in
+    unmade 2 (a .session .now) (a .place .now) (c .before .lists-refusal .ensures) _ (c .if1 .left)
 
 pub wedgepetal-macro-block-at-spec : {M : Type 1} → statement M
 wedgepetal-macro-block-at-spec =
     tie.close
     (tie.spec
+    lists-refusal-requires
     session-of-requires
     macro-block-at-requires
     return-place-requires

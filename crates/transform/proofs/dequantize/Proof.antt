@@ -1,3 +1,4 @@
+-- `transform::dequantize` meets its contract. The loop's invariant: the positions below p are in their places. Assumes nothing.
 use borrow.Author.Needs.{needs}
 use mathlib.Core.Path.{_≡_, refl, ap, ap₂, _∙_}
 use mathlib.Core.List.{List}

@@ -1,3 +1,4 @@
+-- `transform::difference` meets its contract. Assumes nothing.
 use borrow.Author.Needs.{needs}
 use mathlib.Core.Path.{ap, _∙_}
 use mir.Syntax.{w16, w32}

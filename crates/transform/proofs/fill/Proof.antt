@@ -1,3 +1,4 @@
+-- `transform::fill` meets its contract. The loop's invariant: the first i are v. Assumes nothing.
 use mathlib.Core.Path.{_≡_, refl, ap, _∙_}
 use Prim.Native.Nat.{ℕ, _≤_, _-_}
 use native.Mathlib.Omega.{arith}

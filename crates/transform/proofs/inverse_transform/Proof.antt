@@ -1,3 +1,4 @@
+-- `transform::inverse_transform` meets its contract. Assumes nothing.
 use borrow.Author.Needs.{needs}
 use mathlib.Core.Path.{ap, _∙_}
 use Rattle.transform.specs.Block.{columns, inverse}

@@ -1,3 +1,4 @@
+-- `transform::line_at` meets its contract. Assumes nothing.
 use native.Mathlib.Omega.{arith}
 use Prim.Native.Nat.{_+_, _*_}
 use lib.IntN.{pos}

@@ -1,3 +1,4 @@
+-- `transform::put_line` meets its contract. Assumes nothing.
 use native.Mathlib.Omega.{arith}
 use lib.ListN.{length-set}
 use mir.Syntax.{w16}

@@ -1,3 +1,4 @@
+-- `transform::round_all` meets its contract. The loop's invariant: the first i are rounded. Assumes nothing.
 use mathlib.Core.Path.{_≡_, refl, ap, _∙_}
 use Prim.Native.Nat.{ℕ, _≤_, _-_}
 use native.Mathlib.Omega.{arith}

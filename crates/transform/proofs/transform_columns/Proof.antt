@@ -1,3 +1,4 @@
+-- `transform::transform_columns` meets its contract. The loop's invariant: the first i columns are made. Assumes nothing.
 use mathlib.Core.Path.{_≡_, refl, ap, _∙_}
 use mathlib.Core.List.{List}
 use Prim.Native.Nat.{ℕ, _≤_, _+_, _-_}

@@ -1,3 +1,4 @@
+-- `transform::transform_line` meets its contract. Assumes nothing.
 use borrow.Author.Needs.{needs}
 use mathlib.Core.Path.{ap, _∙_}
 use Rattle.transform.specs.Line.{transformedLine}

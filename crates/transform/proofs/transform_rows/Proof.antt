@@ -1,3 +1,4 @@
+-- `transform::transform_rows` meets its contract. The loop's invariant: the first i rows are made. Assumes nothing.
 use borrow.Author.Needs.{needs}
 use mathlib.Core.Path.{_≡_, sym, ap, subst, _∙_}
 use mathlib.Core.List.{List}

@@ -1,3 +1,4 @@
+-- `transform::transformed_line` meets its contract. Assumes nothing.
 use borrow.Author.Needs.{needs}
 use mathlib.Core.Path.{_≡_, _∙_}
 use Rattle.numeric.specs.Cut.{cut}

@@ -1,3 +1,4 @@
+-- `transform::used` meets its contract. The loop's invariant: from 8 g on the coefficients are 0. Assumes nothing.
 use borrow.Author.Needs.{needs}
 use mathlib.Core.Path.{_≡_, refl, sym, _∙_}
 use mathlib.Core.Bool.{Bool, true, false, not}

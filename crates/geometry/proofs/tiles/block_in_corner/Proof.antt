@@ -1,3 +1,4 @@
+-- `geometry::tiles::block_in_corner` meets its contract. Assumes nothing.
 use Prim.Native.Nat.{_<_}
 use native.Mathlib.Omega.{arith}
 use Rattle.geometry.specs.Order.{blockWalk}

@@ -1,3 +1,4 @@
+-- `geometry::tiles::block_rank` meets its contract. Assumes nothing.
 use native.Mathlib.Omega.{arith}
 use Rattle.geometry.specs.Order.{blockWalk}
 use Rattle.geometry.proofs.Tables.{blockRank}

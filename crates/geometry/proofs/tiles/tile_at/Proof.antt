@@ -1,3 +1,4 @@
+-- `geometry::tiles::tile_at` meets its contract. Assumes nothing.
 use Prim.Native.Nat.{_*_, _/_, _%_, _<_}
 use native.Mathlib.Omega.{arith}
 use Rattle.geometry.proofs.Spots.{wide, low, left-by}

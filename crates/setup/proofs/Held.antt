@@ -11,19 +11,21 @@ use Rattle.bitstream.specs.Reading.{Outcome, got, refused, Parse, pure, bind, c
 use Rattle.bitstream.proofs.Fields.{no-mix, field-lt}
 use Rattle.bitstream.proofs.Laws.{bind-got}
 use Rattle.headers.specs.Judgement.{commonHeader}
-use Rattle.huffman.specs.Tree.{Tree, leaf, Proper, huffmanTree}
+use Rattle.huffman.specs.Tree.{Tree, leaf, Proper, nodesOf, huffmanTree}
 use Rattle.huffman.proofs.Trees.{read-proper}
+use Rattle.quantization.specs.Layout.{laid}
+use Rattle.quantization.specs.Answer.{asPlace}
+use Rattle.quantization.specs.declared.Place.the-variants.{At, Refused}
 use Rattle.quantization.specs.Parameters.{Quantization, quantization}
-use Rattle.quantization.specs.Sound.{Holds}
+use Rattle.quantization.specs.Sound as parameters
 use Rattle.quantization.proofs.Soundness.{read-holds, many-long}
 use Rattle.setup.specs.Header.{Setup, loopLimits, setupHeader}
-use Rattle.setup.specs.Answer.{Stored, Loaded}
-use Rattle.setup.specs.declared.TableAnswer.{TableAnswer}
-use Rattle.setup.specs.declared.TableAnswer.the-variants.{Genuine, NotGenuine}
-use Rattle.setup.specs.Table.{tableBytes, isTable, heldSetup, asTable}
+use Rattle.setup.specs.Loaded.{loadedSetup, Holds, asSetupRead}
+use Rattle.setup.specs.declared.LoadedSetup.{LoadedSetup}
+use Rattle.setup.specs.declared.SetupRead.{SetupRead}
+use Rattle.setup.specs.Table.{tableBytes, isTable, heldSetup}
 use Rattle.table_memory.specs.Kept.{clearFrom}
 use Rattle.table_memory.specs.Genuine.{endsClear, genuine}
-use Rattle.tables.specs.Tables.{treeOf, HoldsTrees}
 
 -- ---- every value of a list that was read is one that its parser gives
 many-each : {A : Type 0} (P : A → Type 0) (m : Parse A) → ((p : List ℕ) (i : ℕ) (a : A) (e : ℕ) → m p i ≡ got a e → P a)
@@ -88,20 +90,31 @@ pub limits-few : (p : List ℕ) {s : Setup} {e : ℕ} → setupHeader p 0 ≡ go
 limits-few p h = let g = parts p h in limits-of p (g .a) (g .limits-read)
 
 -- 80 trees, each of them as `huffmanTree` gives it
-pub trees-whole : (p : List ℕ) {s : Setup} {e : ℕ} → setupHeader p 0 ≡ got s e → (length (s .trees) ≡ 80) × ((k : ℕ) → k < 80 → Proper (treeOf (s .trees) k))
+pub trees-whole : (p : List ℕ) {s : Setup} {e : ℕ} → setupHeader p 0 ≡ got s e → (length (s .trees) ≡ 80) × ((k : ℕ) → k < 80 → Proper (getD (s .trees) k (leaf 0)))
 trees-whole p h =
     let g = parts p h in
     let l = many-long 80 huffmanTree p (g .c) (g .trees-read) in
     (l, λ k v. many-each Proper huffmanTree (λ p i a e r. read-proper p i r) 80 p (g .c) (g .trees-read) k (leaf 0) (omega arith))
 
-module _ (p : List ℕ) {s : Setup} {e : ℕ} (h : setupHeader p 0 ≡ got s e) (limits ac dc sizes indices nodes : List ℕ) (stored : Stored s limits ac dc sizes indices nodes) where
-  -- the slices hold its parameters, whose base matrices stand in the packet
-  pub holds-parameters : Holds (s .parameters) p (s .parameters .matricesAt) ac dc sizes indices
-  holds-parameters = let g = parts p h in read-holds p (g .b) ac dc sizes indices (g .parameters-read) (stored .parameters-are)
+-- ---- what a loaded setup holds
+module _ (t : List ℕ) (l : LoadedSetup) {s : Setup} (h : Holds t l s) where
+  pub held-limits : l .limits ≡ s .limits
+  unfolding loadedSetup
+  held-limits = ap (λ (x : LoadedSetup). x .limits) (h .is)
 
-  -- and its trees
-  pub holds-trees : HoldsTrees (s .trees) nodes
-  holds-trees = let t = trees-whole p h in record { eighty = t .0; proper = t .1; nodes-are = stored .nodes-are }
+  pub held-few : (qi : ℕ) → qi < 64 → getD (l .limits) qi 0 ≤ 127
+  held-few = subst (λ (x : List ℕ). (qi : ℕ) → qi < 64 → getD x qi 0 ≤ 127) (sym held-limits) (limits-few t (h .reads) .1)
+
+  -- its parameters, whose base matrices stand in the memory
+  pub held-parameters : parameters.Holds t (l .parameters) (s .parameters)
+  unfolding loadedSetup
+  held-parameters =
+      let g = parts t (h .reads) in
+      subst (λ (x : LoadedSetup). parameters.Holds t (x .parameters) (s .parameters)) (sym (h .is)) (read-holds t (g .b) (g .parameters-read))
+
+  pub held-nodes : l .nodes ≡ laid nodesOf (s .trees)
+  unfolding loadedSetup
+  held-nodes = ap (λ (x : LoadedSetup). x .nodes) (h .is)
 
 -- what a table memory holds is what it reads as
 pub held-reads : (t : List ℕ) {s : Setup} {e : ℕ} → heldSetup t ≡ got s e → setupHeader t 0 ≡ got s e
@@ -113,37 +126,37 @@ held-reads t {s} {e} h = go (isTable t) h
     go false r = no-mix (sym r)
 
 -- ---- what the loader of a table memory answers
-pub held-setup : (o : Outcome Setup) {r : TableAnswer} {m : ℕ} → r ≡ asTable o → r ≡ Genuine m → (s : Setup) × (e : ℕ) × (o ≡ got s e) × (s .parameters .matricesAt ≡ m)
-held-setup (got s d) a h = (s, d, refl, cc)
-held-setup (refused k d) a h = let z : _≡_ {A = ℕ} 0 1 = cc in absurd (omega arith)
+pub record HeldIn (o : Outcome Setup) (l : LoadedSetup) : Type 0 where
+  pub setup : Setup
+  pub end : ℕ
+  pub held : o ≡ got setup end
+  pub loaded : l ≡ loadedSetup setup
+
+pub held-in : (o : Outcome Setup) {r : SetupRead} {e : ℕ} → r ≡ asSetupRead o → r .place ≡ At e → HeldIn o (r .setup)
+held-in (got s d) a h = record { setup = s; end = d; held = refl; loaded = ap (λ (x : SetupRead). x .setup) a }
+held-in (refused k d) a h = let y = ap (λ (x : SetupRead). x .place) a in let z : _≡_ {A = ℕ} 0 1 = cc in absurd (omega arith)
 
 -- a memory that is not genuine is refused by 8 alone
-pub held-8 : (t : List ℕ) {r : TableAnswer} → r ≡ asTable (heldSetup t) → r ≡ NotGenuine → heldSetup t ≡ refused 8 0
+pub held-8 : (t : List ℕ) {r : SetupRead} {k e : ℕ} → r ≡ asSetupRead (heldSetup t) → r .place ≡ Refused k e → heldSetup t ≡ refused 8 0
 unfolding heldSetup genuine
-held-8 t a n = go (eqb (length t) tableBytes) (setupHeader t 0) (sym n ∙ a)
+held-8 t {r} {k} {e} a n = go (eqb (length t) tableBytes) (setupHeader t 0) (sym n ∙ ap (λ (x : SetupRead). x .place) a)
   where
-    ends : (b : Bool) (s : Setup) (e : ℕ) → NotGenuine ≡ asTable (choose b (got s e) (refused 8 0)) → choose b (got s e) (refused 8 0) ≡ refused 8 0
-    ends true s e h = let z : _≡_ {A = ℕ} 0 1 = cc in absurd (omega arith)
-    ends false s e h = refl
+    ends : (b : Bool) (s : Setup) (d : ℕ) → Refused k e ≡ asPlace (choose b (got s d) (refused 8 0)) → choose b (got s d) (refused 8 0) ≡ refused 8 0
+    ends true s d h = let z : _≡_ {A = ℕ} 0 1 = cc in absurd (omega arith)
+    ends false s d h = refl
 
-    go : (b : Bool) (o : Outcome Setup) → NotGenuine ≡ asTable (choose (b && endsClear t o) o (refused 8 0)) → choose (b && endsClear t o) o (refused 8 0) ≡ refused 8 0
+    go : (b : Bool) (o : Outcome Setup) → Refused k e ≡ asPlace (choose (b && endsClear t o) o (refused 8 0)) → choose (b && endsClear t o) o (refused 8 0) ≡ refused 8 0
     go false o h = refl
-    go true (got s e) h = ends (clearFrom t e) s e h
-    go true (refused k e) h = refl
+    go true (got s d) h = ends (clearFrom t d) s d h
+    go true (refused j d) h = refl
 
--- a genuine one: its setup, and what the slices hold of it
-module _ (t : List ℕ) {r : TableAnswer} {m : ℕ} (a : r ≡ asTable (heldSetup t)) (g : r ≡ Genuine m) where
+-- a genuine one: its setup
+module _ (t : List ℕ) {r : SetupRead} {e : ℕ} (a : r ≡ asSetupRead (heldSetup t)) (g : r .place ≡ At e) where
   abbrev pub genuine-setup : Setup
-  genuine-setup = held-setup (heldSetup t) a g .0
+  genuine-setup = held-in (heldSetup t) a g .setup
 
-  pub genuine-held : heldSetup t ≡ got genuine-setup (held-setup (heldSetup t) a g .1)
-  genuine-held = held-setup (heldSetup t) a g .2
+  pub genuine-held : heldSetup t ≡ got genuine-setup (held-in (heldSetup t) a g .end)
+  genuine-held = held-in (heldSetup t) a g .held
 
-  module _ (limits ac dc sizes indices nodes : List ℕ) (l : Loaded (heldSetup t) limits ac dc sizes indices nodes) where
-    pub genuine-stored : Stored genuine-setup limits ac dc sizes indices nodes
-    genuine-stored = subst (λ (o : Outcome Setup). Loaded o limits ac dc sizes indices nodes) genuine-held l
-
-    pub genuine-holds : Holds (genuine-setup .parameters) t m ac dc sizes indices
-    genuine-holds =
-        subst (λ (n : ℕ). Holds (genuine-setup .parameters) t n ac dc sizes indices) (held-setup (heldSetup t) a g .3)
-        (holds-parameters t (held-reads t genuine-held) limits ac dc sizes indices nodes genuine-stored)
+  pub genuine-holds : Holds t (r .setup) genuine-setup
+  genuine-holds = record { end = _; reads = held-reads t genuine-held; is = held-in (heldSetup t) a g .loaded }

@@ -1,0 +1,243 @@
+/*
+ * How much stack the calls need. Each call runs on a painted stack of its own, and the paint that
+ * is gone afterwards says how deep it went. The streams are those of crates/play/data: a packet's
+ * length in 4 bytes, the least significant first, and its bytes. At last come the deepest trees.
+ */
+#define _XOPEN_SOURCE 600
+#include <stdio.h>
+#include <stdlib.h>
+#include <string.h>
+#include <ucontext.h>
+
+#include "wedgepetal.h"
+
+enum { STACK = 256 * 1024, MOST = 48 * 1024, PAINT = 0xA5, LONGEST = 1 << 20 };
+
+/* What the calls are given. */
+static uint8_t bytes[LONGEST], table[WEDGEPETAL_TABLE_BYTES];
+static const uint8_t *packet;
+static size_t packet_length;
+static uint64_t session[WEDGEPETAL_SESSION_NUMBERS], number[1], matrix[WEDGEPETAL_MATRIX_NUMBERS];
+static uint64_t answer[WEDGEPETAL_ANSWER_NUMBERS];
+static uint8_t *golden, *previous, *new_frame;
+static size_t buffer;
+static struct wedgepetal_work work;
+static uint32_t answered;
+
+static void identification(void)
+{
+    answered = wedgepetal_identification(packet, packet_length, session, WEDGEPETAL_SESSION_NUMBERS);
+}
+
+static void setup(void)
+{
+    answered = wedgepetal_setup(packet, packet_length, table, sizeof table);
+}
+
+static void test_table(void)
+{
+    answered = wedgepetal_table(table, sizeof table);
+}
+
+static void loop_limit(void)
+{
+    answered = wedgepetal_loop_limit(table, sizeof table, 63, number, 1);
+}
+
+static void one_matrix(void)
+{
+    answered = wedgepetal_matrix(table, sizeof table, 1, 2, 63, matrix, WEDGEPETAL_MATRIX_NUMBERS);
+}
+
+static void frame(void)
+{
+    answered = wedgepetal_frame_in(&work, session, packet, packet_length, table, golden, previous,
+                                   new_frame, buffer, answer);
+}
+
+static struct {
+    const char *name;
+    void (*run)(void);
+    size_t most;
+} calls[] = {
+    {"identification", identification, 0}, {"setup", setup, 0},           {"table", test_table, 0},
+    {"loop_limit", loop_limit, 0},         {"matrix", one_matrix, 0},     {"frame", frame, 0},
+};
+
+enum { IDENTIFICATION, SETUP, TABLE, LOOP_LIMIT, MATRIX, FRAME, CALLS };
+
+/* ---- the painted stack */
+
+static unsigned char stack[STACK];
+static ucontext_t here, there;
+static void (*running)(void);
+
+static void enter(void)
+{
+    running();
+}
+
+static void nothing(void)
+{
+}
+
+static size_t depth_of(void (*run)(void))
+{
+    size_t clean = 0;
+    memset(stack, PAINT, STACK);
+    running = run;
+    getcontext(&there);
+    there.uc_stack.ss_sp = stack;
+    there.uc_stack.ss_size = STACK;
+    there.uc_link = &here;
+    makecontext(&there, enter, 0);
+    swapcontext(&here, &there);
+    while (clean < STACK && stack[clean] == PAINT) {
+        clean++;
+    }
+    return STACK - clean;
+}
+
+static void call(int which)
+{
+    size_t depth = depth_of(calls[which].run) - depth_of(nothing);
+    if (depth > calls[which].most) {
+        calls[which].most = depth;
+    }
+}
+
+static void accepted(int which)
+{
+    call(which);
+    if (answered != 0) {
+        fprintf(stderr, "%s: refused by %u\n", calls[which].name, (unsigned)answered);
+        exit(1);
+    }
+}
+
+/* ---- streams */
+
+static void ask_table(void)
+{
+    accepted(TABLE);
+    accepted(LOOP_LIMIT);
+    accepted(MATRIX);
+}
+
+static void begin_frames(void)
+{
+    uint64_t sizes[WEDGEPETAL_SIZE_NUMBERS], lengths[WEDGEPETAL_LENGTH_NUMBERS];
+    wedgepetal_sizes(session, WEDGEPETAL_SESSION_NUMBERS, sizes, WEDGEPETAL_SIZE_NUMBERS);
+    wedgepetal_work_lengths(session, WEDGEPETAL_SESSION_NUMBERS, lengths, WEDGEPETAL_LENGTH_NUMBERS);
+    buffer = sizes[WEDGEPETAL_BUFFER];
+    golden = calloc(3, buffer);
+    work = wedgepetal_work_in(malloc(lengths[WEDGEPETAL_WORK_BYTES]), lengths);
+    if (golden == NULL || work.coded == NULL) {
+        abort();
+    }
+    previous = golden + buffer;
+    new_frame = previous + buffer;
+}
+
+static void next_frame(void)
+{
+    call(FRAME);
+    if (answered == 0) {
+        memcpy(previous, new_frame, buffer);
+        if (answer[WEDGEPETAL_KIND] == WEDGEPETAL_INTRA) {
+            memcpy(golden, new_frame, buffer);
+        }
+    }
+}
+
+/* Plays a stream; one whose headers are refused is left out. */
+static void play(const char *name)
+{
+    size_t length, at = 0, count = 0;
+    FILE *file = fopen(name, "rb");
+    if (file == NULL) {
+        perror(name);
+        exit(2);
+    }
+    length = fread(bytes, 1, LONGEST, file);
+    fclose(file);
+    for (; at + 4 <= length; at += 4 + packet_length, count++) {
+        packet = bytes + at + 4;
+        packet_length = bytes[at] + 256u * bytes[at + 1] + 65536u * bytes[at + 2];
+        if (count == 0 || count == 2) {
+            call(count == 0 ? IDENTIFICATION : SETUP);
+            if (answered != 0) {
+                return;
+            }
+        }
+        if (count == 2) {
+            ask_table();
+            begin_frames();
+        }
+        if (count > 2) {
+            next_frame();
+        }
+    }
+}
+
+/* ---- the deepest trees: 32 leaves, each but the last on a branch of the one before */
+
+static size_t bits;
+
+static void put(unsigned value, unsigned width)
+{
+    while (width-- > 0) {
+        bytes[bits / 8] |= (uint8_t)((value >> width & 1) << (7 - bits % 8));
+        bits++;
+    }
+}
+
+static void deepest_trees(void)
+{
+    int i, k;
+    memset(bytes, 0, LONGEST);
+    bits = 0;
+    put(0x82, 8);
+    for (i = 0; i < 6; i++) {
+        put((unsigned)"theora"[i], 8);
+    }
+    put(0, 3); /* loop limits of no bits */
+    for (i = 0; i < 2; i++) {
+        put(0, 4); /* 64 scales of one bit */
+        for (k = 0; k < 64; k++) {
+            put(1, 1);
+        }
+    }
+    put(0, 9); /* one base matrix */
+    for (i = 0; i < 64; i++) {
+        put(255, 8);
+    }
+    put(62, 6); /* one range of 63, and the same for the five other sets */
+    put(0, 8);
+    for (i = 0; i < 80; i++) {
+        put(0, 31); /* 31 branches, and then the leaves from the deepest on */
+        for (k = 0; k < 32; k++) {
+            put(1, 1);
+            put((unsigned)k, 5);
+        }
+    }
+    packet = bytes;
+    packet_length = (bits + 7) / 8;
+    accepted(SETUP);
+    ask_table();
+    call(FRAME);
+}
+
+int main(int argc, char **argv)
+{
+    int i, failed = 0;
+    for (i = 1; i < argc; i++) {
+        play(argv[i]);
+    }
+    deepest_trees();
+    for (i = 0; i < CALLS; i++) {
+        printf("%s: %lu bytes of stack\n", calls[i].name, (unsigned long)calls[i].most);
+        failed |= calls[i].most > MOST;
+    }
+    return failed;
+}
