@@ -349,10 +349,13 @@ impl Decoder<'_> {
             let text = format!("{}: there is no frame {frame}; frames: {count}", self.name);
             return Err(Failure::Refused(text));
         }
-        output.finish().map_err(Failure::File)?;
+        // Neither takes its name unless both are whole.
+        output.flush().map_err(Failure::File)?;
         if let Some(index) = index {
+            index.flush().map_err(Failure::File)?;
             index.finish().map_err(Failure::File)?;
         }
+        output.finish().map_err(Failure::File)?;
         match output.is_unread() {
             true if index.is_none() => Err(Failure::Unread),
             _ => Ok(self.summary),

@@ -61,6 +61,11 @@ impl Index {
         self.0.write(|out| out.write_all(line.as_bytes()))
     }
 
+    /// Writes what is still held back.
+    pub fn flush(&mut self) -> Result<(), String> {
+        self.0.flush()
+    }
+
     /// All is written: it takes its own name.
     pub fn finish(&mut self) -> Result<(), String> {
         self.0.finish()

@@ -129,6 +129,16 @@ impl Output {
         }
     }
 
+    /// Writes what is still held back.
+    pub fn flush(&mut self) -> Result<(), String> {
+        match self {
+            Output::Film(target, _) | Output::Hashes(target) | Output::Picture(target, _) => {
+                target.flush()
+            }
+            Output::Frames(_) => Ok(()),
+        }
+    }
+
     /// All is written: it takes its own name.
     pub fn finish(&mut self) -> Result<(), String> {
         match self {

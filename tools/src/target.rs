@@ -106,9 +106,14 @@ impl Target {
         is_standard(&self.path)
     }
 
+    /// Writes what is still held back.
+    pub fn flush(&mut self) -> Result<(), String> {
+        self.write(|out| out.flush())
+    }
+
     /// All is written: a file takes its own name.
     pub fn finish(&mut self) -> Result<(), String> {
-        self.write(|out| out.flush())?;
+        self.flush()?;
         match std::mem::replace(&mut self.state, State::Whole) {
             State::Open(_, Some(temporary)) => temporary.rename(&self.path, self.force),
             State::Unread => {

@@ -20,8 +20,8 @@ fn parts(recording: &[u8], choice: Choice) -> Vec<Part> {
 }
 
 /// The packets of a stream among these parts.
-fn packets(parts: &[Part], stream: u64) -> Vec<&[u8]> {
-    let packet = |part| match part {
+fn packets<'a>(parts: &'a [Part], stream: u64) -> Vec<&'a [u8]> {
+    let packet = |part: &'a Part| match part {
         Part::Packet(packet) if packet.stream == stream => Some(&packet.bytes[..]),
         _ => None,
     };
