@@ -64,7 +64,10 @@ impl Clock {
 
 impl fmt::Display for Time {
     fn fmt(&self, f: &mut fmt::Formatter<'_>) -> fmt::Result {
-        write!(f, "{}.{:06}", self.0 / 1_000_000, self.0 % 1_000_000)
+        let digits = f.precision().unwrap_or(6).min(6);
+        let (unit, scale) = (10_u128.pow(6 - digits as u32), 10_u128.pow(digits as u32));
+        let rounded = (self.0 + unit / 2) / unit;
+        write!(f, "{}.{:0digits$}", rounded / scale, rounded % scale)
     }
 }
 
@@ -117,6 +120,7 @@ mod tests {
     fn times() {
         assert_eq!(clock(1, 25, 1).time(7).to_string(), "0.280000");
         assert_eq!(clock(1, 30000, 1001).time(1).to_string(), "0.033367");
+        assert_eq!(format!("{:.3}", clock(1, 30000, 1001).time(2)), "0.067");
         let long = clock(1, 1, 0xFFFF_FFFF).time(1 << 32);
         assert_eq!(long.to_string(), "18446744069414584320.000000");
     }

@@ -268,10 +268,10 @@ impl StreamInfo {
     fn length(&self) -> String {
         let frames = self.frames();
         match (self.first, &self.clock) {
-            (Some(0), Some(clock)) => format!("{frames} frames, {} s", clock.time(clock.next())),
+            (Some(0), Some(clock)) => format!("{frames} frames, {:.3} s", clock.time(clock.next())),
             (Some(first), Some(clock)) => {
                 let (from, to) = (clock.time(first), clock.time(clock.next()));
-                format!("{frames} frames, from {from} s to {to} s")
+                format!("{frames} frames, from {from:.3} s to {to:.3} s")
             }
             _ => format!("{frames} frames"),
         }
@@ -381,10 +381,7 @@ mod tests {
             text.contains("  rate      25.000 frames a second (25/1)\n"),
             "{text}"
         );
-        assert!(
-            text.contains("  length    7 frames, 0.280000 s\n"),
-            "{text}"
-        );
+        assert!(text.contains("  length    7 frames, 0.280 s\n"), "{text}");
         assert!(
             text.contains("  memory    649.7 kB to decode it\n"),
             "{text}"

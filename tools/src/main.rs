@@ -172,7 +172,9 @@ fn decode_recording(job: &Job) -> Result<Said, Failure> {
         (true, _) => format!("{}\n", summary.json(&name)),
         (false, true) => String::new(),
         (false, false) if job.verb == "picture" && summary.is_clean() => {
-            target::said(out, "the frame is there\n")
+            let frame = parsed(job, "--frame", |text| text.parse::<u64>().ok())?;
+            let frame = frame.unwrap_or(0);
+            target::said(out, format!("frame {frame} of {name}\n"))
         }
         (false, false) => summary.text(&name),
     };

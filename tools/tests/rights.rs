@@ -60,23 +60,23 @@ fn missing_permission_is_said() {
     fs::remove_dir_all(&folder).unwrap();
 }
 
-/// The command at work: it has read half of the sample and waits for the rest.
+/// The command at work: it has read most of the sample and waits for the rest.
 fn at_work(folder: &Path, words: &str) -> Child {
     let file = fs::read(folder.join("s.packets")).unwrap();
     let mut command = common::command(folder, words);
     command.stdin(Stdio::piped()).stderr(Stdio::null());
     let mut child = command.spawn().unwrap();
-    let mut input = child.stdin.take().unwrap();
+    let input = child.stdin.as_mut().unwrap();
     input.write_all(&file[..file.len() - 100]).unwrap();
-    child.stdin = Some(input);
-    let is_begun = || names(folder).iter().any(|name| name.ends_with(".part"));
-    for _ in 0..1000 {
-        if is_begun() {
-            return child;
-        }
+    child
+}
+
+/// Waits until an output is begun; says whether it is.
+fn is_begun(folder: &Path) -> bool {
+    (0..1000).any(|_| {
         sleep(Duration::from_millis(10));
-    }
-    panic!("{words}: nothing is begun");
+        names(folder).iter().any(|name| name.ends_with(".part"))
+    })
 }
 
 #[test]
@@ -86,6 +86,7 @@ fn an_interrupted_output_is_removed() {
     for (name, number) in [("INT", 2), ("TERM", 15), ("HUP", 1)] {
         for words in ["y4m - film --index i", "frames - f", "hashes - h"] {
             let mut child = at_work(&folder, words);
+            let begun = is_begun(&folder);
             let kill = format!("kill -{name} {}", child.id());
             assert!(
                 Command::new("sh")
@@ -95,6 +96,7 @@ fn an_interrupted_output_is_removed() {
                     .success()
             );
             let status = child.wait().unwrap();
+            assert!(begun, "{words}: nothing was begun");
             assert_eq!(status.signal(), Some(number), "{words}: {status}");
             assert_eq!(names(&folder), ["s.packets"], "{words}");
         }
