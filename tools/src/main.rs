@@ -74,7 +74,8 @@ impl Failure {
 /// What a command has to say at its end.
 struct Said {
     text: String,
-    /// Whether the standard output is taken, so that this goes elsewhere.
+    /// Whether the standard output is taken or nothing but faults is wanted, so
+    /// that this goes to the standard error.
     output_taken: bool,
     /// Whether all was read and accepted.
     clean: bool,
@@ -154,7 +155,7 @@ fn describe(job: &Job) -> Result<Said, Failure> {
     };
     Ok(Said {
         text,
-        output_taken: false,
+        output_taken: job.has("--quiet"),
         clean: info.is_clean(),
     })
 }
@@ -164,13 +165,14 @@ fn decode_recording(job: &Job) -> Result<Said, Failure> {
     let (path, out) = (Path::new(&job.words[0]), Path::new(&job.words[1]));
     let request = request(job, out)?;
     check_paths(job, path, out)?;
-    let output_taken = request.output.is_standard();
+    let index_taken = job.value("--index").is_some_and(|path| path == "-");
+    let output_taken = request.output.is_standard() || index_taken || job.has("--quiet");
     let input = Input::open(path, job.has("--quiet"))?;
     let name = input.name.clone();
     let summary = decode::decode(input, request)?;
     let text = match (job.has("--json"), job.has("--quiet")) {
         (true, _) => format!("{}\n", summary.json(&name)),
-        (false, true) => String::new(),
+        (false, true) => summary.faults(&name),
         (false, false) if job.verb == "picture" && summary.is_clean() => {
             let frame = parsed(job, "--frame", |text| text.parse::<u64>().ok())?;
             let frame = frame.unwrap_or(0);
@@ -258,12 +260,12 @@ fn write_packets(job: &Job) -> Result<Said, Failure> {
     let written = packets::write(input, choice(job)?, target)?;
     let text = match (job.has("--json"), job.has("--quiet")) {
         (true, _) => format!("{}\n", written.json(&name)),
-        (false, true) => String::new(),
+        (false, true) => written.faults(&name),
         (false, false) => written.text(&name),
     };
     Ok(Said {
         text,
-        output_taken: is_standard(out),
+        output_taken: is_standard(out) || job.has("--quiet"),
         clean: written.is_clean(),
     })
 }

@@ -1,7 +1,7 @@
 //! What is made of decoded frames: a film, planes, a picture, hashes.
 
 use crate::interrupt::begun;
-use crate::target::{Target, Temporary, said};
+use crate::target::{Target, Temporary, resolved, said};
 use crate::y4m::Y4m;
 use crate::{layout, png};
 use recording::hash::hash;
@@ -229,14 +229,15 @@ impl Folder {
     ///
     /// Something is there, and is no empty folder.
     pub fn plan(path: &Path) -> Result<Folder, String> {
-        match fs::read_dir(path).map(|entries| entries.count()) {
+        match fs::read_dir(path).map(Iterator::count) {
+            Err(_) if path.is_symlink() => Err(said(path, "is a link that leads to no folder")),
             Ok(1..) => Err(said(
                 path,
                 "is not empty; frames go into a new or empty folder",
             )),
             Err(error) if error.kind() != ErrorKind::NotFound => Err(said(path, error)),
             _ => Ok(Folder {
-                path: path.to_path_buf(),
+                path: resolved(path),
                 temporary: None,
                 place: PathBuf::new(),
             }),

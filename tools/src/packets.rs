@@ -23,11 +23,14 @@ impl Written {
 
     /// In words, of a recording of this name.
     pub fn text(&self, name: &str) -> String {
-        let mut text = format!("{name}: {} packets written\n", self.packets);
-        for left in &self.left {
-            text += &format!("{name}: {left}\n");
-        }
-        text
+        let packets = self.packets;
+        format!("{name}: {packets} packets written\n{}", self.faults(name))
+    }
+
+    /// What was left, a line each.
+    pub fn faults(&self, name: &str) -> String {
+        let line = |left| format!("{name}: {left}\n");
+        self.left.iter().map(line).collect()
     }
 
     /// As JSON.

@@ -187,6 +187,22 @@ impl Summary {
         self.left.is_empty() && self.streams.iter().all(StreamSummary::is_clean)
     }
 
+    /// What is wrong and was not said at once: a line each, for a recording of
+    /// this name.
+    pub fn faults(&self, name: &str) -> String {
+        let mut lines = self.left.clone();
+        for stream in &self.streams {
+            let number = stream.stream.number;
+            let end = stream.end.iter().filter(|end| **end != End::Whole);
+            let faults = stream.stop.iter().cloned().chain(end.map(End::to_string));
+            lines.extend(faults.map(|fault| format!("stream {number}: {fault}")));
+        }
+        lines
+            .iter()
+            .map(|line| format!("{name}: {line}\n"))
+            .collect()
+    }
+
     /// The text for a recording of this name: a line for each stream, each with
     /// what is wrong behind it.
     pub fn text(&self, name: &str) -> String {

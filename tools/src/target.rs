@@ -43,7 +43,7 @@ impl Target {
             Some(data) if data.is_dir() => Err(said(path, "is a folder")),
             Some(data) if data.is_file() && !force => Err(there(path)),
             _ => Ok(Target {
-                path: path.to_path_buf(),
+                path: resolved(path),
                 force,
                 state: State::Planned,
             }),
@@ -136,8 +136,17 @@ fn found(path: &Path) -> Result<Option<Metadata>, String> {
         return Ok(None);
     }
     match fs::metadata(path) {
+        Err(_) if path.is_symlink() => Err(said(path, "is a link that leads nowhere")),
         Err(error) if error.kind() == ErrorKind::NotFound => Ok(None),
         found => found.map(Some).map_err(|error| said(path, error)),
+    }
+}
+
+/// Where a path leads if it is a link, since that is what is to be written.
+pub fn resolved(path: &Path) -> PathBuf {
+    match path.is_symlink() {
+        true => fs::canonicalize(path).unwrap_or_else(|_| path.to_path_buf()),
+        false => path.to_path_buf(),
     }
 }
 

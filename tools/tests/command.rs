@@ -6,6 +6,7 @@ mod common;
 use common::{command, ended, folder, good, names, run, sample_packets};
 use std::fs;
 use std::os::fd::OwnedFd;
+use std::os::unix::fs::symlink;
 use std::os::unix::net::UnixStream;
 use std::path::Path;
 use std::process::Command;
@@ -159,6 +160,37 @@ fn nothing_is_replaced_without_force() {
             .starts_with(b"stream 1\n")
     );
     assert_eq!(names(&folder), ["s.packets", "there"]);
+}
+
+#[test]
+fn links_lead_to_what_is_written() {
+    let folder = folder("links");
+    good(&folder, "sample s.packets");
+    for (to, link) in [
+        ("film", "to_film"),
+        ("frames", "to_frames"),
+        ("no", "to_nothing"),
+    ] {
+        symlink(to, folder.join(link)).unwrap();
+    }
+    fs::write(folder.join("film"), "old").unwrap();
+    fs::create_dir(folder.join("frames")).unwrap();
+    good(&folder, "y4m s.packets to_film --force");
+    good(&folder, "frames s.packets to_frames");
+    assert!(folder.join("to_film").is_symlink() && folder.join("to_frames").is_symlink());
+    assert!(
+        fs::read(folder.join("film"))
+            .unwrap()
+            .starts_with(b"YUV4MPEG2 ")
+    );
+    assert_eq!(names(&folder.join("frames")).len(), 8);
+    for words in ["y4m s.packets to_nothing", "frames s.packets to_nothing"] {
+        let (status, _, err) = run(&folder, words);
+        assert!(
+            status == 2 && err.contains("to_nothing: is a link that leads"),
+            "{err}"
+        );
+    }
 }
 
 #[test]

@@ -119,6 +119,13 @@ fn two_ogg_streams_side_by_side_are_named() {
     );
     let (status, out, _) = run(&folder, "packets b.ogv p");
     assert!(status == 1 && out.ends_with(left), "{out}");
+    for words in [
+        "y4m b.ogv /dev/null --quiet",
+        "packets b.ogv /dev/null --quiet",
+    ] {
+        let quiet = (1, String::new(), left.to_string());
+        assert_eq!(run(&folder, words), quiet, "{words}");
+    }
     good(&folder, "y4m b.ogv c.y4m --stream 2");
     let bytes = |name: &str| fs::read(folder.join(name)).unwrap();
     assert_eq!(bytes("b.y4m"), bytes("c.y4m"));
@@ -258,6 +265,12 @@ fn a_cut_ogg_file_is_said() {
     let (status, _, err) = run(&folder, "y4m h.ogv g");
     assert!(
         status == 1 && err.contains("it ends before its first frame"),
+        "{err}"
+    );
+    let (status, out, err) = run(&folder, "info c.ogv --quiet");
+    assert_eq!((status, &out[..]), (1, ""));
+    assert!(
+        err.ends_with("stream 1: cut short: its last page is not there\n"),
         "{err}"
     );
 }
