@@ -17,16 +17,19 @@ fn main() {
     let output = Command::new(workspace.join("tools/archive"))
         .output()
         .expect("tools/archive runs");
-    match archive(&output) {
-        Some(archive) => link(&archive),
-        None => println!("cargo::error=there is no library to link"),
+    if let Some(archive) = archive(&output) {
+        link(&archive);
     }
 }
 
 /// The path that `tools/archive` prints. What it says is said.
 fn archive(output: &Output) -> Option<PathBuf> {
+    let kind = match output.status.success() {
+        true => "warning",
+        false => "error",
+    };
     for line in String::from_utf8_lossy(&output.stderr).lines() {
-        println!("cargo::warning={line}");
+        println!("cargo::{kind}={line}");
     }
     let path = String::from_utf8_lossy(&output.stdout);
     output.status.success().then(|| path.trim_end().into())

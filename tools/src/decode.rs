@@ -71,6 +71,7 @@ pub fn decode(input: Input, request: Request) -> Result<Summary, Failure> {
         name: &name,
         request,
         progress,
+        packets: 0,
         frames: 0,
         playing: None,
         summary: Summary::default(),
@@ -89,7 +90,8 @@ struct Decoder<'a> {
     name: &'a str,
     request: Request,
     progress: Progress,
-    /// How many frames there were, of all streams.
+    /// How many packets and frames there were, of all streams.
+    packets: u64,
     frames: u64,
     /// The stream that is being read.
     playing: Option<Playing>,
@@ -173,7 +175,8 @@ impl Decoder<'_> {
             Stage::Refused => Ok(Flow::On),
         };
         self.playing = Some(playing);
-        self.progress.packet(number);
+        self.packets += 1;
+        self.progress.packet(self.packets);
         flow
     }
 
