@@ -1,7 +1,7 @@
 //! What is made of decoded frames: a film, planes, a picture, hashes.
 
 use crate::interrupt::begun;
-use crate::target::{Target, Temporary, resolved, said};
+use crate::target::{Target, Temporary, is_standard, resolved, said};
 use crate::y4m::Y4m;
 use crate::{layout, png};
 use recording::hash::hash;
@@ -229,6 +229,9 @@ impl Folder {
     ///
     /// Something is there, and is no empty folder.
     pub fn plan(path: &Path) -> Result<Folder, String> {
+        if is_standard(path) {
+            return Err(said(path, "frames go into a folder"));
+        }
         match fs::read_dir(path).map(Iterator::count) {
             Err(_) if path.is_symlink() => Err(said(path, "is a link that leads to no folder")),
             Ok(1..) => Err(said(

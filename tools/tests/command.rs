@@ -99,6 +99,11 @@ fn standard_input_and_output() {
     assert_eq!(output.status.code(), Some(0));
     let said = String::from_utf8(output.stderr).unwrap();
     assert_eq!(said, format!("standard input: {ALL_FRAMES}"));
+    let (status, _, err) = run(&folder, "frames s.packets -");
+    assert!(
+        status == 2 && err.contains("standard output: frames go into a folder"),
+        "{err}"
+    );
     let (status, out, err) = run(&folder, "y4m s.packets - --json --index /dev/null");
     assert!(status == 0 && err.contains("\"frames\": 7"), "{out}{err}");
 }

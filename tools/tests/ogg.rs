@@ -23,6 +23,8 @@ fn ogg_and_packet_files_give_the_same() {
     let folder = folder("ogg_and_packets");
     good(&folder, "sample s.ogv");
     good(&folder, "sample s.packets");
+    let sample = common::command(&folder, "sample -").output().unwrap();
+    assert_eq!(sample.stdout, fs::read(folder.join("s.ogv")).unwrap());
     assert_eq!(
         good(&folder, "packets s.ogv p.packets"),
         "s.ogv: 10 packets written\n"
