@@ -307,12 +307,18 @@ fn option<'a>(
         (None, None) => OsString::new(),
         (None, Some(_)) => return Err(format!("{name} takes no value")),
         (Some(_), Some(value)) => value,
-        (Some(form), None) => rest
-            .next()
-            .ok_or_else(|| format!("{name}: {form} is missing behind it"))?
-            .clone(),
+        (Some(form), None) => {
+            let next = rest.next().filter(|word| !is_option(word));
+            next.ok_or_else(|| format!("{name}: {form} is missing behind it"))?
+                .clone()
+        }
     };
     Ok((flag.name, value))
+}
+
+/// Whether a word is meant as an option, not as the value of one.
+fn is_option(word: &OsStr) -> bool {
+    word.to_str().is_some_and(|text| text.starts_with("--"))
 }
 
 /// The verb has no such option.
@@ -495,6 +501,7 @@ mod tests {
         assert!(wrong("y4m a").contains("FILM.y4m is missing"));
         assert!(wrong("info a b").starts_with("b: one word too many"));
         assert!(wrong("y4m a b --stream").contains("N is missing"));
+        assert!(wrong("y4m a b --index --force").contains("FILE.csv is missing"));
         assert!(wrong("y4m a b --force=1").contains("--force takes no value"));
         assert!(wrong("").starts_with("a verb is missing"));
         let job = job("picture a b --frame x");

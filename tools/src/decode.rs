@@ -104,10 +104,10 @@ struct Playing {
     packets: u64,
     stage: Stage,
     summary: StreamSummary,
-    /// The position behind which packets may be lost, until the next packet.
-    gap_from: Option<u64>,
-    /// Whether packets are left out, up to the next key frame.
-    leaves_out: bool,
+    /// The gap behind which packets are left out, up to the next key frame.
+    gap: Option<usize>,
+    /// The position from which on packets are lost, until the next packet.
+    lost_from: Option<u64>,
 }
 
 /// How far a stream has come.
@@ -151,8 +151,8 @@ impl Decoder<'_> {
             packets: 0,
             stage: Stage::Headers(Vec::new()),
             summary: StreamSummary::new(stream),
-            gap_from: None,
-            leaves_out: false,
+            gap: None,
+            lost_from: None,
         });
     }
 
@@ -225,13 +225,13 @@ impl Decoder<'_> {
         };
         let position = clock.tick(packet.granule);
         let time = clock.time(position);
-        if let (Some(from), Some(gap)) = (playing.gap_from.take(), playing.summary.gaps.last_mut())
-        {
-            gap.lost = position.checked_sub(from).map(|lost| (lost, time));
+        if let (Some(gap), Some(from)) = (playing.gap, playing.lost_from.take()) {
+            let lost = position.checked_sub(from).map(|lost| (lost, time));
+            playing.summary.gaps[gap].lost = lost;
         }
         let answer = player.decode(&packet.bytes);
-        let left_out = playing.leaves_out && answer == Err(Refusal::NO_REFERENCES);
-        playing.leaves_out &= answer.is_err();
+        playing.gap = playing.gap.filter(|_| answer.is_err());
+        let left_out = playing.gap.is_some() && answer == Err(Refusal::NO_REFERENCES);
         let answer = Answer {
             packet: number,
             number: self.frames,
@@ -258,8 +258,8 @@ impl Decoder<'_> {
         answer: Result<FrameAnswer, Refusal>,
         left_out: bool,
     ) {
-        match playing.summary.gaps.last_mut() {
-            Some(gap) if left_out => gap.left_out += 1,
+        match playing.gap {
+            Some(gap) if left_out => playing.summary.gaps[gap].left_out += 1,
             _ => playing.summary.count(&answer),
         }
         match answer {
@@ -305,8 +305,8 @@ impl Decoder<'_> {
                 }
                 if gap.loses_packets() {
                     player.restart();
-                    playing.gap_from = Some(clock.next());
-                    playing.leaves_out = true;
+                    playing.gap = Some(playing.summary.gaps.len());
+                    playing.lost_from = Some(clock.next());
                 }
                 playing.summary.gaps.push(GapSummary {
                     what: gap.to_string(),
