@@ -295,3 +295,82 @@ fn an_ogg_file_of_sound_alone_is_named() {
     );
     assert_eq!(common::names(&folder), ["s.oga"]);
 }
+
+/// Numbers that look random, always the same.
+struct Random(u64);
+
+impl Random {
+    /// A number below this one.
+    fn below(&mut self, limit: usize) -> usize {
+        self.0 = self
+            .0
+            .wrapping_mul(6_364_136_223_846_793_005)
+            .wrapping_add(1);
+        (self.0 >> 33) as usize % limit
+    }
+}
+
+/// Damages one of the pages behind the headers.
+fn damage(pages: &mut Vec<Vec<u8>>, random: &mut Random) {
+    let page = 3 + random.below(pages.len() - 4);
+    match random.below(6) {
+        0 => {
+            pages.remove(page);
+        }
+        1 => {
+            let place = page + 1 + random.below(pages.len() - page - 1);
+            pages.insert(place, pages[page].clone());
+        }
+        2 => pages.swap(page, page + 1),
+        3 => {
+            let length = random.below(pages[page].len());
+            pages[page].truncate(length);
+        }
+        _ => {
+            let bit = random.below(8 * pages[page].len());
+            pages[page][bit / 8] ^= 1 << (bit % 8);
+        }
+    }
+}
+
+/// The time and the hash of each frame that `d.ogv` gives.
+fn timed_hashes(folder: &Path) -> Vec<(String, String)> {
+    let words = "hashes d.ogv h --index i --after-gap key-frame --force --quiet";
+    assert!(run(folder, words).0 <= 1);
+    let text = |name: &str| fs::read_to_string(folder.join(name)).unwrap();
+    let (hashes, index) = (text("h"), text("i"));
+    let hash = |packet: &str| {
+        let begin = format!("frame {packet} ");
+        let line = hashes.lines().find(|line| line.starts_with(&begin));
+        line.unwrap().rsplit(' ').next().unwrap().to_string()
+    };
+    let rows = index
+        .lines()
+        .skip(1)
+        .map(|row| row.split(',').collect::<Vec<_>>());
+    rows.filter(|row| ["intra", "inter", "repeat"].contains(&row[3]))
+        .map(|row| (row.last().unwrap().to_string(), hash(row[1])))
+        .collect()
+}
+
+#[test]
+fn damaged_ogg_files_give_no_frame_that_the_whole_one_has_not() {
+    let folder = folder("ogg_random_damage");
+    damaged(&folder, |_| ());
+    let whole = timed_hashes(&folder);
+    assert_eq!(whole.len(), 28);
+    let all = pages(5, &sample_packets(&folder), 4);
+    let mut random = Random(14);
+    let mut frames = 0;
+    for _ in 0..60 {
+        let mut pages = all.clone();
+        damage(&mut pages, &mut random);
+        damage(&mut pages, &mut random);
+        write(&folder, "d.ogv", &pages);
+        let left = timed_hashes(&folder);
+        let strange = left.iter().find(|frame| !whole.contains(frame));
+        assert_eq!(strange, None);
+        frames += left.len();
+    }
+    assert!(frames > 600, "{frames}");
+}
