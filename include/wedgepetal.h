@@ -1,8 +1,8 @@
 /*
  * Wedgepetal: a proved Theora decoder. The face for C and other languages.
- * `rt staticlib theora_c` writes the library, target/staticlib/libtheora_c.a
- * (x86-64). It allocates nothing and keeps nothing from call to call. A call
- * needs at most 48 KiB of stack (measured, not proved: 36 kB for a frame).
+ * The built library for x86-64 Linux is dist/x86_64-linux/libwedgepetal.a. It
+ * allocates nothing and keeps nothing from call to call. A call needs at most
+ * 48 KiB of stack (measured, not proved: 36 kB for a frame).
  *
  * A recording's first packet is its identification header, the second its
  * comment header (which no call reads), the third its setup header. All others

@@ -50,6 +50,12 @@ pub use session::{Session, identification};
 pub use table::{MatrixType, Table, setup};
 pub use work::{Work, WorkLengths};
 
+/// The version of this package.
+pub const VERSION: &str = env!("CARGO_PKG_VERSION");
+
+/// Which proved sources the linked library was made of: git's hash of `crates/`.
+pub const CRATES: &str = env!("WEDGEPETAL_CRATES");
+
 /// The sizes of a session's frames.
 #[derive(Clone, Debug, PartialEq, Eq)]
 pub struct Sizes {

@@ -1,6 +1,6 @@
 //! A recording's packets decoded one after the other.
 
-use crate::lists::Buffers;
+use crate::lists::{Buffers, TABLE_BYTES};
 use crate::work::zeros;
 use crate::{Frame, FrameAnswer, Kind, Refusal, Session, Sizes, Table, Work};
 use std::error::Error;
@@ -45,7 +45,8 @@ impl Player {
     pub fn new(session: Session, table: Table) -> Result<Player, Unplayable> {
         let sizes = session.sizes().map_err(Unplayable::Refused)?;
         let lengths = session.work_lengths().map_err(Unplayable::Refused)?;
-        let no_memory = |_| Unplayable::Memory(lengths.bytes + 3 * sizes.buffer);
+        let bytes = Player::memory(&session).map_err(Unplayable::Refused)?;
+        let no_memory = |_| Unplayable::Memory(bytes);
         let buffer = || zeros(sizes.buffer).map_err(no_memory);
         Ok(Player {
             work: Work::new(&lengths).map_err(no_memory)?,
@@ -59,6 +60,23 @@ impl Player {
             sizes,
             table,
         })
+    }
+
+    /// How many bytes of memory a player of this session takes: three plane
+    /// buffers, work memory and table memory.
+    ///
+    /// # Errors
+    ///
+    /// Number 8, as for every call on a session.
+    pub fn memory(session: &Session) -> Result<u64, Refusal> {
+        let (sizes, lengths) = (session.sizes()?, session.work_lengths()?);
+        Ok(3 * sizes.buffer + lengths.bytes + TABLE_BYTES as u64)
+    }
+
+    /// Forgets all frames: packets are missing here. As at the beginning, only
+    /// an intra frame is accepted next.
+    pub fn restart(&mut self) {
+        self.session.references = false;
     }
 
     /// Decodes the next packet.

@@ -306,3 +306,31 @@ fn what_cannot_be_played() {
     let memory = Unplayable::Memory(1 << 43).to_string();
     assert!(memory.contains("8796093022208 bytes of memory"));
 }
+
+#[test]
+fn after_a_restart_only_an_intra_frame_is_accepted() {
+    let mut player = player();
+    player.decode(&intra(9, 9)).unwrap();
+    let first = shown(&player);
+    player.restart();
+    assert!(player.frame().is_none());
+    for packet in [inter(0, 0, 0), Vec::new()] {
+        assert_eq!(player.decode(&packet), Err(Refusal::NO_REFERENCES));
+    }
+    player.decode(&intra(9, 9)).unwrap();
+    assert_eq!(shown(&player), first);
+}
+
+#[test]
+fn the_memory_of_a_player_is_known_before() {
+    let session = session(20, 15, 0);
+    let (sizes, lengths) = (session.sizes().unwrap(), session.work_lengths().unwrap());
+    let table = lists::TABLE_BYTES as u64;
+    assert_eq!(
+        Player::memory(&session),
+        Ok(3 * sizes.buffer + lengths.bytes + table)
+    );
+    // 345·NBS + 2·NSBS + NMBS + 28,184.
+    let largest = common::session(65_535, 65_535, 3);
+    assert_eq!(Player::memory(&largest), Ok(17_791_359_286_853));
+}

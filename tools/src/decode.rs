@@ -1,248 +1,415 @@
-//! `wedgepetal decode`: all frames of a recording.
+//! All frames of a recording, decoded into an output.
 
 use crate::Failure;
-use crate::output::{Output, Wanted};
-use crate::progress::{Counted, Progress};
-use recording::{Fault, Packets};
-use std::collections::BTreeMap;
-use std::fmt;
-use std::io::{BufReader, Read};
-use std::path::Path;
-use wedgepetal::{FrameAnswer, Kind, Player, Refusal, Unplayable, identification, setup};
+use crate::clock::Clock;
+use crate::index::Index;
+use crate::input::Input;
+use crate::left;
+use crate::memory::Limit;
+use crate::output::{Answer, Output, Trouble};
+use crate::progress::Progress;
+use crate::summary::{GapSummary, StreamSummary, Summary};
+use recording::part::{Gap, Packet, Part, Stream};
+use recording::{Choice, Parts};
+use wedgepetal::{FrameAnswer, Player, Refusal, identification, setup};
 
-/// How a recording was decoded.
-#[derive(Debug, Default, PartialEq, Eq)]
-pub struct Summary {
-    intra: u64,
-    inter: u64,
-    repeat: u64,
-    /// How many packets were refused by each number.
-    refused: BTreeMap<u32, u64>,
-    /// What is wrong with the recording itself, behind its last whole packet.
-    fault: Option<String>,
+/// What is done behind a gap.
+#[derive(Clone, Copy, Debug, PartialEq, Eq)]
+pub enum AfterGap {
+    /// Nothing more is read.
+    Stop,
+    /// Decoding goes on at the next key frame.
+    KeyFrame,
 }
 
-/// Decodes a recording into outputs. Each refusal is said at once.
-pub fn decode(path: &Path, wanted: &[Wanted], show_progress: bool) -> Result<Summary, Failure> {
-    let file = crate::open(path)?;
-    let mut progress = Progress::new(show_progress, file.metadata().map_or(0, |data| data.len()));
-    let reader = BufReader::new(Counted::new(file, progress.bytes()));
-    let packets = Packets::new(reader).map_err(|fault| Stop::Fault(fault).failure(path))?;
-    let summary = decode_packets(packets, wanted, &mut progress);
-    progress.clear();
-    summary.map_err(|stop| stop.failure(path))
-}
-
-/// Why decoding stops before the recording's end.
-#[derive(Debug)]
-enum Stop {
-    /// The recording is at fault before its first frame.
-    Fault(Fault),
-    /// It ends before its first frame.
-    NoFrames,
-    /// A header, with this name, is refused.
-    Header(&'static str, Refusal),
-    /// Its frames cannot be decoded.
-    Unplayable(Unplayable),
-    /// An output cannot be written.
-    Output(String),
-    /// No output has a reader any more.
-    Unread,
-}
-
-impl Stop {
-    /// The failure of the command on this recording.
-    fn failure(self, path: &Path) -> Failure {
-        match self {
-            Stop::Fault(fault) if fault.is_read_error() => Failure::file(path, fault),
-            Stop::Output(text) => Failure::File(text),
-            Stop::Unread => Failure::Unread,
-            stop => Failure::refused(path, stop),
+impl AfterGap {
+    /// The choice of this name.
+    pub fn parse(name: &str) -> Option<AfterGap> {
+        match name {
+            "stop" => Some(AfterGap::Stop),
+            "key-frame" => Some(AfterGap::KeyFrame),
+            _ => None,
         }
     }
 }
 
-impl fmt::Display for Stop {
-    fn fmt(&self, f: &mut fmt::Formatter<'_>) -> fmt::Result {
-        match self {
-            Stop::Fault(fault) => write!(f, "{fault}"),
-            Stop::NoFrames => write!(f, "no Theora stream, or it ends before its first frame"),
-            Stop::Header(name, refusal) => write!(f, "{name}: {refusal}"),
-            Stop::Unplayable(why) => write!(f, "{why}"),
-            Stop::Output(text) => write!(f, "{text}"),
-            Stop::Unread => write!(f, "no one reads what is written"),
-        }
-    }
+/// How a recording is to be decoded.
+pub struct Request {
+    /// Which streams.
+    pub choice: Choice,
+    /// What is done behind a gap.
+    pub after_gap: AfterGap,
+    /// The most memory that frames may take.
+    pub limit: Limit,
+    /// What is made of the frames.
+    pub output: Output,
+    /// A table of all packets.
+    pub index: Option<Index>,
 }
 
-/// Decodes the packets of a recording.
-fn decode_packets<R: Read>(
-    mut packets: Packets<R>,
-    wanted: &[Wanted],
-    progress: &mut Progress,
-) -> Result<Summary, Stop> {
-    let mut player = start(&mut packets)?;
-    let outputs: Result<Vec<Output>, String> =
-        wanted.iter().map(|output| output.begin(&player)).collect();
-    let mut outputs = outputs.map_err(Stop::Output)?;
-    let mut summary = Summary::default();
-    for (number, packet) in (3..).zip(packets) {
-        let packet = match packet {
-            Ok(packet) => packet,
-            Err(fault) => {
-                summary.fault = Some(fault.to_string());
-                break;
+/// How many refusals of a stream are said at once. All are counted, and the
+/// index has them.
+const SAID_MOST: u64 = 10;
+
+/// Whether there is more to do.
+#[derive(PartialEq, Eq)]
+enum Flow {
+    On,
+    Stop,
+}
+
+/// Decodes a recording. Each refusal and each gap is said at once.
+pub fn decode(input: Input, request: Request) -> Result<Summary, Failure> {
+    let Input {
+        name,
+        reader,
+        progress,
+    } = input;
+    let failed = |fault: recording::Fault| Failure::of_fault(&name, &fault);
+    let parts = Parts::new(reader, request.choice).map_err(failed)?;
+    let mut decoder = Decoder {
+        name: &name,
+        request,
+        progress,
+        packets: 0,
+        frames: 0,
+        playing: None,
+        summary: Summary::default(),
+    };
+    for part in parts {
+        if decoder.take(part.map_err(failed)?)? == Flow::Stop {
+            break;
+        }
+    }
+    decoder.progress.clear();
+    decoder.finish()
+}
+
+/// A recording that is being decoded.
+struct Decoder<'a> {
+    name: &'a str,
+    request: Request,
+    progress: Progress,
+    /// How many packets and frames there were, of all streams.
+    packets: u64,
+    frames: u64,
+    /// The stream that is being read.
+    playing: Option<Playing>,
+    summary: Summary,
+}
+
+/// A stream that is being decoded.
+struct Playing {
+    /// How many packets there were.
+    packets: u64,
+    stage: Stage,
+    summary: StreamSummary,
+    /// The gap behind which packets are left out, up to the next key frame.
+    gap: Option<usize>,
+    /// The position from which on packets are lost, until the next packet.
+    lost_from: Option<u64>,
+}
+
+/// How far a stream has come.
+enum Stage {
+    /// Its headers are read; these are the ones so far.
+    Headers(Vec<Vec<u8>>),
+    /// Its frames are decoded.
+    Frames(Box<Player>, Clock),
+    /// It cannot be decoded.
+    Refused,
+}
+
+impl Decoder<'_> {
+    /// Takes a part of the recording.
+    fn take(&mut self, part: Part) -> Result<Flow, Failure> {
+        match part {
+            Part::Begin(stream) => self.begin(stream),
+            Part::Packet(packet) => return self.packet(&packet),
+            Part::Gap(gap) => return self.gap(&gap),
+            Part::End { end, .. } => {
+                if let Some(mut playing) = self.playing.take() {
+                    playing.summary.end = Some(end);
+                    self.close(playing);
+                }
+            }
+            Part::Beside(stream) if self.request.choice == Choice::Joined => {
+                self.summary.left.push(left::beside(&stream));
+            }
+            Part::Beside(stream) => self.summary.others.push(left::named(&stream)),
+            Part::Other { holds, .. } => self.summary.others.push(holds.to_string()),
+            Part::NoPage(_) | Part::Stray { .. } => {
+                self.summary.left.extend(left::unread(&part));
+            }
+        }
+        Ok(Flow::On)
+    }
+
+    /// A stream begins.
+    fn begin(&mut self, stream: Stream) {
+        self.playing = Some(Playing {
+            packets: 0,
+            stage: Stage::Headers(Vec::new()),
+            summary: StreamSummary::new(stream),
+            gap: None,
+            lost_from: None,
+        });
+    }
+
+    /// A packet of the stream.
+    fn packet(&mut self, packet: &Packet) -> Result<Flow, Failure> {
+        let Some(mut playing) = self.playing.take() else {
+            return Ok(Flow::On);
+        };
+        let number = playing.packets;
+        playing.packets += 1;
+        let flow = match &mut playing.stage {
+            Stage::Headers(headers) => {
+                headers.push(packet.bytes.clone());
+                match headers.len() {
+                    3 => self.start(&mut playing),
+                    _ => Ok(Flow::On),
+                }
+            }
+            Stage::Frames(..) => self.frame(&mut playing, number, packet),
+            Stage::Refused => Ok(Flow::On),
+        };
+        self.playing = Some(playing);
+        self.packets += 1;
+        self.progress.packet(self.packets);
+        flow
+    }
+
+    /// The three headers of a stream are there.
+    fn start(&mut self, playing: &mut Playing) -> Result<Flow, Failure> {
+        let Stage::Headers(headers) = &playing.stage else {
+            return Ok(Flow::On);
+        };
+        let player = match player(headers, &self.request.limit) {
+            Ok(player) => player,
+            Err(why) => {
+                playing.refuse(why);
+                return Ok(Flow::On);
             }
         };
-        let answer = player.decode(&packet);
-        summary.count(&answer);
-        if let Err(refusal) = answer {
-            progress.say(&format!("packet {number}: {refusal}"));
+        match self
+            .request
+            .output
+            .begin(playing.summary.stream.number, &player)
+        {
+            Ok(()) => {}
+            Err(Trouble::Failed(text)) => return Err(Failure::File(text)),
+            Err(Trouble::Unfit(text)) => {
+                let stream = left::named(&playing.summary.stream);
+                playing.refuse(format!("{text} ({stream}; --stream chooses one)"));
+                return Ok(Flow::Stop);
+            }
         }
-        for output in &mut outputs {
-            output
-                .take(number, &answer, &player)
-                .map_err(Stop::Output)?;
+        if let Some(index) = &mut self.request.index {
+            index.begin().map_err(Failure::File)?;
         }
-        still_read(&outputs)?;
-        progress.packet(number);
+        let clock = Clock::of(player.session());
+        playing.stage = Stage::Frames(Box::new(player), clock);
+        Ok(Flow::On)
     }
-    for output in &mut outputs {
-        output.end().map_err(Stop::Output)?;
+
+    /// A frame packet of a stream.
+    fn frame(
+        &mut self,
+        playing: &mut Playing,
+        number: u64,
+        packet: &Packet,
+    ) -> Result<Flow, Failure> {
+        let Stage::Frames(player, clock) = &mut playing.stage else {
+            return Ok(Flow::On);
+        };
+        let position = clock.tick(packet.granule);
+        let time = clock.time(position);
+        if let (Some(gap), Some(from)) = (playing.gap, playing.lost_from.take()) {
+            let lost = position.checked_sub(from).map(|lost| (lost, time));
+            playing.summary.gaps[gap].lost = lost;
+        }
+        let answer = player.decode(&packet.bytes);
+        playing.gap = playing.gap.filter(|_| answer.is_err());
+        let left_out = playing.gap.is_some() && answer == Err(Refusal::NO_REFERENCES);
+        let answer = Answer {
+            packet: number,
+            number: self.frames,
+            answer,
+            player,
+        };
+        let output = &mut self.request.output;
+        output.take(&answer).map_err(Failure::of_trouble)?;
+        if let Some(index) = &mut self.request.index {
+            let stream = playing.summary.stream.number;
+            let written = index.packet(stream, &answer, left_out, time);
+            written.map_err(Failure::File)?;
+        }
+        let answer = answer.answer;
+        self.count(playing, number, answer, left_out);
+        self.flow()
     }
-    still_read(&outputs)?;
-    Ok(summary)
-}
 
-/// Stops if there are outputs and none has a reader any more.
-fn still_read(outputs: &[Output]) -> Result<(), Stop> {
-    match !outputs.is_empty() && outputs.iter().all(Output::is_unread) {
-        true => Err(Stop::Unread),
-        false => Ok(()),
-    }
-}
-
-/// Reads the three headers. The second, with its comments, is not looked at.
-fn start<R: Read>(packets: &mut Packets<R>) -> Result<Player, Stop> {
-    let mut next = || packets.next().ok_or(Stop::NoFrames)?.map_err(Stop::Fault);
-    let session = identification(&next()?)
-        .map_err(|refusal| Stop::Header("packet 0, the identification header", refusal))?;
-    next()?;
-    let table =
-        setup(&next()?).map_err(|refusal| Stop::Header("packet 2, the setup header", refusal))?;
-    Player::new(session, table).map_err(Stop::Unplayable)
-}
-
-impl Summary {
-    /// Counts the answer to a packet.
-    fn count(&mut self, answer: &Result<FrameAnswer, Refusal>) {
+    /// Counts the answer to a packet, and says a refusal.
+    fn count(
+        &mut self,
+        playing: &mut Playing,
+        number: u64,
+        answer: Result<FrameAnswer, Refusal>,
+        left_out: bool,
+    ) {
+        match playing.gap {
+            Some(gap) if left_out => playing.summary.gaps[gap].left_out += 1,
+            _ => playing.summary.count(&answer),
+        }
         match answer {
-            Ok(FrameAnswer { kind, .. }) => match kind {
-                Kind::Intra => self.intra += 1,
-                Kind::Inter => self.inter += 1,
-                Kind::Repeat => self.repeat += 1,
-            },
-            Err(Refusal(number)) => *self.refused.entry(*number).or_default() += 1,
+            Ok(_) => self.frames += 1,
+            Err(refusal) if !left_out => {
+                let text = format!("{}: packet {number}: {refusal}", self.name);
+                match playing.summary.refused() {
+                    0..SAID_MOST => self.progress.say(&text),
+                    SAID_MOST => self
+                        .progress
+                        .say(&format!("{text}; more are counted, --index lists them")),
+                    _ => {}
+                }
+            }
+            Err(_) => {}
         }
     }
 
-    /// Whether the recording is whole and no packet was refused.
-    pub fn is_clean(&self) -> bool {
-        self.refused.is_empty() && self.fault.is_none()
+    /// Whether someone wants more frames.
+    fn flow(&self) -> Result<Flow, Failure> {
+        let output = &self.request.output;
+        match (output.is_unread(), &self.request.index) {
+            (true, None) => Err(Failure::Unread),
+            _ if output.is_done() => Ok(Flow::Stop),
+            _ => Ok(Flow::On),
+        }
+    }
+
+    /// The stream does not go on as it should.
+    fn gap(&mut self, gap: &Gap) -> Result<Flow, Failure> {
+        let Some(mut playing) = self.playing.take() else {
+            return Ok(Flow::On);
+        };
+        self.progress.say(&format!("{}: {gap}", self.name));
+        let stops = self.request.after_gap == AfterGap::Stop;
+        match &mut playing.stage {
+            Stage::Headers(_) => playing.refuse(format!("{gap}: its headers are not whole")),
+            Stage::Frames(player, clock) => {
+                let from = clock.time(clock.next());
+                if let Some(index) = &mut self.request.index {
+                    let written = index.gap(gap.stream, &gap.to_string(), from);
+                    written.map_err(Failure::File)?;
+                }
+                if gap.loses_packets() {
+                    player.restart();
+                    playing.gap = Some(playing.summary.gaps.len());
+                    playing.lost_from = Some(clock.next());
+                }
+                playing.summary.gaps.push(GapSummary {
+                    what: gap.to_string(),
+                    from,
+                    lost: None,
+                    left_out: 0,
+                });
+            }
+            Stage::Refused => {}
+        }
+        if stops {
+            let text = "reading stops there; --after-gap key-frame goes on at the next key frame";
+            playing.summary.stop.get_or_insert(text.to_string());
+        }
+        self.playing = Some(playing);
+        Ok(if stops { Flow::Stop } else { Flow::On })
+    }
+
+    /// A stream is at its end, or is left.
+    fn close(&mut self, mut playing: Playing) {
+        if let Stage::Headers(_) = playing.stage {
+            playing.refuse("it ends before its first frame".to_string());
+        }
+        self.summary.streams.push(playing.summary);
+    }
+
+    /// All is read.
+    fn finish(mut self) -> Result<Summary, Failure> {
+        if let Some(playing) = self.playing.take() {
+            self.close(playing);
+        }
+        let Request {
+            output,
+            index,
+            choice,
+            ..
+        } = &mut self.request;
+        if let Some(why) = why_nothing(&self.summary, *choice) {
+            return Err(Failure::Refused(format!("{}: {why}", self.name)));
+        }
+        if let Some(frame) = output.missing() {
+            let count = self.frames;
+            let text = format!("{}: there is no frame {frame}; frames: {count}", self.name);
+            return Err(Failure::Refused(text));
+        }
+        // Neither takes its name unless both are whole.
+        output.flush().map_err(Failure::File)?;
+        if let Some(index) = index {
+            index.flush().map_err(Failure::File)?;
+            index.finish().map_err(Failure::File)?;
+        }
+        output.finish().map_err(Failure::File)?;
+        match output.is_unread() {
+            true if index.is_none() => Err(Failure::Unread),
+            _ => Ok(self.summary),
+        }
     }
 }
 
-impl fmt::Display for Summary {
-    fn fmt(&self, f: &mut fmt::Formatter<'_>) -> fmt::Result {
-        let frames = self.intra + self.inter + self.repeat;
-        let refused: u64 = self.refused.values().sum();
-        writeln!(
-            f,
-            "{frames} frames ({} intra, {} inter, {} repeat), packets refused: {refused}",
-            self.intra, self.inter, self.repeat
-        )?;
-        for (number, times) in &self.refused {
-            writeln!(f, "  {times} by {}", Refusal(*number))?;
-        }
-        match &self.fault {
-            Some(fault) => writeln!(f, "  the recording ends here: {fault}"),
-            None => Ok(()),
-        }
+impl Playing {
+    /// The stream is not decoded, or not to its end.
+    fn refuse(&mut self, why: String) {
+        self.stage = Stage::Refused;
+        self.summary.stop = Some(why);
+    }
+}
+
+/// A player of a stream with these three headers. The second, with its
+/// comments, is not looked at.
+fn player(headers: &[Vec<u8>], limit: &Limit) -> Result<Player, String> {
+    let session = identification(&headers[0])
+        .map_err(|refusal| format!("packet 0, the identification header: {refusal}"))?;
+    let table =
+        setup(&headers[2]).map_err(|refusal| format!("packet 2, the setup header: {refusal}"))?;
+    match limit.excess(&session) {
+        Ok(None) => Player::new(session, table).map_err(|why| why.to_string()),
+        Ok(Some(text)) => Err(text),
+        Err(refusal) => Err(refusal.to_string()),
+    }
+}
+
+/// Why a recording gives nothing at all, if it does not.
+fn why_nothing(summary: &Summary, choice: Choice) -> Option<String> {
+    match &summary.streams[..] {
+        [] => Some(no_stream(summary, choice)),
+        [only] if only.frames() == 0 => only.stop.clone(),
+        _ => None,
+    }
+}
+
+/// No stream is read: what there is.
+fn no_stream(summary: &Summary, choice: Choice) -> String {
+    let what = match choice {
+        Choice::One(number) => format!("there is no Theora stream {number}"),
+        _ => "there is no Theora stream".to_string(),
+    };
+    let others = summary.others.iter().chain(&summary.left);
+    let others: Vec<&str> = others.map(String::as_str).collect();
+    match others[..] {
+        [] => what,
+        _ => format!("{what}; there is {}", others.join(", ")),
     }
 }
 
 #[cfg(test)]
-mod tests {
-    use super::*;
-    use crate::sample;
-    use recording::packet_file;
-
-    /// The sample with some packets changed.
-    fn changed(change: impl Fn(&mut Vec<Vec<u8>>)) -> Vec<u8> {
-        let mut packets = sample::packets();
-        change(&mut packets);
-        packet_file::write(&packets)
-    }
-
-    fn decoded(recording: &[u8]) -> Result<Summary, Stop> {
-        let packets = Packets::new(recording).unwrap();
-        decode_packets(packets, &[], &mut Progress::new(false, 0))
-    }
-
-    #[test]
-    fn the_sample_is_decoded() {
-        let summary = decoded(&changed(|_| ())).unwrap();
-        assert!(summary.is_clean());
-        let text = summary.to_string();
-        assert_eq!(
-            text,
-            "7 frames (1 intra, 5 inter, 1 repeat), packets refused: 0\n"
-        );
-    }
-
-    #[test]
-    fn an_ogg_file_is_decoded() {
-        let file = sample::ogg_file().unwrap();
-        let whole = decoded(&changed(|_| ())).unwrap();
-        assert_eq!(decoded(&file).unwrap(), whole);
-        assert!(!decoded(&file[..file.len() - 1]).unwrap().is_clean());
-    }
-
-    #[test]
-    fn refused_packets_are_counted_and_passed_over() {
-        let file = changed(|packets| {
-            packets[3].clear();
-            packets.insert(4, vec![0x80]);
-            packets.insert(5, sample::packets()[3].clone());
-        });
-        let summary = decoded(&file).unwrap();
-        assert!(!summary.is_clean());
-        let text = summary.to_string();
-        assert!(text.starts_with("7 frames (1 intra,"), "{text}");
-        assert!(text.contains("packets refused: 2\n"), "{text}");
-        assert!(text.contains("1 by refusal 9: "), "{text}");
-        assert!(text.contains("1 by refusal 10: "), "{text}");
-    }
-
-    #[test]
-    fn a_cut_recording_is_decoded_as_far_as_it_goes() {
-        let mut file = changed(|_| ());
-        file.pop();
-        let summary = decoded(&file).unwrap();
-        assert!(!summary.is_clean());
-        let text = summary.to_string();
-        assert!(text.starts_with("6 frames"), "{text}");
-        assert!(text.contains("cut short"), "{text}");
-    }
-
-    #[test]
-    fn headers_are_refused() {
-        let stop = |file: Vec<u8>| decoded(&file).unwrap_err().to_string();
-        let cut = stop(changed(|packets| packets[0].truncate(10)));
-        assert!(cut.contains("identification header: refusal 4"), "{cut}");
-        let other = stop(changed(|packets| packets.swap(1, 2)));
-        assert!(other.contains("setup header: refusal 2"), "{other}");
-        let short = stop(changed(|packets| packets.truncate(2)));
-        assert!(short.contains("before its first frame"), "{short}");
-    }
-}
+mod tests;

@@ -1,145 +1,411 @@
-//! `wedgepetal info`: what a recording's identification header says.
+//! `wedgepetal info`: what a recording is, and whether it is whole.
 
 use crate::Failure;
-use crate::report::report;
-use recording::{Fault, Packets};
-use std::fmt;
-use std::io::{BufReader, Read};
-use std::path::Path;
-use wedgepetal::{Refusal, identification};
+use crate::clock::Clock;
+use crate::fields;
+use crate::input::Input;
+use crate::json::Json;
+use crate::left;
+use crate::memory::counted;
+use recording::kind::Kind;
+use recording::part::{End, Gap, Packet, Part, Stream};
+use recording::{Choice, Parts};
+use std::fmt::Write;
+use wedgepetal::{Player, Refusal, Session, Sizes, WorkLengths, identification, setup};
 
-/// How many bytes of a packet's file are read. An identification header has
-/// 42, and what follows them is ignored.
-const PACKET_BYTES: u64 = 4096;
-
-/// Describes the identification header in a file.
-pub fn of_packet(path: &Path) -> Result<String, Failure> {
-    let mut packet = Vec::new();
-    crate::open(path)?
-        .take(PACKET_BYTES)
-        .read_to_end(&mut packet)
-        .map_err(|error| Failure::file(path, error))?;
-    let text = describe(&packet).map_err(|refusal| Failure::refused(path, refusal))?;
-    Ok(format!("{}\n{text}", path.display()))
+/// What a recording is.
+pub struct Info {
+    kind: Kind,
+    bytes: u64,
+    streams: Vec<StreamInfo>,
+    /// What its other streams hold.
+    others: Vec<String>,
+    /// What is damaged.
+    faults: Vec<String>,
 }
 
-/// Describes the first Theora stream of a recording.
-pub fn of_recording(path: &Path) -> Result<String, Failure> {
-    let (name, packet) =
-        first_packet(BufReader::new(crate::open(path)?)).map_err(|why| why.failure(path))?;
-    let text = describe(&packet)
-        .map_err(|refusal| Failure::refused(path, format!("{name}: {refusal}")))?;
-    Ok(format!("{}: {name}\n{text}", path.display()))
+/// What a Theora stream is.
+struct StreamInfo {
+    stream: Stream,
+    /// Its fields, sizes and memory, or why the header is refused.
+    header: Result<Header, Refusal>,
+    /// Why the setup header is refused.
+    setup: Option<Refusal>,
+    /// How many packets there are, headers included.
+    packets: u64,
+    gaps: Vec<Gap>,
+    end: Option<End>,
+    /// The position of the first frame packet.
+    first: Option<u64>,
+    /// The position behind the last.
+    clock: Option<Clock>,
 }
 
-/// Why a recording gives no identification header.
-#[derive(Debug)]
-enum NoHeader {
-    /// It is at fault.
-    Recording(Fault),
-    /// None of its streams, so many, is Theora.
-    OtherStreams(u64),
-    /// It has no packet.
-    Empty,
+/// What an identification header says, and what follows from it.
+struct Header {
+    session: Session,
+    sizes: Sizes,
+    lengths: WorkLengths,
+    memory: u64,
 }
 
-impl NoHeader {
-    /// The failure of the command on this recording.
-    fn failure(&self, path: &Path) -> Failure {
-        match self {
-            NoHeader::Recording(fault) if fault.is_read_error() => Failure::file(path, fault),
-            _ => Failure::refused(path, self),
-        }
+impl Header {
+    fn read(packet: &[u8]) -> Result<Header, Refusal> {
+        let session = identification(packet)?;
+        Ok(Header {
+            sizes: session.sizes()?,
+            lengths: session.work_lengths()?,
+            memory: Player::memory(&session)?,
+            session,
+        })
     }
 }
 
-impl fmt::Display for NoHeader {
-    fn fmt(&self, f: &mut fmt::Formatter<'_>) -> fmt::Result {
-        match self {
-            NoHeader::Recording(fault) => write!(f, "{fault}"),
-            NoHeader::OtherStreams(streams) => {
-                let refusal = Refusal::NOT_THIS_HEADER;
-                write!(f, "no Theora among its streams ({streams}): {refusal}")
+/// Reads a recording to its end. No frame is decoded.
+pub fn read(input: Input) -> Result<Info, Failure> {
+    let Input {
+        name,
+        reader,
+        mut progress,
+    } = input;
+    let failed = |fault| Failure::of_fault(&name, &fault);
+    let parts = Parts::new(reader, Choice::All).map_err(failed)?;
+    let mut info = Info {
+        kind: parts.kind(),
+        bytes: 0,
+        streams: Vec::new(),
+        others: Vec::new(),
+        faults: Vec::new(),
+    };
+    for (number, part) in (0..).zip(parts) {
+        info.take(part.map_err(failed)?);
+        progress.packet(number);
+    }
+    progress.clear();
+    info.bytes = progress.bytes().get();
+    Ok(info)
+}
+
+impl Info {
+    /// Takes a part of the recording.
+    fn take(&mut self, part: Part) {
+        match part {
+            Part::Begin(stream) => self.streams.push(StreamInfo::new(stream)),
+            Part::Packet(packet) => {
+                if let Some(stream) = self.stream(packet.stream) {
+                    stream.packet(&packet);
+                }
             }
-            NoHeader::Empty => write!(f, "it holds no packet"),
+            Part::Gap(gap) => {
+                if let Some(stream) = self.stream(gap.stream) {
+                    stream.gaps.push(gap);
+                }
+            }
+            Part::End { stream, end } => {
+                if let Some(stream) = self.stream(stream) {
+                    stream.end = Some(end);
+                }
+            }
+            Part::Other { serial, holds } => {
+                self.others.push(format!("{holds} (serial {serial})"));
+            }
+            part => self.faults.extend(left::unread(&part)),
         }
     }
-}
 
-/// The first packet of a recording's Theora stream, and which stream it is.
-fn first_packet(recording: impl Read) -> Result<(String, Vec<u8>), NoHeader> {
-    let mut packets = Packets::new(recording).map_err(NoHeader::Recording)?;
-    let packet = packets.next().transpose().map_err(NoHeader::Recording)?;
-    match packets {
-        Packets::Ogg(stream) => match (stream.serial(), packet) {
-            (Some(serial), Some(packet)) => Ok((format!("stream {serial}"), packet)),
-            _ => Err(NoHeader::OtherStreams(stream.others())),
-        },
-        Packets::PacketFile(_) => match packet {
-            Some(packet) => Ok(("packet file".to_string(), packet)),
-            None => Err(NoHeader::Empty),
-        },
+    /// The stream with this number.
+    fn stream(&mut self, number: u64) -> Option<&mut StreamInfo> {
+        self.streams
+            .iter_mut()
+            .find(|stream| stream.stream.number == number)
+    }
+
+    /// Whether the recording is whole, and there is a stream to decode.
+    pub fn is_clean(&self) -> bool {
+        self.faults.is_empty()
+            && !self.streams.is_empty()
+            && self
+                .streams
+                .iter()
+                .all(|stream| stream.faults(self.kind).is_empty())
+    }
+
+    /// All that is wrong, one line each, of a recording of this name.
+    pub fn faults(&self, name: &str) -> String {
+        let mut lines: Vec<String> = self.faults.clone();
+        if self.streams.is_empty() {
+            lines.push("there is no Theora stream".to_string());
+        }
+        for stream in &self.streams {
+            let number = stream.stream.number;
+            let faults = stream.faults(self.kind);
+            lines.extend(
+                faults
+                    .iter()
+                    .map(|fault| format!("stream {number}: {fault}")),
+            );
+        }
+        lines
+            .iter()
+            .map(|line| format!("{name}: {line}\n"))
+            .collect()
+    }
+
+    /// A dozen lines for a person, of a recording of this name; with all fields
+    /// if they are wanted.
+    pub fn text(&self, name: &str, fields: bool) -> String {
+        let kind = match self.kind {
+            Kind::Ogg => "Ogg file",
+            Kind::PacketFile => "packet file",
+            Kind::Header => "identification header alone",
+        };
+        let mut text = format!("{name}: {kind}, {}\n", counted(self.bytes));
+        for stream in &self.streams {
+            text += &stream.text(fields);
+        }
+        for other in &self.others {
+            text += &format!("beside it: {other}\n");
+        }
+        match &self.faults(name)[..] {
+            "" if self.kind == Kind::Header => {}
+            "" => text += "whole: nothing is missing or damaged\n",
+            faults => text += faults,
+        }
+        text
+    }
+
+    /// All of it as JSON.
+    pub fn json(&self, name: &str) -> Json {
+        let streams = self.streams.iter().map(|stream| stream.json(self.kind));
+        Json::Object(vec![
+            ("recording", Json::text(name)),
+            ("bytes", Json::Number(self.bytes)),
+            ("clean", Json::Bool(self.is_clean())),
+            ("streams", Json::List(streams.collect())),
+            ("others", Json::texts(&self.others)),
+            ("faults", Json::texts(&self.faults)),
+        ])
     }
 }
 
-/// The fields and sizes of an identification header as text.
-fn describe(packet: &[u8]) -> Result<String, Refusal> {
-    let session = identification(packet)?;
-    let sizes = session.sizes()?;
-    let lengths = session.work_lengths()?;
-    Ok(report(&session, &sizes, &lengths))
+impl StreamInfo {
+    fn new(stream: Stream) -> StreamInfo {
+        StreamInfo {
+            stream,
+            header: Err(Refusal::PACKET_END),
+            setup: None,
+            packets: 0,
+            gaps: Vec::new(),
+            end: None,
+            first: None,
+            clock: None,
+        }
+    }
+
+    /// The next packet.
+    fn packet(&mut self, packet: &Packet) {
+        match self.packets {
+            0 => {
+                self.header = Header::read(&packet.bytes);
+                let header = self.header.as_ref().ok();
+                self.clock = header.map(|header| Clock::of(&header.session));
+            }
+            1 => {}
+            2 => self.setup = setup(&packet.bytes).err(),
+            _ => {
+                if let Some(clock) = &mut self.clock {
+                    let position = clock.tick(packet.granule);
+                    self.first.get_or_insert(position);
+                }
+            }
+        }
+        self.packets += 1;
+    }
+
+    /// How many frame packets there are.
+    fn frames(&self) -> u64 {
+        self.packets.saturating_sub(3)
+    }
+
+    /// What is wrong with it, in a recording of this kind.
+    fn faults(&self, kind: Kind) -> Vec<String> {
+        let mut faults = Vec::new();
+        if let Err(refusal) = &self.header {
+            faults.push(format!("identification header: {refusal}"));
+        }
+        if let Some(refusal) = self.setup {
+            faults.push(format!("setup header: {refusal}"));
+        }
+        if self.packets < 3 && kind != Kind::Header {
+            faults.push("it ends before its first frame".to_string());
+        }
+        faults.extend(self.gaps.iter().map(Gap::to_string));
+        let end = self.end.iter().filter(|end| **end != End::Whole);
+        faults.extend(end.map(End::to_string));
+        faults
+    }
+
+    /// The lines of a stream.
+    fn text(&self, fields: bool) -> String {
+        let name = left::named(&self.stream);
+        let Ok(header) = &self.header else {
+            return format!("{name}: not decodable\n");
+        };
+        let mut text = format!("{name}: Theora 3.2.{}\n", header.session.vrev);
+        if fields {
+            text += &fields::report(&header.session, &header.sizes, &header.lengths);
+            return text;
+        }
+        // Writing to a string does not fail.
+        let _ = header.write(&mut text);
+        if self.packets >= 3 {
+            let _ = writeln!(text, "  length    {}", self.length());
+        }
+        text
+    }
+
+    /// How many frames there are, and how long they last.
+    fn length(&self) -> String {
+        let frames = self.frames();
+        match (self.first, &self.clock) {
+            (Some(0), Some(clock)) => format!("{frames} frames, {:.3} s", clock.time(clock.next())),
+            (Some(first), Some(clock)) => {
+                let (from, to) = (clock.time(first), clock.time(clock.next()));
+                format!("{frames} frames, from {from:.3} s to {to:.3} s")
+            }
+            _ => format!("{frames} frames"),
+        }
+    }
+
+    fn json(&self, kind: Kind) -> Json {
+        let mut all = vec![
+            ("stream", Json::Number(self.stream.number)),
+            ("serial", Json::maybe(self.stream.serial.map(u64::from))),
+            ("frames", Json::Number(self.frames())),
+        ];
+        if let Some(clock) = &self.clock {
+            let end = clock.time(clock.next());
+            all.push(("end_s", Json::Decimal(end.to_string())));
+        }
+        if let Ok(header) = &self.header {
+            all.extend([
+                ("fields", fields::json(&header.session)),
+                ("sizes", fields::sizes_json(&header.sizes)),
+                ("memory", Json::Number(header.memory)),
+            ]);
+        }
+        all.push(("faults", Json::texts(&self.faults(kind))));
+        Json::Object(all)
+    }
+}
+
+impl Header {
+    /// The lines that a person wants first.
+    fn write(&self, out: &mut String) -> std::fmt::Result {
+        let s = &self.session;
+        let format = match s.pf {
+            0 => "4:2:0",
+            2 => "4:2:2",
+            _ => "4:4:4",
+        };
+        let size = |plane: usize| {
+            let plane = &self.sizes.planes[plane];
+            format!("{} x {}", 8 * plane.blocks_across, 8 * plane.blocks_up)
+        };
+        writeln!(
+            out,
+            "  picture   {} x {} samples{}",
+            s.picw,
+            s.pich,
+            aspect(s)
+        )?;
+        writeln!(
+            out,
+            "  planes    Y' {}, Cb and Cr {} ({format}), 8 bits a sample",
+            size(0),
+            size(1)
+        )?;
+        let rate = s.frn as f64 / s.frd as f64;
+        writeln!(
+            out,
+            "  rate      {rate:.3} frames a second ({}/{})",
+            s.frn, s.frd
+        )?;
+        writeln!(out, "  colours   {}", fields::colour_space(s.cs))?;
+        writeln!(out, "  memory    {} to decode it", counted(self.memory))
+    }
+}
+
+/// The aspect ratio of a sample, if it is known and not 1.
+fn aspect(session: &Session) -> String {
+    match (session.parn, session.pard) {
+        (0, _) | (_, 0) => String::new(),
+        (across, up) if across == up => String::new(),
+        (across, up) => format!(", each {across}:{up} wide"),
+    }
 }
 
 #[cfg(test)]
 mod tests {
     use super::*;
+    use crate::progress::Progress;
     use crate::sample;
     use recording::{ogg, packet_file};
 
-    /// An Ogg file of the sample's identification header alone.
-    fn short_ogg_file() -> Vec<u8> {
-        ogg::write(3, &[(sample::identification_header(), 0)]).unwrap()
+    /// What a recording is.
+    fn info(recording: Vec<u8>) -> Result<Info, Failure> {
+        read(Input {
+            name: "x".to_string(),
+            reader: Box::new(std::io::Cursor::new(recording)),
+            progress: Progress::new(true, None),
+        })
     }
 
-    #[test]
-    fn the_sample_is_described() {
-        let text = describe(&sample::identification_header()).unwrap();
-        assert!(text.contains("blocks (NBS)          1800\n"));
-        assert!(text.contains("bytes of a buffer     115200\n"));
-        assert!(text.contains("plane Cr: 20 by 15 blocks, 19200 bytes at 96000\n"));
-        assert!(text.contains("work memory           275940\n"), "{text}");
-    }
-
-    #[test]
-    fn the_header_of_an_ogg_file() {
-        let (name, packet) = first_packet(&short_ogg_file()[..]).unwrap();
-        assert_eq!(name, "stream 3");
-        assert_eq!(packet, sample::identification_header());
-    }
-
-    #[test]
-    fn the_header_of_a_packet_file() {
-        let file = packet_file::write(&[sample::identification_header()]);
-        let (name, packet) = first_packet(&file[..]).unwrap();
-        assert_eq!(name, "packet file");
-        assert_eq!(packet, sample::identification_header());
-        assert!(matches!(first_packet(&b""[..]), Err(NoHeader::Empty)));
-    }
-
-    #[test]
-    fn cut_ogg_files_are_refused() {
-        let file = short_ogg_file();
-        for length in 0..file.len() {
-            assert!(first_packet(&file[..length]).is_err());
+    /// The lines of a recording that is one.
+    fn text(recording: Vec<u8>) -> String {
+        match info(recording) {
+            Ok(info) => info.text("x", false),
+            Err(_) => panic!("this is a recording"),
         }
     }
 
     #[test]
-    fn cut_headers_are_refused() {
-        for length in 0..42 {
-            assert_eq!(
-                describe(&sample::identification_header()[..length]),
-                Err(Refusal::PACKET_END)
+    fn the_sample_is_described() {
+        let text = text(packet_file::write(&sample::packets()));
+        assert!(text.contains("  picture   320 x 232 samples\n"), "{text}");
+        assert!(
+            text.contains("  planes    Y' 320 x 240, Cb and Cr 160 x 120 (4:2:0)"),
+            "{text}"
+        );
+        assert!(
+            text.contains("  rate      25.000 frames a second (25/1)\n"),
+            "{text}"
+        );
+        assert!(text.contains("  length    7 frames, 0.280 s\n"), "{text}");
+        assert!(
+            text.contains("  memory    649.7 kB to decode it\n"),
+            "{text}"
+        );
+        assert!(
+            text.ends_with("whole: nothing is missing or damaged\n"),
+            "{text}"
+        );
+    }
+
+    #[test]
+    fn a_header_alone_is_described() {
+        let header = sample::identification_header();
+        let text = text(header.clone());
+        assert!(
+            text.starts_with("x: identification header alone, 0 bytes\nstream 1: Theora 3.2.1\n"),
+            "{text}"
+        );
+        for length in 7..42 {
+            let info = info(header[..length].to_vec()).unwrap_or_else(|_| panic!("{length}"));
+            assert!(!info.is_clean());
+            assert!(
+                info.faults("x")
+                    .contains("identification header: refusal 4")
             );
         }
     }
@@ -147,7 +413,25 @@ mod tests {
     #[test]
     fn other_ogg_streams_are_no_theora() {
         let file = ogg::write(3, &[(b"\x01vorbis".to_vec(), 0)]).unwrap();
-        let text = first_packet(&file[..]).unwrap_err().to_string();
-        assert!(text.contains("refusal 2"), "{text}");
+        let text = text(file);
+        assert!(
+            text.contains("beside it: Vorbis sound (serial 3)\n"),
+            "{text}"
+        );
+        assert!(text.contains("x: there is no Theora stream\n"), "{text}");
+    }
+
+    #[test]
+    fn ogg_files_that_are_cut_or_stop_early_are_not_clean() {
+        let file = sample::ogg_file().unwrap();
+        assert!(info(file.clone()).is_ok_and(|info| info.is_clean()));
+        for length in (4..file.len()).step_by(97) {
+            assert!(
+                info(file[..length].to_vec()).is_ok_and(|info| !info.is_clean()),
+                "{length}"
+            );
+        }
+        let short = ogg::write(3, &[(sample::identification_header(), 0)]).unwrap();
+        assert!(text(short).contains("stream 1: it ends before its first frame"));
     }
 }

@@ -3,97 +3,157 @@
 
 pub mod bit_writer;
 pub mod hash;
+pub mod kind;
 mod libogg;
 pub mod ogg;
 pub mod packet_file;
+pub mod part;
 
-use ogg::TheoraPackets;
+use kind::{Kind, LOOKED_AT};
+use part::{End, Part};
+use std::error::Error;
 use std::fmt;
-use std::io::{Chain, Cursor, Read};
+use std::io::{self, Chain, Cursor, Read};
 
-/// Why a recording gives no packets.
+/// Why a recording gives nothing more.
 #[derive(Debug)]
 pub enum Fault {
-    /// Its pages are at fault.
-    Ogg(ogg::Fault),
-    /// The packet file is at fault.
-    PacketFile(packet_file::Fault),
+    /// Why libogg cannot be had.
+    NoLibrary(String),
+    /// It could not be read.
+    Read(io::Error),
+    /// It is no recording, but this.
+    NoRecording(&'static str),
+    /// It is damaged, and all of it is wanted.
+    Damaged(String),
 }
 
 impl fmt::Display for Fault {
     fn fmt(&self, f: &mut fmt::Formatter<'_>) -> fmt::Result {
         match self {
-            Fault::Ogg(fault) => write!(f, "{fault}"),
-            Fault::PacketFile(fault) => write!(f, "{fault}"),
+            Fault::NoLibrary(why) => write!(f, "{why}"),
+            Fault::Read(error) => write!(f, "cannot be read: {error}"),
+            Fault::NoRecording(what) => write!(f, "no Ogg file and no packet file, but {what}"),
+            Fault::Damaged(text) => write!(f, "{text}"),
         }
     }
 }
 
+impl Error for Fault {}
+
 impl Fault {
-    /// Whether the recording could not be read, rather than being damaged.
+    /// Whether the recording could not be read, rather than being refused.
     pub fn is_read_error(&self) -> bool {
-        matches!(
-            self,
-            Fault::Ogg(ogg::Fault::Read(_) | ogg::Fault::NoLibrary(_))
-                | Fault::PacketFile(packet_file::Fault::Read(_))
-        )
+        matches!(self, Fault::Read(_) | Fault::NoLibrary(_))
     }
+}
+
+/// Which Theora streams of a recording are read.
+#[derive(Clone, Copy, Debug, PartialEq, Eq)]
+pub enum Choice {
+    /// The first, and each that begins behind the end of the one before.
+    Joined,
+    /// The one with this number.
+    One(u64),
+    /// All.
+    All,
 }
 
 /// A recording whose first bytes were looked at.
 type Begun<R> = Chain<Cursor<Vec<u8>>, R>;
 
-/// Gives the packets of a recording's Theora stream, one by one. After a fault
-/// there are no more.
-pub enum Packets<R> {
+/// Gives the parts of a recording, one by one. After a fault there are no more.
+pub enum Parts<R> {
     /// Those of an Ogg file.
-    Ogg(TheoraPackets<Begun<R>>),
+    Ogg(Box<ogg::Parts<Begun<R>>>),
     /// Those of a packet file.
-    PacketFile(packet_file::Packets<Begun<R>>),
+    PacketFile(packet_file::Parts<Begun<R>>),
+    /// An identification header alone, which is the only packet.
+    Header(packet_file::Parts<Cursor<Vec<u8>>>),
 }
 
-impl<R: Read> Packets<R> {
-    /// Reads a recording from its beginning. One that begins with "OggS" is an
-    /// Ogg file, any other a packet file.
+/// How many bytes of a header alone are read. It has 42, and what follows them
+/// is ignored.
+const HEADER_BYTES: u64 = 4096;
+
+impl<R: Read> Parts<R> {
+    /// Reads a recording from its beginning.
     ///
     /// # Errors
     ///
-    /// The recording cannot be read, or it is an Ogg file and libogg cannot be
-    /// had.
-    pub fn new(mut recording: R) -> Result<Packets<R>, Fault> {
+    /// The recording cannot be read or is none, or it is an Ogg file and libogg
+    /// cannot be had.
+    pub fn new(mut recording: R, choice: Choice) -> Result<Parts<R>, Fault> {
         let mut first = Vec::new();
-        recording
-            .by_ref()
-            .take(4)
-            .read_to_end(&mut first)
-            .map_err(|error| Fault::Ogg(ogg::Fault::Read(error)))?;
-        let is_ogg = first == b"OggS";
+        let mut beginning = recording.by_ref().take(LOOKED_AT as u64);
+        beginning.read_to_end(&mut first).map_err(Fault::Read)?;
+        let kind = kind::kind(&first).map_err(Fault::NoRecording)?;
         let begun = Cursor::new(first).chain(recording);
-        Ok(match is_ogg {
-            true => Packets::Ogg(TheoraPackets::new(begun).map_err(Fault::Ogg)?),
-            false => Packets::PacketFile(packet_file::Packets::new(begun)),
+        Ok(match kind {
+            Kind::Ogg => Parts::Ogg(Box::new(ogg::Parts::new(begun, choice)?)),
+            Kind::PacketFile => Parts::PacketFile(packet_file::Parts::new(begun, choice)),
+            Kind::Header => {
+                let mut header = Vec::new();
+                let mut all = begun.take(HEADER_BYTES);
+                all.read_to_end(&mut header).map_err(Fault::Read)?;
+                let file = Cursor::new(packet_file::write(&[header]));
+                Parts::Header(packet_file::Parts::new(file, choice))
+            }
         })
     }
-}
 
-impl<R: Read> Iterator for Packets<R> {
-    type Item = Result<Vec<u8>, Fault>;
-
-    fn next(&mut self) -> Option<Self::Item> {
+    /// What kind of recording it is.
+    pub fn kind(&self) -> Kind {
         match self {
-            Packets::Ogg(packets) => Some(packets.next()?.map_err(Fault::Ogg)),
-            Packets::PacketFile(packets) => Some(packets.next()?.map_err(Fault::PacketFile)),
+            Parts::Ogg(_) => Kind::Ogg,
+            Parts::PacketFile(_) => Kind::PacketFile,
+            Parts::Header(_) => Kind::Header,
         }
     }
 }
 
-/// All packets of a recording's Theora stream.
+impl<R: Read> Iterator for Parts<R> {
+    type Item = Result<Part, Fault>;
+
+    fn next(&mut self) -> Option<Self::Item> {
+        match self {
+            Parts::Ogg(parts) => parts.next(),
+            Parts::PacketFile(parts) => parts.next(),
+            Parts::Header(parts) => parts.next(),
+        }
+    }
+}
+
+/// All packets of a recording's first Theora stream.
 ///
 /// # Errors
 ///
-/// The first fault of the recording.
+/// The recording is none, is damaged, or has a second Theora stream.
 pub fn packets(recording: impl Read) -> Result<Vec<Vec<u8>>, Fault> {
-    Packets::new(recording)?.collect()
+    let mut packets = Vec::new();
+    for part in Parts::new(recording, Choice::Joined)? {
+        match part? {
+            Part::Packet(packet) => packets.push(packet.bytes),
+            Part::Gap(gap) => return Err(Fault::Damaged(gap.to_string())),
+            Part::NoPage(bytes) => {
+                let text = format!(
+                    "bytes {} to {} are no whole page",
+                    bytes.start,
+                    bytes.end - 1
+                );
+                return Err(Fault::Damaged(text));
+            }
+            Part::End {
+                end: end @ End::InPacket(_),
+                ..
+            } => return Err(Fault::Damaged(end.to_string())),
+            Part::Begin(stream) | Part::Beside(stream) if stream.number > 1 => {
+                return Err(Fault::Damaged("it has a second Theora stream".to_string()));
+            }
+            _ => {}
+        }
+    }
+    Ok(packets)
 }
 
 #[cfg(test)]
@@ -105,15 +165,28 @@ mod tests {
         let wanted = [b"\x80theora".to_vec()];
         let file = ogg::write(1, &[(wanted[0].clone(), 0)]).unwrap();
         assert_eq!(packets(&file[..]).unwrap(), wanted);
+        let twice = [&file[..], &file].concat();
+        assert!(packets(&twice[..]).is_err());
     }
 
     #[test]
     fn packet_files_are_read() {
-        let wanted = [b"\x80theora".to_vec()];
+        let wanted = [b"\x80theora".to_vec(), Vec::new()];
         let file = packet_file::write(&wanted);
         assert_eq!(packets(&file[..]).unwrap(), wanted);
-        assert!(packets(&b"RIFF"[..]).is_err());
-        assert!(packets(&b""[..]).unwrap().is_empty());
-        assert!(!packets(&b"Og"[..]).unwrap_err().is_read_error());
+        assert!(packets(&file[..file.len() - 1]).is_err());
+    }
+
+    #[test]
+    fn a_header_alone_is_one_packet() {
+        assert_eq!(packets(&b"\x80theora"[..]).unwrap(), [b"\x80theora"]);
+    }
+
+    #[test]
+    fn other_files_are_none() {
+        for file in [&b"RIFF"[..], b"", b"Og"] {
+            let fault = packets(file).unwrap_err();
+            assert!(matches!(fault, Fault::NoRecording(_)) && !fault.is_read_error());
+        }
     }
 }

@@ -102,8 +102,12 @@ functions! {
     ogg_page_eos(*const RawPage) -> c_int;
     ogg_page_continued(*const RawPage) -> c_int;
     ogg_page_serialno(*const RawPage) -> c_int;
+    ogg_page_version(*const RawPage) -> c_int;
+    ogg_page_pageno(*const RawPage) -> c_long;
+    ogg_page_granulepos(*const RawPage) -> i64;
     ogg_stream_init(*mut StreamState, c_int) -> c_int;
     ogg_stream_clear(*mut StreamState) -> c_int;
+    ogg_stream_reset(*mut StreamState) -> c_int;
     ogg_stream_pagein(*mut StreamState, *mut RawPage) -> c_int;
     ogg_stream_packetout(*mut StreamState, *mut RawPacket) -> c_int;
     ogg_stream_packetin(*mut StreamState, *mut RawPacket) -> c_int;
@@ -189,7 +193,7 @@ impl Page {
     }
 
     /// Asks libogg for something that the header says.
-    fn ask(&self, function: unsafe extern "C" fn(*const RawPage) -> c_int) -> c_int {
+    fn ask<T>(&self, function: unsafe extern "C" fn(*const RawPage) -> T) -> T {
         // SAFETY: libogg gave this header, so that it is whole.
         unsafe { function(&self.raw()) }
     }
@@ -214,9 +218,26 @@ impl Page {
         self.ask(self.functions.ogg_page_serialno) as u32
     }
 
-    /// The lengths of its segments. One below 255 ends a packet.
-    pub fn lacing(&self) -> &[u8] {
-        &self.header[27..]
+    /// Its number in its stream.
+    pub fn number(&self) -> u32 {
+        self.ask(self.functions.ogg_page_pageno) as u32
+    }
+
+    /// The version of its form. libogg takes version 0 alone.
+    pub fn version(&self) -> c_int {
+        self.ask(self.functions.ogg_page_version)
+    }
+
+    /// The granule position of the last packet that ends on it, if one does.
+    pub fn granule(&self) -> Option<u64> {
+        u64::try_from(self.ask(self.functions.ogg_page_granulepos)).ok()
+    }
+
+    /// Whether its last packet goes on in the next page; none if no packet
+    /// touches it.
+    pub fn is_open(&self) -> Option<bool> {
+        let lacing = &self.header[27..];
+        Some(*lacing.last()? == 255)
     }
 
     /// The bytes of its packets.
@@ -239,8 +260,8 @@ impl Page {
 pub enum Next {
     /// A whole page with a right checksum.
     Page(Page),
-    /// Something else.
-    NoPage,
+    /// Something else, for so many bytes.
+    NoPage(u64),
     /// This cannot be said before more bytes come.
     Open,
 }
@@ -278,7 +299,7 @@ impl PageFinder {
         }
     }
 
-    /// What stands next. A page is passed over with this.
+    /// What stands next. It is passed over with this.
     pub fn next(&mut self) -> Next {
         let mut raw = RawPage::none();
         // SAFETY: the state was made by libogg. A positive answer says that it
@@ -287,7 +308,7 @@ impl PageFinder {
             match (self.functions.ogg_sync_pageseek)(&mut self.state, &mut raw) {
                 0 => Next::Open,
                 1.. => Next::Page(Page::copy(self.functions, &raw)),
-                _ => Next::NoPage,
+                skipped => Next::NoPage(skipped.unsigned_abs()),
             }
         }
     }
@@ -325,16 +346,6 @@ impl Drop for Stream {
     }
 }
 
-/// What a stream gives next.
-pub enum Given {
-    /// A packet.
-    Packet(Vec<u8>),
-    /// Nothing, since a page is missing before the one taken last.
-    Gap,
-    /// Nothing before another page is taken.
-    Open,
-}
-
 /// Finds the packets in the pages of a logical stream.
 pub struct PacketFinder(Stream);
 
@@ -348,25 +359,34 @@ impl PacketFinder {
         Stream::new(serial).map(PacketFinder)
     }
 
-    /// Takes a page in; says whether libogg takes it. It takes no page of
-    /// another stream and none of another version.
-    pub fn take(&mut self, page: &Page) -> bool {
+    /// Takes in a page of this stream and of version 0; gives the packets that
+    /// end on it.
+    pub fn take(&mut self, page: &Page) -> Vec<Vec<u8>> {
         let Stream { functions, state } = &mut self.0;
         // SAFETY: libogg made the state and gave the page; it copies the page.
-        unsafe { (functions.ogg_stream_pagein)(&mut **state, &mut page.raw()) == 0 }
+        let taken = unsafe { (functions.ogg_stream_pagein)(&mut **state, &mut page.raw()) };
+        assert!(taken == 0, "no memory for a page");
+        std::iter::from_fn(|| self.packet()).collect()
     }
 
-    /// What the pages taken so far give next.
-    pub fn next(&mut self) -> Given {
+    /// Forgets the pages taken so far, and a packet that is not whole. The next
+    /// page may have any number; a packet that goes on in it is left out.
+    pub fn forget(&mut self) {
+        let Stream { functions, state } = &mut self.0;
+        // SAFETY: libogg made the state.
+        unsafe { (functions.ogg_stream_reset)(&mut **state) };
+    }
+
+    /// The next packet of the pages taken so far.
+    fn packet(&mut self) -> Option<Vec<u8>> {
         let Stream { functions, state } = &mut self.0;
         let mut raw = raw_packet(&[], 0, false);
         // SAFETY: libogg made the state. The answer 1 says that it wrote a
         // packet, whose bytes stay where they are until the next call.
         unsafe {
             match (functions.ogg_stream_packetout)(&mut **state, &mut raw) {
-                0 => Given::Open,
-                1 => Given::Packet(copy(raw.packet, raw.bytes)),
-                _ => Given::Gap,
+                1 => Some(copy(raw.packet, raw.bytes)),
+                _ => None,
             }
         }
     }

@@ -1,83 +1,84 @@
 //! The `wedgepetal` command.
 
+mod arguments;
+mod clock;
 mod decode;
+mod fields;
+mod index;
 mod info;
+mod input;
+mod interrupt;
+mod json;
+mod layout;
+mod left;
+mod memory;
 mod output;
+mod packets;
+mod png;
 mod progress;
-mod report;
 mod sample;
+mod summary;
+mod target;
 mod y4m;
 
-use output::{OPTIONS, Wanted, write_file};
-use recording::packet_file;
+use arguments::{Job, Wanted};
+use decode::{AfterGap, Request};
+use index::Index;
+use input::{Input, is_same_file};
+use memory::Limit;
+use output::{Folder, Output, Trouble};
+use recording::{Choice, Fault, packet_file};
 use std::ffi::OsString;
 use std::fmt::Display;
-use std::fs::File;
-use std::io::{self, BufReader, ErrorKind, Write};
+use std::io::{self, ErrorKind, Write};
 use std::path::Path;
 use std::process::ExitCode;
-
-const USAGE: &str = "\
-usage:
-  wedgepetal info RECORDING        what the recording's identification header says
-  wedgepetal info --packet FILE    the same of a file that holds the header alone
-  wedgepetal decode RECORDING [--hashes FILE] [--planes DIR] [--y4m FILE] [--progress]
-                                   decodes all frames. Each refused packet is said,
-                                   with its number from 0, and passed over
-      --hashes FILE                a line for each packet: its number, the frame's
-                                   kind, its qi list, the FNV-1a hash of its planes
-      --planes DIR                 a file for each frame: its three planes, as the
-                                   text DIR/layout.txt says
-      --y4m FILE                   the picture region of all frames, as a film
-      --progress                   how far it is, if the standard error is a terminal
-  wedgepetal sample OUT.ogv        writes a small recording to try this with
-  wedgepetal sample OUT.packets    the same as `packets` writes it
-  wedgepetal sample --packet OUT   writes its identification header alone
-  wedgepetal packets RECORDING OUT writes the packets of its Theora stream, each as
-                                   4 bytes of length (least significant first) and
-                                   its bytes
-  wedgepetal help                  this text
-
-A recording is an Ogg file or a file that `packets` wrote. Ogg files are read
-through libogg, which must be installed (Debian package libogg0). FILE may be -
-for the standard output; a file that is there already is not written over.
-
-Status: 0 all is well, or the reader of the only output wants no more; 1 the
-recording or a packet of it is refused; 2 wrong usage, or a file cannot be read
-or written.
-";
+use target::{Target, is_standard};
 
 /// Why the command fails.
 enum Failure {
-    /// The recording or packet is refused.
+    /// The recording is refused.
     Refused(String),
     /// A file cannot be read or written.
     File(String),
     /// The words make no command.
-    Usage,
+    Usage(String),
     /// No one reads what is written any more. This is the reader's choice.
     Unread,
 }
 
 impl Failure {
-    /// A recording or packet is refused.
-    fn refused(path: &Path, why: impl Display) -> Failure {
-        Failure::Refused(format!("{}: {why}", path.display()))
-    }
-
     /// A file cannot be read.
     fn file(path: &Path, why: impl Display) -> Failure {
         Failure::File(format!("{}: {why}", path.display()))
+    }
+
+    /// A recording of this name gives nothing more.
+    fn of_fault(name: &str, fault: &Fault) -> Failure {
+        let text = format!("{name}: {fault}");
+        match fault.is_read_error() {
+            true => Failure::File(text),
+            false => Failure::Refused(text),
+        }
+    }
+
+    /// An output takes no more.
+    fn of_trouble(trouble: Trouble) -> Failure {
+        match trouble {
+            Trouble::Failed(text) => Failure::File(text),
+            Trouble::Unfit(text) => Failure::Refused(text),
+        }
     }
 }
 
 /// What a command has to say at its end.
 struct Said {
     text: String,
-    /// Whether the standard output is taken, so that this goes elsewhere.
+    /// Whether the standard output is taken or nothing but faults is wanted, so
+    /// that this goes to the standard error.
     output_taken: bool,
-    /// Whether some packet was refused.
-    refused: bool,
+    /// Whether all was read and accepted.
+    clean: bool,
 }
 
 impl From<String> for Said {
@@ -85,29 +86,33 @@ impl From<String> for Said {
         Said {
             text,
             output_taken: false,
-            refused: false,
+            clean: true,
         }
     }
 }
 
 fn main() -> ExitCode {
+    interrupt::watch();
     let words: Vec<OsString> = std::env::args_os().skip(1).collect();
-    match command(&words) {
+    let done = arguments::parse(&words)
+        .map_err(Failure::Usage)
+        .and_then(|wanted| match wanted {
+            Wanted::Text(text) => Ok(Said::from(text)),
+            Wanted::Job(job) => perform(&job),
+        });
+    match done {
         Ok(said) => print(&said),
-        Err(Failure::Refused(text)) => {
-            eprintln!("wedgepetal: {text}");
-            ExitCode::from(1)
-        }
-        Err(Failure::File(text)) => {
-            eprintln!("wedgepetal: {text}");
-            ExitCode::from(2)
-        }
-        Err(Failure::Usage) => {
-            eprint!("{USAGE}");
-            ExitCode::from(2)
-        }
         Err(Failure::Unread) => ExitCode::SUCCESS,
+        Err(Failure::Refused(text)) => fail(&text, 1),
+        Err(Failure::File(text) | Failure::Usage(text)) => fail(&text, 2),
     }
+}
+
+/// Says why the command fails.
+fn fail(text: &str, status: u8) -> ExitCode {
+    // Whoever closed the standard error does not want to know.
+    let _ = writeln!(io::stderr(), "wedgepetal: {}", text.trim_end());
+    ExitCode::from(status)
 }
 
 /// Says what a command has to say. A reader that closes the standard output
@@ -116,140 +121,171 @@ fn print(said: &Said) -> ExitCode {
     let text = said.text.as_bytes();
     let written = match said.output_taken {
         true => io::stderr().write_all(text),
-        false => io::stdout().write_all(text),
+        false => io::stdout()
+            .write_all(text)
+            .and_then(|()| io::stdout().flush()),
     };
     match written {
         Err(error) if error.kind() != ErrorKind::BrokenPipe => {
-            eprintln!("wedgepetal: cannot write: {error}");
-            ExitCode::from(2)
+            fail(&format!("standard output: {error}"), 2)
         }
-        _ => ExitCode::from(u8::from(said.refused)),
+        _ => ExitCode::from(u8::from(!said.clean)),
     }
 }
 
-/// Does what the words say.
-fn command(words: &[OsString]) -> Result<Said, Failure> {
-    let names: Vec<&str> = words.iter().map(|w| w.to_str().unwrap_or("")).collect();
-    let text = match names[..] {
-        ["info", "--packet", _] => info::of_packet(Path::new(&words[2])),
-        ["info", first] if !is_option(first) => info::of_recording(Path::new(&words[1])),
-        ["decode", first, ..] if !is_option(first) => {
-            return decode_recording(Path::new(&words[1]), &words[2..]);
-        }
-        ["sample", "--packet", _] => {
-            write_new(Path::new(&words[2]), &sample::identification_header())
-        }
-        ["sample", first] if !is_option(first) => write_sample(Path::new(&words[1])),
-        ["packets", first, second] if !is_option(first) && !is_option(second) => {
-            write_packets(Path::new(&words[1]), Path::new(&words[2]))
-        }
-        ["help" | "--help" | "-h"] => Ok(USAGE.to_string()),
-        _ => Err(Failure::Usage),
+/// Does a job.
+fn perform(job: &Job) -> Result<Said, Failure> {
+    match job.verb {
+        "info" => describe(job),
+        "packets" => write_packets(job),
+        "sample" => write_sample(job),
+        _ => decode_recording(job),
+    }
+}
+
+/// Says what a recording is.
+fn describe(job: &Job) -> Result<Said, Failure> {
+    let input = Input::open(Path::new(&job.words[0]), job.has("--quiet"))?;
+    let name = input.name.clone();
+    let info = info::read(input)?;
+    let text = match (job.has("--json"), job.has("--quiet")) {
+        (true, _) => format!("{}\n", info.json(&name)),
+        (false, true) => info.faults(&name),
+        (false, false) => info.text(&name, job.has("--fields")),
     };
-    text.map(Said::from)
-}
-
-/// Whether a word is meant as an option.
-fn is_option(word: &str) -> bool {
-    word.starts_with('-')
-}
-
-/// Decodes a recording, as the words behind it say.
-fn decode_recording(path: &Path, words: &[OsString]) -> Result<Said, Failure> {
-    let mut show_progress = false;
-    let mut wanted = Vec::new();
-    let mut rest = words.iter();
-    while let Some(word) = rest.next() {
-        match word.to_str() {
-            Some("--progress") => show_progress = true,
-            Some(option) if OPTIONS.contains(&option) => wanted.push(Wanted {
-                option: option.to_string(),
-                path: rest.next().ok_or(Failure::Usage)?.into(),
-            }),
-            _ => return Err(Failure::Usage),
-        }
-    }
-    let on_output = wanted.iter().filter(|output| output.takes_output()).count();
-    if on_output > 1 {
-        return Err(Failure::Usage);
-    }
-    let summary = decode::decode(path, &wanted, show_progress)?;
     Ok(Said {
-        text: format!("{}: {summary}", path.display()),
-        output_taken: on_output > 0,
-        refused: !summary.is_clean(),
+        text,
+        output_taken: job.has("--quiet"),
+        clean: info.is_clean(),
     })
 }
 
-/// Writes the packets of a recording's Theora stream as a packet file.
-fn write_packets(path: &Path, out: &Path) -> Result<String, Failure> {
-    let packets = recording::packets(BufReader::new(open(path)?))
-        .map_err(|fault| Failure::refused(path, fault))?;
-    if packets.is_empty() {
-        return Err(Failure::refused(path, "no Theora stream"));
-    }
-    let text = write_new(out, &packet_file::write(&packets))?;
-    Ok(format!("{} packets, {text}", packets.len()))
+/// Decodes a recording into what the verb makes.
+fn decode_recording(job: &Job) -> Result<Said, Failure> {
+    let (path, out) = (Path::new(&job.words[0]), Path::new(&job.words[1]));
+    let request = request(job, out)?;
+    check_paths(job, path, out)?;
+    let index_taken = job.value("--index").is_some_and(|path| path == "-");
+    let output_taken = request.output.is_standard() || index_taken || job.has("--quiet");
+    let input = Input::open(path, job.has("--quiet"))?;
+    let name = input.name.clone();
+    let summary = decode::decode(input, request)?;
+    let text = match (job.has("--json"), job.has("--quiet")) {
+        (true, _) => format!("{}\n", summary.json(&name)),
+        (false, true) => summary.faults(&name),
+        (false, false) if job.verb == "picture" && summary.is_clean() => {
+            let frame = parsed(job, "--frame", |text| text.parse::<u64>().ok())?;
+            let frame = frame.unwrap_or(0);
+            target::said(out, format!("frame {frame} of {name}\n"))
+        }
+        (false, false) => summary.text(&name),
+    };
+    Ok(Said {
+        text,
+        output_taken,
+        clean: summary.is_clean(),
+    })
 }
 
-/// Writes the sample, as a packet file if its name says so, else as an Ogg file.
-fn write_sample(out: &Path) -> Result<String, Failure> {
-    let file = match out.extension() {
-        Some(name) if name == "packets" => packet_file::write(&sample::packets()),
+/// How a job wants its recording decoded.
+fn request(job: &Job, out: &Path) -> Result<Request, Failure> {
+    let force = job.has("--force");
+    let output = match job.verb {
+        "frames" => Output::Frames(Folder::plan(out).map_err(Failure::File)?),
+        verb => {
+            let target = Target::plan(out, force).map_err(Failure::File)?;
+            match verb {
+                "y4m" => Output::Film(target, None),
+                "picture" => {
+                    let frame = parsed(job, "--frame", |text| text.parse().ok())?;
+                    Output::Picture(target, Some(frame.unwrap_or(0)))
+                }
+                _ => Output::Hashes(target),
+            }
+        }
+    };
+    let index = job
+        .value("--index")
+        .map(|path| Index::plan(Path::new(path), force).map_err(Failure::File));
+    let after_gap = parsed(job, "--after-gap", AfterGap::parse)?;
+    Ok(Request {
+        choice: choice(job)?,
+        after_gap: after_gap.unwrap_or(AfterGap::Stop),
+        limit: Limit::new(parsed(job, "--max-memory", memory::parse)?),
+        output,
+        index: index.transpose()?,
+    })
+}
+
+/// Which streams a job wants.
+fn choice(job: &Job) -> Result<Choice, Failure> {
+    let number = |text: &str| text.parse().ok().filter(|number| *number > 0);
+    Ok(parsed(job, "--stream", number)?.map_or(Choice::Joined, Choice::One))
+}
+
+/// The value of an option.
+fn parsed<T>(
+    job: &Job,
+    name: &str,
+    parse: impl FnOnce(&str) -> Option<T>,
+) -> Result<Option<T>, Failure> {
+    job.parsed(name, parse).map_err(Failure::Usage)
+}
+
+/// Recording, output and index are three different files.
+fn check_paths(job: &Job, path: &Path, out: &Path) -> Result<(), Failure> {
+    let index = job.value("--index").map(Path::new);
+    let same = |one: &Path, other: &Path| one == other || is_same_file(one, other);
+    let clash = match index {
+        _ if is_same_file(path, out) => Some(out),
+        Some(index) if same(index, out) || is_same_file(path, index) => Some(index),
+        _ => None,
+    };
+    match clash {
+        Some(path) => Err(Failure::Usage(format!(
+            "{}: named twice, as two different files",
+            path.display()
+        ))),
+        None => Ok(()),
+    }
+}
+
+/// Writes the packets of a recording's Theora stream as a packet file.
+fn write_packets(job: &Job) -> Result<Said, Failure> {
+    let (path, out) = (Path::new(&job.words[0]), Path::new(&job.words[1]));
+    check_paths(job, path, out)?;
+    let target = Target::plan(out, job.has("--force")).map_err(Failure::File)?;
+    let input = Input::open(path, job.has("--quiet"))?;
+    let name = input.name.clone();
+    let written = packets::write(input, choice(job)?, target)?;
+    let text = match (job.has("--json"), job.has("--quiet")) {
+        (true, _) => format!("{}\n", written.json(&name)),
+        (false, true) => written.faults(&name),
+        (false, false) => written.text(&name),
+    };
+    Ok(Said {
+        text,
+        output_taken: is_standard(out) || job.has("--quiet"),
+        clean: written.is_clean(),
+    })
+}
+
+/// Writes the sample in the form that its name asks for.
+fn write_sample(job: &Job) -> Result<Said, Failure> {
+    let out = Path::new(&job.words[0]);
+    let bytes = match out.extension().and_then(|name| name.to_str()) {
+        Some("packets") => packet_file::write(&sample::packets()),
+        Some("header") => sample::identification_header(),
         _ => sample::ogg_file().map_err(|fault| Failure::file(out, fault))?,
     };
-    write_new(out, &file)
-}
-
-/// Opens a file to be read.
-fn open(path: &Path) -> Result<File, Failure> {
-    File::open(path).map_err(|error| Failure::file(path, error))
-}
-
-/// Writes a file that is not there yet, and says so.
-fn write_new(path: &Path, bytes: &[u8]) -> Result<String, Failure> {
-    write_file(path, bytes).map_err(Failure::File)?;
-    Ok(format!(
-        "{}: {} bytes written\n",
-        path.display(),
-        bytes.len()
-    ))
-}
-
-#[cfg(test)]
-mod tests {
-    use super::*;
-
-    fn run(words: &[&str]) -> Result<Said, Failure> {
-        let words: Vec<OsString> = words.iter().map(OsString::from).collect();
-        command(&words)
-    }
-
-    fn usage(words: &[&str]) -> bool {
-        matches!(run(words), Err(Failure::Usage))
-    }
-
-    #[test]
-    fn wrong_words_give_the_usage() {
-        assert!(usage(&[]));
-        assert!(usage(&["info"]));
-        assert!(usage(&["info", "--packet"]));
-        assert!(usage(&["info", "--what"]));
-        assert!(usage(&["decode"]));
-        assert!(usage(&["decode", "x.ogv", "--hashes"]));
-        assert!(usage(&["decode", "x.ogv", "y.ogv"]));
-        assert!(usage(&["decode", "x.ogv", "--hashes", "-", "--y4m", "-"]));
-        assert!(usage(&["sample"]));
-        assert!(usage(&["packets", "x.ogv"]));
-        assert!(usage(&["play", "x.ogv"]));
-        assert!(!usage(&["help"]));
-    }
-
-    #[test]
-    fn missing_files_are_said() {
-        for name in ["info", "decode"] {
-            let answer = run(&[name, "no-such-file.ogv"]);
-            assert!(matches!(answer, Err(Failure::File(_))));
-        }
-    }
+    target::write_file(out, job.has("--force"), &bytes).map_err(Failure::File)?;
+    let text = match job.has("--quiet") {
+        true => String::new(),
+        false => target::said(out, format!("{} bytes written\n", bytes.len())),
+    };
+    Ok(Said {
+        text,
+        output_taken: is_standard(out),
+        clean: true,
+    })
 }

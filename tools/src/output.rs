@@ -1,206 +1,288 @@
-//! Where decoded frames go: planes, a Y4M film, hashes.
+//! What is made of decoded frames: a film, planes, a picture, hashes.
 
+use crate::interrupt::begun;
+use crate::target::{Target, Temporary, is_standard, resolved, said};
 use crate::y4m::Y4m;
+use crate::{layout, png};
 use recording::hash::hash;
-use std::fmt::Write as _;
 use std::fs::{self, File};
-use std::io::{self, BufWriter, ErrorKind, Write};
+use std::io::{ErrorKind, Write};
 use std::path::{Path, PathBuf};
 use wedgepetal::{Frame, FrameAnswer, Kind, Player, Refusal};
 
-/// The options that ask for an output.
-pub const OPTIONS: [&str; 3] = ["--hashes", "--planes", "--y4m"];
-
-/// An output that is asked for.
-pub struct Wanted {
-    /// One of the options.
-    pub option: String,
-    /// Where it goes; "-" is the standard output, but not for planes.
-    pub path: PathBuf,
+/// Why an output takes no more.
+#[derive(Debug)]
+pub enum Trouble {
+    /// It cannot be written.
+    Failed(String),
+    /// It has no place for the frames of this stream.
+    Unfit(String),
 }
 
-impl Wanted {
-    /// Whether it goes to the standard output.
-    pub fn takes_output(&self) -> bool {
-        self.option != "--planes" && self.path == Path::new("-")
-    }
-
-    /// Makes the file or the folder, once the headers of the recording are read.
-    pub fn begin(&self, player: &Player) -> Result<Output, String> {
-        match &self.option[..] {
-            "--hashes" => Ok(Output::Hashes(Target::new(&self.path)?)),
-            "--planes" => {
-                begin_folder(&self.path, player)?;
-                Ok(Output::Planes(self.path.clone()))
-            }
-            _ => {
-                let y4m = Y4m::of(player.session())?;
-                let mut target = Target::new(&self.path)?;
-                target.write(|out| y4m.write_header(out))?;
-                Ok(Output::Y4m(target))
-            }
-        }
+impl From<String> for Trouble {
+    fn from(text: String) -> Trouble {
+        Trouble::Failed(text)
     }
 }
 
-/// Where decoded frames go.
+/// The answer to a packet.
+pub struct Answer<'a> {
+    /// The number of the packet in its stream, from 0.
+    pub packet: u64,
+    /// The number of the frame if there is one, from 0.
+    pub number: u64,
+    /// What the decoder answers.
+    pub answer: Result<FrameAnswer, Refusal>,
+    /// Who has decoded it.
+    pub player: &'a Player,
+}
+
+impl<'a> Answer<'a> {
+    /// The frame, if the packet was accepted.
+    pub fn frame(&self) -> Option<Frame<'a>> {
+        self.answer.ok().and_then(|_| self.player.frame())
+    }
+}
+
+/// What is made of decoded frames.
 pub enum Output {
+    /// The picture regions, one after the other, and the line before the first.
+    Film(Target, Option<String>),
     /// A folder with a file for each frame.
-    Planes(PathBuf),
-    /// The picture regions, one after the other.
-    Y4m(Target),
+    Frames(Folder),
     /// A line for each packet.
     Hashes(Target),
+    /// The frame with this number, until it is there.
+    Picture(Target, Option<u64>),
 }
 
 impl Output {
-    /// Takes the answer to a packet, and the frame if it was accepted.
-    pub fn take(
-        &mut self,
-        number: u64,
-        answer: &Result<FrameAnswer, Refusal>,
-        player: &Player,
-    ) -> Result<(), String> {
-        let frame = answer.ok().and_then(|_| player.frame());
+    /// The frames of a stream follow.
+    pub fn begin(&mut self, stream: u64, player: &Player) -> Result<(), Trouble> {
+        match self {
+            Output::Film(target, line) => begin_film(target, line, player),
+            Output::Frames(folder) => Ok(folder.begin(stream, player)?),
+            Output::Hashes(target) => {
+                open_once(target)?;
+                Ok(target.write(|out| writeln!(out, "stream {stream}"))?)
+            }
+            Output::Picture(..) => Y4m::of(player.session())
+                .map(|_| ())
+                .map_err(Trouble::Unfit),
+        }
+    }
+
+    /// Takes the answer to a packet.
+    pub fn take(&mut self, answer: &Answer<'_>) -> Result<(), Trouble> {
+        let frame = answer.frame();
         match (self, frame) {
             (Output::Hashes(target), _) => {
-                let line = hash_line(number, answer, frame);
-                target.write(|out| out.write_all(line.as_bytes()))
+                let line = hash_line(answer);
+                target.write(|out| out.write_all(line.as_bytes()))?;
             }
-            (Output::Planes(folder), Some(frame)) => {
-                write_file(&folder.join(format!("{number:06}.planes")), frame.bytes())
+            (Output::Frames(folder), Some(frame)) => folder.write(answer.number, frame)?,
+            (Output::Film(target, _), Some(frame)) => {
+                let y4m = Y4m::of(answer.player.session()).map_err(Trouble::Unfit)?;
+                target.write(|out| y4m.write_frame(out, frame))?;
             }
-            (Output::Y4m(target), Some(frame)) => {
-                let y4m = Y4m::of(player.session())?;
-                target.write(|out| y4m.write_frame(out, frame))
+            (Output::Picture(target, wanted), Some(frame)) if *wanted == Some(answer.number) => {
+                let y4m = Y4m::of(answer.player.session()).map_err(Trouble::Unfit)?;
+                target.open()?;
+                let (width, rows) = y4m.luma(frame);
+                target.write(|out| png::write(out, width, &rows))?;
+                *wanted = None;
             }
-            (_, None) => Ok(()),
+            _ => {}
+        }
+        Ok(())
+    }
+
+    /// Whether it needs no more frames.
+    pub fn is_done(&self) -> bool {
+        matches!(self, Output::Picture(_, None))
+    }
+
+    /// The frame that was wanted and did not come.
+    pub fn missing(&self) -> Option<u64> {
+        match self {
+            Output::Picture(_, wanted) => *wanted,
+            _ => None,
         }
     }
 
     /// Whether it has no reader any more.
     pub fn is_unread(&self) -> bool {
+        self.target().is_some_and(Target::is_unread)
+    }
+
+    /// Whether it goes to the standard output.
+    pub fn is_standard(&self) -> bool {
+        self.target().is_some_and(Target::is_standard)
+    }
+
+    fn target(&self) -> Option<&Target> {
         match self {
-            Output::Planes(_) => false,
-            Output::Y4m(target) | Output::Hashes(target) => target.writer.is_none(),
+            Output::Film(target, _) | Output::Hashes(target) | Output::Picture(target, _) => {
+                Some(target)
+            }
+            Output::Frames(_) => None,
         }
     }
 
     /// Writes what is still held back.
-    pub fn end(&mut self) -> Result<(), String> {
+    pub fn flush(&mut self) -> Result<(), String> {
         match self {
-            Output::Planes(_) => Ok(()),
-            Output::Y4m(target) | Output::Hashes(target) => target.write(|out| out.flush()),
+            Output::Film(target, _) | Output::Hashes(target) | Output::Picture(target, _) => {
+                target.flush()
+            }
+            Output::Frames(_) => Ok(()),
+        }
+    }
+
+    /// All is written: it takes its own name.
+    pub fn finish(&mut self) -> Result<(), String> {
+        match self {
+            Output::Film(target, _) | Output::Hashes(target) | Output::Picture(target, _) => {
+                target.finish()
+            }
+            Output::Frames(folder) => folder.finish(),
+        }
+    }
+}
+
+/// Opens an output that is not open yet.
+fn open_once(target: &mut Target) -> Result<(), String> {
+    match target.is_planned() {
+        true => target.open(),
+        false => Ok(()),
+    }
+}
+
+/// Begins a film, or goes on with one whose first line is the same.
+fn begin_film(
+    target: &mut Target,
+    line: &mut Option<String>,
+    player: &Player,
+) -> Result<(), Trouble> {
+    let y4m = Y4m::of(player.session()).map_err(Trouble::Unfit)?;
+    let wanted = y4m.header();
+    match line {
+        Some(line) if *line == wanted => Ok(()),
+        Some(_) => Err(Trouble::Unfit(format!(
+            "the film cannot go on with it: {}",
+            wanted.trim_end()
+        ))),
+        None => {
+            target.open()?;
+            target.write(|out| out.write_all(wanted.as_bytes()))?;
+            *line = Some(wanted);
+            Ok(())
         }
     }
 }
 
 /// The line of a packet, as the texts of test streams have it.
-fn hash_line(
-    number: u64,
-    answer: &Result<FrameAnswer, Refusal>,
-    frame: Option<Frame<'_>>,
-) -> String {
-    match (answer, frame) {
-        (Ok(answer), Some(frame)) => {
-            let kind = match answer.kind {
-                Kind::Intra => "intra",
-                Kind::Inter => "inter",
-                Kind::Repeat => "repeat",
+fn hash_line(answer: &Answer<'_>) -> String {
+    let packet = answer.packet;
+    match (answer.answer, answer.frame()) {
+        (Ok(accepted), Some(frame)) => {
+            let qis = match accepted.kind {
+                Kind::Repeat => "-".to_string(),
+                _ => qi_list(&accepted, ","),
             };
-            let qis: Vec<String> = answer.qis().iter().map(u8::to_string).collect();
-            let qis = match qis[..] {
-                [] => "-".to_string(),
-                _ => qis.join(","),
-            };
-            format!("frame {number} {kind} {qis} {:016x}\n", hash(frame.bytes()))
+            let kind = kind_name(accepted.kind);
+            format!("frame {packet} {kind} {qis} {:016x}\n", hash(frame.bytes()))
         }
-        (Err(Refusal(refusal)), _) => format!("frame {number} refused {refusal}\n"),
+        (Err(Refusal(number)), _) => format!("frame {packet} refused {number}\n"),
         (Ok(_), None) => unreachable!("an accepted packet gives a frame"),
     }
 }
 
-/// Makes a folder for planes, and a text in it that says how they lie.
-fn begin_folder(folder: &Path, player: &Player) -> Result<(), String> {
-    fs::create_dir_all(folder).map_err(|error| format!("{}: {error}", folder.display()))?;
-    write_file(&folder.join("layout.txt"), layout(player).as_bytes())
-}
-
-/// How the planes of a frame lie in a file.
-fn layout(player: &Player) -> String {
-    let (session, sizes) = (player.session(), player.sizes());
-    let mut text = format!(
-        "Each file is a frame, named by the number of its packet: {} bytes, one byte a sample.\n\
-         Rows go from left to right, and the lowest row is the first.\n",
-        sizes.buffer
-    );
-    for (name, plane) in ["Y'", "Cb", "Cr"].iter().zip(&sizes.planes) {
-        let (width, height) = (8 * plane.blocks_across, 8 * plane.blocks_up);
-        // Writing to a string does not fail.
-        let _ = writeln!(
-            text,
-            "plane {name}: {width} by {height} samples from byte {}",
-            plane.offset
-        );
+/// The name of a kind.
+pub fn kind_name(kind: Kind) -> &'static str {
+    match kind {
+        Kind::Intra => "intra",
+        Kind::Inter => "inter",
+        Kind::Repeat => "repeat",
     }
-    let _ = writeln!(
-        text,
-        "The picture is {} by {} samples of Y', from column {} and row {}.",
-        session.picw, session.pich, session.picx, session.picy
-    );
-    text
 }
 
-/// A file that is written for the first time, or the standard output.
-pub struct Target {
-    name: String,
-    /// None once the standard output has no reader any more.
-    writer: Option<Box<dyn Write>>,
+/// The qi list of a frame.
+pub fn qi_list(answer: &FrameAnswer, between: &str) -> String {
+    let qis: Vec<String> = answer.qis().iter().map(u8::to_string).collect();
+    qis.join(between)
 }
 
-impl Target {
-    /// The standard output for "-", else a file that is not there yet.
-    fn new(path: &Path) -> Result<Target, String> {
-        if path == Path::new("-") {
-            return Ok(Target {
-                name: "standard output".to_string(),
-                writer: Some(Box::new(BufWriter::new(io::stdout()))),
-            });
+/// A folder with a file for each frame. It has a temporary name until it is
+/// whole.
+pub struct Folder {
+    path: PathBuf,
+    temporary: Option<Temporary>,
+    /// Where the frames of the present stream go.
+    place: PathBuf,
+}
+
+impl Folder {
+    /// Plans a folder.
+    ///
+    /// # Errors
+    ///
+    /// Something is there, and is no empty folder.
+    pub fn plan(path: &Path) -> Result<Folder, String> {
+        if is_standard(path) {
+            return Err(said(path, "frames go into a folder"));
         }
-        let file = File::create_new(path).map_err(|error| not_written(path, &error))?;
-        Ok(Target {
-            name: path.display().to_string(),
-            writer: Some(Box::new(BufWriter::new(file))),
-        })
+        match fs::read_dir(path).map(Iterator::count) {
+            Err(_) if path.is_symlink() => Err(said(path, "is a link that leads to no folder")),
+            Ok(1..) => Err(said(
+                path,
+                "is not empty; frames go into a new or empty folder",
+            )),
+            Err(error) if error.kind() != ErrorKind::NotFound => Err(said(path, error)),
+            _ => Ok(Folder {
+                path: resolved(path),
+                temporary: None,
+                place: PathBuf::new(),
+            }),
+        }
     }
 
-    /// Writes something, if there is still a reader.
-    fn write(&mut self, what: impl FnOnce(&mut dyn Write) -> io::Result<()>) -> Result<(), String> {
-        let Some(writer) = &mut self.writer else {
-            return Ok(());
-        };
-        match what(writer) {
-            Err(error) if error.kind() == ErrorKind::BrokenPipe => {
-                self.writer = None;
-                Ok(())
+    /// The frames of a stream follow, in a folder of their own behind the first.
+    fn begin(&mut self, stream: u64, player: &Player) -> Result<(), String> {
+        let failed = |error| said(&self.path, error);
+        self.place = match &self.temporary {
+            None => {
+                let temporary = Temporary::folder(&self.path).map_err(failed)?;
+                let place = temporary.path().to_path_buf();
+                self.temporary = Some(temporary);
+                place
             }
-            written => written.map_err(|error| format!("{}: {error}", self.name)),
-        }
+            Some(temporary) => {
+                let place = temporary.path().join(format!("stream-{stream}"));
+                fs::create_dir(&place).map_err(failed)?;
+                place
+            }
+        };
+        self.write_file("layout.txt", layout::layout(player).as_bytes())
     }
-}
 
-/// Writes a file that is not there yet.
-pub fn write_file(path: &Path, bytes: &[u8]) -> Result<(), String> {
-    File::create_new(path)
-        .and_then(|mut file| file.write_all(bytes))
-        .map_err(|error| not_written(path, &error))
-}
+    /// Writes a frame.
+    fn write(&self, number: u64, frame: Frame<'_>) -> Result<(), String> {
+        self.write_file(&format!("{number:06}.planes"), frame.bytes())
+    }
 
-/// Why a new file cannot be written.
-fn not_written(path: &Path, error: &io::Error) -> String {
-    let name = path.display();
-    match error.kind() {
-        ErrorKind::AlreadyExists => format!("{name}: is there already, and nothing was written"),
-        _ => format!("{name}: {error}"),
+    fn write_file(&self, name: &str, bytes: &[u8]) -> Result<(), String> {
+        let _held = begun();
+        File::create_new(self.place.join(name))
+            .and_then(|mut file| file.write_all(bytes))
+            .map_err(|error| said(&self.path.join(name), error))
+    }
+
+    /// All is written.
+    fn finish(&mut self) -> Result<(), String> {
+        match self.temporary.take() {
+            Some(temporary) => temporary.rename(&self.path, true),
+            None => Ok(()),
+        }
     }
 }

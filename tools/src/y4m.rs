@@ -34,16 +34,15 @@ impl<'a> Y4m<'a> {
     }
 
     /// The line before the first frame.
-    pub fn write_header(&self, out: &mut dyn Write) -> io::Result<()> {
+    pub fn header(&self) -> String {
         let s = self.session;
         let format = match self.step {
             (2, 2) => "420jpeg",
             (2, _) => "422",
             _ => "444",
         };
-        writeln!(
-            out,
-            "YUV4MPEG2 W{} H{} F{}:{} Ip A{}:{} C{format}",
+        format!(
+            "YUV4MPEG2 W{} H{} F{}:{} Ip A{}:{} C{format}\n",
             s.picw, s.pich, s.frn, s.frd, s.parn, s.pard
         )
     }
@@ -55,6 +54,13 @@ impl<'a> Y4m<'a> {
         write_region(out, luma, &self.region((1, 1)))?;
         write_region(out, cb, &self.region(self.step))?;
         write_region(out, cr, &self.region(self.step))
+    }
+
+    /// The width and the rows, from above, of the picture's luma.
+    pub fn luma<'b>(&self, frame: Frame<'b>) -> (usize, Vec<&'b [u8]>) {
+        let [luma, _, _] = frame.planes();
+        let region = self.region((1, 1));
+        (region.width, rows(luma, &region).collect())
     }
 
     /// The picture in a plane that has one sample for so many of luma. Where
@@ -72,13 +78,15 @@ impl<'a> Y4m<'a> {
     }
 }
 
+/// The rows of a part of a plane, the highest first.
+fn rows<'a>(plane: Samples<'a>, region: &Region) -> impl Iterator<Item = &'a [u8]> {
+    let (highest, left, width) = (plane.height - 1 - region.top, region.left, region.width);
+    (0..region.height).map(move |row| &plane.row(highest - row)[left..left + width])
+}
+
 /// Writes a part of a plane, the highest row first.
 fn write_region(out: &mut dyn Write, plane: Samples<'_>, region: &Region) -> io::Result<()> {
-    for row in 0..region.height {
-        let samples = plane.row(plane.height - 1 - region.top - row);
-        out.write_all(&samples[region.left..region.left + region.width])?;
-    }
-    Ok(())
+    rows(plane, region).try_for_each(|row| out.write_all(row))
 }
 
 #[cfg(test)]
@@ -142,11 +150,11 @@ mod tests {
         bytes[76800 + 160 + 1..76800 + 160 + 3].copy_from_slice(b"gh");
         bytes[96000 + 160 + 1..96000 + 160 + 3].copy_from_slice(b"ij");
         let y4m = Y4m::of(&session).unwrap();
-        let mut film = Vec::new();
-        y4m.write_header(&mut film).unwrap();
-        y4m.write_frame(&mut film, Frame::new(&sizes, &bytes).unwrap())
-            .unwrap();
+        let mut film = y4m.header().into_bytes();
+        let frame = Frame::new(&sizes, &bytes).unwrap();
+        y4m.write_frame(&mut film, frame).unwrap();
         let wanted = b"YUV4MPEG2 W3 H2 F25:1 Ip A1:1 C420jpeg\nFRAME\ndefabcghij";
         assert_eq!(film, wanted);
+        assert_eq!(y4m.luma(frame), (3, vec![&b"def"[..], b"abc"]));
     }
 }

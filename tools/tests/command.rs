@@ -1,137 +1,256 @@
 //! The command as it is run: files, what it says, and its status.
 #![allow(missing_docs)]
 
+mod common;
+
+use common::{command, ended, folder, good, names, run, sample_packets};
 use std::fs;
 use std::os::fd::OwnedFd;
+use std::os::unix::fs::symlink;
 use std::os::unix::net::UnixStream;
-use std::path::{Path, PathBuf};
-use std::process::{Command, Output};
+use std::path::Path;
+use std::process::Command;
 
-/// An empty folder for a test.
-fn folder(name: &str) -> PathBuf {
-    let path = Path::new(env!("CARGO_TARGET_TMPDIR")).join(name);
-    let _ = fs::remove_dir_all(&path);
-    fs::create_dir_all(&path).unwrap();
-    path
-}
-
-/// The command with these words, in a folder.
-fn command(folder: &Path, words: &str) -> Command {
-    let mut command = Command::new(env!("CARGO_BIN_EXE_wedgepetal"));
-    command.args(words.split_whitespace()).current_dir(folder);
-    command
-}
-
-/// Runs the command in a folder.
-fn run(folder: &Path, words: &str) -> Output {
-    command(folder, words).output().unwrap()
-}
-
-/// Runs the command in a folder, with a standard output that no one reads.
-fn run_unread(folder: &Path, words: &str) -> Output {
-    let (reader, writer) = UnixStream::pair().unwrap();
-    drop(reader);
-    let mut command = command(folder, words);
-    command.stdout(OwnedFd::from(writer)).output().unwrap()
-}
-
-/// The status, what went to the standard output, what to the standard error.
-fn said(output: &Output) -> (i32, String, String) {
-    let text = |bytes: &[u8]| String::from_utf8(bytes.to_vec()).unwrap();
-    let status = output.status.code().unwrap();
-    (status, text(&output.stdout), text(&output.stderr))
-}
+const ALL_FRAMES: &str = "7 frames (1 intra, 5 inter, 1 repeat), no packet refused\n";
 
 #[test]
 fn the_sample_in_every_form() {
     let folder = folder("every_form");
-    assert_eq!(said(&run(&folder, "sample s.packets")).0, 0);
-    let (status, out, err) = said(&run(
-        &folder,
-        "decode s.packets --hashes s.txt --planes planes --y4m s.y4m --progress",
-    ));
-    assert_eq!((status, &err[..]), (0, ""));
-    assert_eq!(
-        out,
-        "s.packets: 7 frames (1 intra, 5 inter, 1 repeat), packets refused: 0\n"
-    );
+    good(&folder, "sample s.packets");
+    let summary = format!("s.packets: {ALL_FRAMES}");
+    assert_eq!(good(&folder, "y4m s.packets s.y4m --index s.csv"), summary);
+    assert_eq!(good(&folder, "hashes s.packets s.txt"), summary);
+    assert_eq!(good(&folder, "frames s.packets planes"), summary);
     let hashes = fs::read_to_string(folder.join("s.txt")).unwrap();
     let lines: Vec<&str> = hashes.lines().collect();
-    assert_eq!(lines.len(), 7);
-    assert!(lines[0].starts_with("frame 3 intra 20 "), "{hashes}");
-    assert!(lines[4].starts_with("frame 7 repeat - "), "{hashes}");
+    assert_eq!((lines.len(), lines[0]), (8, "stream 1"));
+    assert!(lines[1].starts_with("frame 3 intra 20 "), "{hashes}");
+    assert!(lines[5].starts_with("frame 7 repeat - "), "{hashes}");
     let hash = |line: &str| line.rsplit(' ').next().unwrap().to_string();
-    assert_eq!(hash(lines[3]), hash(lines[4]));
-    for packet in 3..10 {
-        let name = format!("planes/{packet:06}.planes");
+    assert_eq!(hash(lines[4]), hash(lines[5]));
+    for frame in 0..7 {
+        let name = format!("planes/{frame:06}.planes");
         assert_eq!(fs::read(folder.join(name)).unwrap().len(), 115_200);
     }
     let film = fs::read(folder.join("s.y4m")).unwrap();
     let header = b"YUV4MPEG2 W320 H232 F25:1 Ip A1:1 C420jpeg\n";
     assert!(film.starts_with(header));
     assert_eq!(film.len(), header.len() + 7 * (6 + 320 * 232 * 3 / 2));
+    let index = fs::read_to_string(folder.join("s.csv")).unwrap();
+    let rows: Vec<&str> = index.lines().collect();
+    assert_eq!(
+        rows[0],
+        "stream,packet,frame,kind,qi,refusal,meaning,time_s"
+    );
+    assert_eq!(
+        (rows[1], rows[5]),
+        ("1,3,0,intra,20,,,0.000000", "1,7,4,repeat,,,,0.160000")
+    );
+    assert_eq!(rows.len(), 8);
 }
 
 #[test]
-fn ogg_and_packet_files_give_the_same() {
-    let folder = folder("ogg_and_packets");
-    for words in [
-        "sample s.ogv",
-        "sample s.packets",
-        "packets s.ogv p.packets",
-    ] {
-        assert_eq!(said(&run(&folder, words)).0, 0, "{words}");
-    }
-    let bytes = |name: &str| fs::read(folder.join(name)).unwrap();
-    assert_eq!(bytes("s.packets"), bytes("p.packets"));
-    let (_, ogg, summary) = said(&run(&folder, "decode s.ogv --hashes -"));
-    assert_eq!(said(&run(&folder, "decode s.packets --hashes -")).1, ogg);
-    assert!(summary.contains("7 frames"), "{summary}");
-    let (status, text, _) = said(&run(&folder, "info s.ogv"));
-    assert_eq!(status, 0);
-    assert!(text.starts_with("s.ogv: stream 1\n"), "{text}");
+fn a_picture_is_the_luma_of_its_frame() {
+    let folder = folder("picture");
+    good(&folder, "sample s.packets");
+    good(&folder, "frames s.packets planes");
+    good(&folder, "picture s.packets p.png --frame 3");
+    let plane = fs::read(folder.join("planes/000003.planes")).unwrap();
+    let png = fs::read(folder.join("p.png")).unwrap();
+    // The picture lies 4 rows above the frame's lowest; its highest row is 235.
+    let row = &plane[320 * 235..320 * 236];
+    assert!(png.windows(320).any(|part| part == row));
+    let (status, _, err) = run(&folder, "picture s.packets q.png --frame 7");
+    assert_eq!(status, 1);
+    assert!(err.contains("there is no frame 7; frames: 7"), "{err}");
+    assert!(!folder.join("q.png").exists());
 }
 
 #[test]
-fn packet_files_are_described() {
+fn recordings_are_described() {
     let folder = folder("described");
-    run(&folder, "sample s.packets");
-    let (status, text, _) = said(&run(&folder, "info s.packets"));
-    assert_eq!(status, 0);
-    assert!(text.starts_with("s.packets: packet file\n"), "{text}");
+    good(&folder, "sample s.packets");
+    let text = good(&folder, "info s.packets");
+    assert!(
+        text.starts_with("s.packets: packet file, 4.5 kB\nstream 1: Theora 3.2.1\n"),
+        "{text}"
+    );
+    assert!(text.lines().count() <= 12, "{text}");
+    let fields = good(&folder, "info s.packets --fields");
+    assert!(fields.contains("  FMBW      20 "), "{fields}");
+    let json = good(&folder, "info s.packets --json");
+    assert!(
+        json.contains("\"clean\": true") && json.contains("\"NBS\": 1800"),
+        "{json}"
+    );
+    assert_eq!(good(&folder, "info s.packets --quiet"), "");
+    good(&folder, "sample s.header");
+    assert!(good(&folder, "info s.header").contains("identification header alone"));
 }
 
 #[test]
-fn nothing_is_written_over() {
-    let folder = folder("written_over");
-    run(&folder, "sample s.packets");
+fn standard_input_and_output() {
+    let folder = folder("standard");
+    good(&folder, "sample s.packets");
+    good(&folder, "y4m s.packets s.y4m");
+    let input = fs::File::open(folder.join("s.packets")).unwrap();
+    let output = command(&folder, "y4m - -").stdin(input).output().unwrap();
+    assert_eq!(output.stdout, fs::read(folder.join("s.y4m")).unwrap());
+    assert_eq!(output.status.code(), Some(0));
+    let said = String::from_utf8(output.stderr).unwrap();
+    assert_eq!(said, format!("standard input: {ALL_FRAMES}"));
+    let (status, _, err) = run(&folder, "frames s.packets -");
+    assert!(
+        status == 2 && err.contains("standard output: frames go into a folder"),
+        "{err}"
+    );
+    let (status, out, err) = run(&folder, "y4m s.packets - --json --index /dev/null");
+    assert!(status == 0 && err.contains("\"frames\": 7"), "{out}{err}");
+}
+
+#[test]
+fn wrong_words_are_named() {
+    let folder = folder("wrong_words");
+    for (words, wanted) in [
+        ("", "a verb is missing"),
+        ("inof s", "inof: no such verb (did you mean info?)"),
+        ("info", "RECORDING is missing"),
+        ("info s t", "t: one word too many"),
+        (
+            "y4m s t --forc",
+            "--forc: no such option (did you mean --force?)",
+        ),
+        ("y4m s t --stream 0", "--stream 0: expected --stream N"),
+        (
+            "y4m s t --after-gap go",
+            "--after-gap go: expected --after-gap stop|key-frame",
+        ),
+        (
+            "y4m s t --max-memory 1X",
+            "--max-memory 1X: expected --max-memory BYTES",
+        ),
+        ("picture s t --frame", "--frame: N is missing"),
+    ] {
+        let (status, out, err) = run(&folder, words);
+        assert_eq!((status, &out[..]), (2, ""), "{words}");
+        assert!(err.contains(wanted), "{words}: {err}");
+    }
+    assert!(good(&folder, "--version").starts_with("wedgepetal 0.1.0\nproved library of crates/ "));
+    assert!(good(&folder, "y4m --help").contains("--after-gap stop|key-frame"));
+    assert!(good(&folder, "help").contains("picture RECORDING PICTURE.png"));
+}
+
+#[test]
+fn nothing_is_replaced_without_force() {
+    let folder = folder("replaced");
+    good(&folder, "sample s.packets");
     fs::write(folder.join("there"), "mine").unwrap();
     for words in [
-        "decode s.packets --hashes there",
-        "decode s.packets --y4m there",
-        "decode s.packets --planes there",
+        "hashes s.packets there",
+        "y4m s.packets there",
+        "y4m s.packets new.y4m --index there",
+        "picture s.packets there",
+        "frames s.packets there",
         "packets s.packets there",
-        "sample --packet there",
         "sample s.packets",
     ] {
-        let (status, _, err) = said(&run(&folder, words));
-        assert_eq!(status, 2, "{words}: {err}");
+        let (status, _, err) = run(&folder, words);
+        assert!(status == 2 && err.contains("there"), "{words}: {err}");
     }
     assert_eq!(fs::read(folder.join("there")).unwrap(), b"mine");
+    good(&folder, "hashes s.packets there --force");
+    assert!(
+        fs::read(folder.join("there"))
+            .unwrap()
+            .starts_with(b"stream 1\n")
+    );
+    assert_eq!(names(&folder), ["s.packets", "there"]);
+}
+
+#[test]
+fn links_lead_to_what_is_written() {
+    let folder = folder("links");
+    good(&folder, "sample s.packets");
+    for (to, link) in [
+        ("film", "to_film"),
+        ("frames", "to_frames"),
+        ("no", "to_nothing"),
+    ] {
+        symlink(to, folder.join(link)).unwrap();
+    }
+    fs::write(folder.join("film"), "old").unwrap();
+    fs::create_dir(folder.join("frames")).unwrap();
+    good(&folder, "y4m s.packets to_film --force");
+    good(&folder, "frames s.packets to_frames");
+    assert!(folder.join("to_film").is_symlink() && folder.join("to_frames").is_symlink());
+    assert!(
+        fs::read(folder.join("film"))
+            .unwrap()
+            .starts_with(b"YUV4MPEG2 ")
+    );
+    assert_eq!(names(&folder.join("frames")).len(), 8);
+    for words in ["y4m s.packets to_nothing", "frames s.packets to_nothing"] {
+        let (status, _, err) = run(&folder, words);
+        assert!(
+            status == 2 && err.contains("to_nothing: is a link that leads"),
+            "{err}"
+        );
+    }
+}
+
+#[test]
+fn a_recording_is_never_its_own_output() {
+    let folder = folder("own_output");
+    good(&folder, "sample s.packets");
+    let before = fs::read(folder.join("s.packets")).unwrap();
+    for words in [
+        "y4m s.packets s.packets --force",
+        "y4m s.packets ./s.packets --force",
+        "y4m s.packets f --index s.packets --force",
+        "y4m s.packets f --index f --force",
+        "packets s.packets s.packets --force",
+    ] {
+        let (status, _, err) = run(&folder, words);
+        assert!(status == 2 && err.contains("named twice"), "{words}: {err}");
+    }
+    assert_eq!(fs::read(folder.join("s.packets")).unwrap(), before);
+}
+
+#[test]
+fn folders_are_new_or_empty_and_none_is_made_above_an_output() {
+    let folder = folder("folders");
+    good(&folder, "sample s.packets");
+    fs::create_dir(folder.join("empty")).unwrap();
+    good(&folder, "frames s.packets empty");
+    assert_eq!(names(&folder.join("empty")).len(), 8);
+    let (status, _, err) = run(&folder, "frames s.packets empty");
+    assert!(status == 2 && err.contains("empty: is not empty"), "{err}");
+    for words in [
+        "frames s.packets no/such",
+        "y4m s.packets no/such",
+        "y4m s.packets empty",
+    ] {
+        let (status, _, err) = run(&folder, words);
+        assert!(
+            status == 2 && (err.contains("no/such: No such") || err.contains("is a folder")),
+            "{err}"
+        );
+    }
+    assert_eq!(names(&folder), ["empty", "s.packets"]);
 }
 
 #[test]
 fn refusals_are_said_and_passed_over() {
     let folder = folder("refusals");
-    run(&folder, "sample s.packets");
+    good(&folder, "sample s.packets");
     let file = fs::read(folder.join("s.packets")).unwrap();
     // Behind the recording a header, which is no frame, and an empty packet.
     let longer = [&file[..], &[1, 0, 0, 0, 0x80], &[0; 4]].concat();
     fs::write(folder.join("longer"), longer).unwrap();
-    let (status, out, err) = said(&run(&folder, "decode longer --hashes h"));
+    let (status, out, err) = run(&folder, "hashes longer h --index i");
     assert_eq!(status, 1);
     let meaning = "refusal 10: the first bit of a frame packet is 1";
-    assert_eq!(err, format!("wedgepetal: packet 10: {meaning}\n"));
+    assert_eq!(err, format!("wedgepetal: longer: packet 10: {meaning}\n"));
     assert_eq!(
         out,
         format!(
@@ -140,39 +259,185 @@ fn refusals_are_said_and_passed_over() {
     );
     let hashes = fs::read_to_string(folder.join("h")).unwrap();
     assert!(hashes.contains("frame 10 refused 10\nframe 11 repeat - "));
+    let index = fs::read_to_string(folder.join("i")).unwrap();
+    let row = "1,10,,refused,,10,\"the first bit of a frame packet is 1\",0.280000\n1,11,7,repeat,,,,0.320000\n";
+    assert!(index.ends_with(row), "{index}");
+}
+
+#[test]
+fn many_refusals_are_counted() {
+    let folder = folder("many_refusals");
+    good(&folder, "sample s.packets");
+    let file = fs::read(folder.join("s.packets")).unwrap();
+    let longer = [&file[..], &[1, 0, 0, 0, 0x80].repeat(50)].concat();
+    fs::write(folder.join("longer"), longer).unwrap();
+    let (status, out, err) = run(&folder, "hashes longer h");
+    assert_eq!((status, err.lines().count()), (1, 10), "{err}");
+    assert!(
+        err.ends_with("more are counted, --index lists them\n"),
+        "{err}"
+    );
+    assert!(out.contains("packets refused: 50"), "{out}");
+}
+
+/// Runs the command in a folder, with a standard output that no one reads.
+fn run_unread(folder: &Path, words: &str) -> common::Ended {
+    let (reader, writer) = UnixStream::pair().unwrap();
+    drop(reader);
+    let mut command = command(folder, words);
+    ended(&command.stdout(OwnedFd::from(writer)).output().unwrap())
 }
 
 #[test]
 fn an_output_without_a_reader_is_no_failure() {
     let folder = folder("unread");
-    run(&folder, "sample s.packets");
+    good(&folder, "sample s.packets");
     for words in [
-        "decode s.packets --hashes -",
-        "decode s.packets --y4m -",
-        "decode s.packets",
+        "hashes s.packets -",
+        "y4m s.packets -",
+        "picture s.packets -",
+        "packets s.packets -",
         "info s.packets",
         "help",
     ] {
-        let (status, _, err) = said(&run_unread(&folder, words));
-        assert_eq!((status, &err[..]), (0, ""), "{words}");
+        let (status, _, err) = run_unread(&folder, words);
+        assert_eq!(status, 0, "{words}");
+        assert!(!err.contains("ipe"), "{words}: {err}");
     }
-    // The other output is written to its end.
-    let output = run_unread(&folder, "decode s.packets --y4m - --hashes h");
-    let (status, _, err) = said(&output);
-    assert_eq!(status, 0);
-    assert!(err.contains("7 frames"), "{err}");
-    let hashes = fs::read_to_string(folder.join("h")).unwrap();
-    assert_eq!(hashes.lines().count(), 7);
+    // The index is written to its end.
+    let (status, _, err) = run_unread(&folder, "y4m s.packets - --index i");
+    assert!(status == 0 && err.contains("7 frames"), "{err}");
+    assert_eq!(
+        fs::read_to_string(folder.join("i"))
+            .unwrap()
+            .lines()
+            .count(),
+        8
+    );
 }
 
 #[test]
-fn a_refused_recording_leaves_no_files() {
-    let folder = folder("no_files");
-    fs::write(folder.join("other"), "no recording").unwrap();
-    let (status, out, err) = said(&run(&folder, "decode other --hashes h --planes p"));
+fn what_is_no_recording_is_named_and_leaves_no_files() {
+    let folder = folder("no_recording");
+    for (name, bytes, wanted) in [
+        ("notes.txt", &b"shot 12: 25 frames"[..], "but a text"),
+        (
+            "sound.wav",
+            b"RIFF\x24\x08\0\0WAVEfmt ",
+            "but a RIFF file (AVI or WAV)",
+        ),
+        ("empty", b"", "but an empty file"),
+        ("other", &[0; 100], "but something else"),
+    ] {
+        fs::write(folder.join(name), bytes).unwrap();
+        for words in [format!("y4m {name} f --index i"), format!("info {name}")] {
+            let (status, out, err) = run(&folder, &words);
+            assert_eq!((status, &out[..]), (1, ""), "{words}");
+            assert!(
+                err.contains(&format!("{name}: no Ogg file and no packet file, {wanted}")),
+                "{err}"
+            );
+        }
+    }
+    for (words, wanted) in [
+        ("y4m missing f", "missing: No such file"),
+        ("frames missing f", "missing: No such file"),
+        ("info .", ".: is a folder"),
+    ] {
+        let (status, _, err) = run(&folder, words);
+        assert!(status == 2 && err.contains(wanted), "{words}: {err}");
+    }
+    assert_eq!(names(&folder), ["empty", "notes.txt", "other", "sound.wav"]);
+}
+
+#[test]
+fn memory_is_summed_up_before_it_is_asked_for() {
+    let folder = folder("memory");
+    let packets = sample_packets(&folder);
+    // FMBW and FMBH of 65,535; PF 3, which is 4:4:4.
+    let huge = common::changed_header(&packets, 10, &[0xFF; 4]);
+    let huge = common::changed_header(&huge, 41, &[packets[0][41] | 3 << 3]);
+    fs::write(folder.join("huge"), recording::packet_file::write(&huge)).unwrap();
+    let (status, out, err) = run(&folder, "y4m huge f --index i");
     assert_eq!((status, &out[..]), (1, ""));
-    assert!(err.contains("cut short"), "{err}");
-    assert!(!folder.join("h").exists() && !folder.join("p").exists());
-    let (status, _, err) = said(&run(&folder, "decode missing --hashes h"));
-    assert_eq!(status, 2, "{err}");
+    assert!(
+        err.contains("huge: its frames need 17.8 TB of memory, more than the "),
+        "{err}"
+    );
+    assert!(
+        err.contains("that are free here (--max-memory sets another limit)"),
+        "{err}"
+    );
+    assert_eq!(names(&folder), ["huge"]);
+    let text = good(&folder, "info huge");
+    assert!(
+        text.contains("Y' 1048560 x 1048560, Cb and Cr 1048560 x 1048560 (4:4:4)"),
+        "{text}"
+    );
+    assert!(text.contains("memory    17.8 TB to decode it"), "{text}");
+    good(&folder, "sample s.packets");
+    let (status, _, err) = run(&folder, "y4m s.packets f --max-memory 600K");
+    assert!(
+        status == 1 && err.contains("more than the 614.4 kB that --max-memory allows"),
+        "{err}"
+    );
+    good(&folder, "y4m s.packets f --max-memory 1M");
+}
+
+#[test]
+fn devices_and_pipes_are_outputs() {
+    let folder = folder("devices");
+    good(&folder, "sample s.packets");
+    good(&folder, "y4m s.packets s.y4m");
+    let (status, _, err) = run(&folder, "y4m s.packets /dev/full");
+    assert!(
+        status == 2 && err.contains("/dev/full: No space left"),
+        "{err}"
+    );
+    let (status, _, err) = run(&folder, "hashes s.packets h --index /dev/full");
+    assert!(
+        status == 2 && err.contains("/dev/full: No space left"),
+        "{err}"
+    );
+    assert!(!folder.join("h").exists());
+    good(&folder, "y4m s.packets /dev/null");
+    let made = Command::new("mkfifo")
+        .arg(folder.join("pipe"))
+        .status()
+        .unwrap();
+    assert!(made.success());
+    let read = fs::File::create(folder.join("read")).unwrap();
+    let mut reader = Command::new("cat");
+    let mut reader = reader
+        .arg(folder.join("pipe"))
+        .stdout(read)
+        .spawn()
+        .unwrap();
+    good(&folder, "y4m s.packets pipe");
+    assert!(reader.wait().unwrap().success());
+    let bytes = |name: &str| fs::read(folder.join(name)).unwrap();
+    assert_eq!(bytes("read"), bytes("s.y4m"));
+}
+
+#[test]
+fn a_full_disk_leaves_nothing() {
+    let folder = folder("full_disk");
+    good(&folder, "sample s.packets");
+    // No file may be longer than 100 blocks.
+    let program = env!("CARGO_BIN_EXE_wedgepetal");
+    for words in ["y4m s.packets f --index i", "frames s.packets f"] {
+        let script = format!("trap '' XFSZ; ulimit -f 100; exec {program} {words}");
+        let mut shell = Command::new("sh");
+        let output = shell
+            .args(["-c", &script])
+            .current_dir(&folder)
+            .output()
+            .unwrap();
+        let (status, _, err) = ended(&output);
+        assert!(
+            status == 2 && err.contains("File too large"),
+            "{words}: {err}"
+        );
+        assert_eq!(names(&folder), ["s.packets"], "{words}");
+    }
 }

@@ -7,7 +7,7 @@ mod headers;
 
 use encoder::{Encoder, Mode};
 pub use headers::identification_header;
-use recording::ogg;
+use recording::{Fault, ogg};
 
 /// The serial number of the sample's stream.
 const SERIAL: u32 = 1;
@@ -36,7 +36,7 @@ pub fn packets() -> Vec<Vec<u8>> {
 /// # Errors
 ///
 /// libogg cannot be had.
-pub fn ogg_file() -> Result<Vec<u8>, ogg::Fault> {
+pub fn ogg_file() -> Result<Vec<u8>, Fault> {
     let packets = packets().into_iter().enumerate();
     let packets: Vec<_> = packets
         .map(|(number, packet)| (packet, granule(number as u64)))

@@ -1,5 +1,6 @@
-//! What `wedgepetal info` prints of a recording.
+//! The fields of a session and its sizes by their names in the specification.
 
+use crate::json::Json;
 use std::fmt::{self, Write};
 use wedgepetal::lists::TABLE_BYTES;
 use wedgepetal::{Session, Sizes, WorkLengths};
@@ -40,7 +41,8 @@ fn write_fields(out: &mut String, s: &Session) -> fmt::Result {
     line(out, "FRD", s.frd, "frame rate, denominator")?;
     line(out, "PARN", s.parn, "aspect ratio of a sample, numerator")?;
     line(out, "PARD", s.pard, "aspect ratio of a sample, denominator")?;
-    line(out, "CS", s.cs, colour_space(s.cs))?;
+    let note = format!("colour space: {}", colour_space(s.cs));
+    line(out, "CS", s.cs, &note)?;
     line(out, "NOMBR", s.nombr, "nominal bits a second")?;
     line(out, "QUAL", s.qual, "quality hint")?;
     line(out, "KFGSHIFT", s.kfgshift, "shift of the key frame number")?;
@@ -48,12 +50,12 @@ fn write_fields(out: &mut String, s: &Session) -> fmt::Result {
 }
 
 /// The name of a colour space.
-fn colour_space(cs: u64) -> &'static str {
+pub fn colour_space(cs: u64) -> &'static str {
     match cs {
-        0 => "colour space undefined",
-        1 => "colour space Rec. 470M",
-        2 => "colour space Rec. 470BG",
-        _ => "colour space reserved",
+        0 => "not said",
+        1 => "Rec. 470M",
+        2 => "Rec. 470BG",
+        _ => "reserved",
     }
 }
 
@@ -90,4 +92,50 @@ fn write_memory(out: &mut String, sizes: &Sizes, lengths: &WorkLengths) -> fmt::
     writeln!(out, "  three buffers         {}", 3 * sizes.buffer)?;
     writeln!(out, "  work memory           {}", lengths.bytes)?;
     writeln!(out, "  table memory          {TABLE_BYTES}")
+}
+
+/// The fields as JSON.
+pub fn json(s: &Session) -> Json {
+    let fields = [
+        ("VREV", s.vrev),
+        ("FMBW", s.fmbw),
+        ("FMBH", s.fmbh),
+        ("PICW", s.picw),
+        ("PICH", s.pich),
+        ("PICX", s.picx),
+        ("PICY", s.picy),
+        ("FRN", s.frn),
+        ("FRD", s.frd),
+        ("PARN", s.parn),
+        ("PARD", s.pard),
+        ("CS", s.cs),
+        ("NOMBR", s.nombr),
+        ("QUAL", s.qual),
+        ("KFGSHIFT", s.kfgshift),
+        ("PF", s.pf),
+    ];
+    Json::Object(
+        fields
+            .map(|(name, value)| (name, Json::Number(value)))
+            .into(),
+    )
+}
+
+/// The sizes as JSON.
+pub fn sizes_json(sizes: &Sizes) -> Json {
+    let planes = sizes.planes.each_ref().map(|plane| {
+        Json::Object(vec![
+            ("width", Json::Number(8 * plane.blocks_across)),
+            ("height", Json::Number(8 * plane.blocks_up)),
+            ("offset", Json::Number(plane.offset)),
+            ("length", Json::Number(plane.length)),
+        ])
+    });
+    Json::Object(vec![
+        ("NMBS", Json::Number(sizes.macro_blocks)),
+        ("NBS", Json::Number(sizes.blocks)),
+        ("NSBS", Json::Number(sizes.super_blocks)),
+        ("buffer", Json::Number(sizes.buffer)),
+        ("planes", Json::List(planes.into())),
+    ])
 }

@@ -1,0 +1,88 @@
+//! A table of all packets, as CSV.
+
+use crate::clock::Time;
+use crate::output::{Answer, kind_name, qi_list};
+use crate::target::Target;
+use std::path::Path;
+use wedgepetal::Refusal;
+
+/// The names of the columns.
+const COLUMNS: &str = "stream,packet,frame,kind,qi,refusal,meaning,time_s\n";
+
+/// A line for each packet and each gap.
+pub struct Index(Target);
+
+impl Index {
+    /// Plans a table.
+    ///
+    /// # Errors
+    ///
+    /// A file is there already and may not be replaced.
+    pub fn plan(path: &Path, force: bool) -> Result<Index, String> {
+        Target::plan(path, force).map(Index)
+    }
+
+    /// The packets of a stream follow.
+    pub fn begin(&mut self) -> Result<(), String> {
+        if self.0.is_planned() {
+            self.0.open()?;
+            self.0.write(|out| out.write_all(COLUMNS.as_bytes()))?;
+        }
+        Ok(())
+    }
+
+    /// The line of a packet. It may be left out behind a gap.
+    pub fn packet(
+        &mut self,
+        stream: u64,
+        answer: &Answer<'_>,
+        left_out: bool,
+        time: Time,
+    ) -> Result<(), String> {
+        let packet = answer.packet;
+        let line = match answer.answer {
+            Ok(accepted) => {
+                let (number, kind) = (answer.number, kind_name(accepted.kind));
+                let qis = qi_list(&accepted, " ");
+                format!("{stream},{packet},{number},{kind},{qis},,,{time}\n")
+            }
+            Err(refusal @ Refusal(number)) => {
+                let kind = if left_out { "left out" } else { "refused" };
+                let meaning = quoted(refusal.meaning());
+                format!("{stream},{packet},,{kind},,{number},{meaning},{time}\n")
+            }
+        };
+        self.0.write(|out| out.write_all(line.as_bytes()))
+    }
+
+    /// The line of a gap, between two packets.
+    pub fn gap(&mut self, stream: u64, what: &str, time: Time) -> Result<(), String> {
+        let line = format!("{stream},,,gap,,,{},{time}\n", quoted(what));
+        self.0.write(|out| out.write_all(line.as_bytes()))
+    }
+
+    /// Writes what is still held back.
+    pub fn flush(&mut self) -> Result<(), String> {
+        self.0.flush()
+    }
+
+    /// All is written: it takes its own name.
+    pub fn finish(&mut self) -> Result<(), String> {
+        self.0.finish()
+    }
+}
+
+/// A text as CSV has it.
+fn quoted(text: &str) -> String {
+    format!("\"{}\"", text.replace('"', "\"\""))
+}
+
+#[cfg(test)]
+mod tests {
+    use super::*;
+
+    #[test]
+    fn texts_are_quoted() {
+        assert_eq!(quoted("a \"b\", c"), "\"a \"\"b\"\", c\"");
+    }
+}
