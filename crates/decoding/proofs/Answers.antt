@@ -27,7 +27,7 @@ module _ (s : Session) (fits : sessionFits s ≡ true) where
       let k = fits-macro-blocks s fits in
       let t = trees-whole table (held-reads table h) in
       ap (λ (o : Outcome Frame). after o (λ fr e. got (record { setup = setup; frame = fr }) e))
-      (packet-readable (format s) (s .fmbw) (s .fmbh) (setup .trees) (trees-proper (setup .trees) (t .0) (t .1)) (k .1) (k .3) (s .references) packet)
+      (packet-readable (format s) (s .fields .fmbw) (s .fields .fmbh) (setup .trees) (trees-proper (setup .trees) (t .0) (t .1)) (k .1) (k .3) (s .references) packet)
 
   pub read-readable : (table packet : List ℕ) → read s table (readable packet) ≡ read s table packet
   unfolding read

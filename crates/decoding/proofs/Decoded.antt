@@ -168,26 +168,26 @@ module _ (f : PixelFormat) (w h : ℕ) (fr : Frame) (fits : Fits f w h fr) where
 
 -- ---- a call, once its packet was read by a setup
 module _ (s : Session) (setup : Setup) (packet nodes : List ℕ) (et : treesOf nodes ≡ setup .trees) {f : PixelFormat} (ef : f ≡ format s) {r : FrameRead} {m : Work}
-    (er : r ≡ asFrame (framePacket f (s .fmbw) (s .fmbh) (treesOf nodes) (s .references) packet))
-    (em : m ≡ workAfter f (s .fmbw) (s .fmbh) (framePacket f (s .fmbw) (s .fmbh) (treesOf nodes) (s .references) packet)) where
+    (er : r ≡ asFrame (framePacket f (s .fields .fmbw) (s .fields .fmbh) (treesOf nodes) (s .references) packet))
+    (em : m ≡ workAfter f (s .fields .fmbw) (s .fields .fmbh) (framePacket f (s .fields .fmbw) (s .fields .fmbh) (treesOf nodes) (s .references) packet)) where
   abbrev o : Outcome Frame
-  o = framePacket (format s) (s .fmbw) (s .fmbh) (setup .trees) (s .references) packet
+  o = framePacket (format s) (s .fields .fmbw) (s .fields .fmbh) (setup .trees) (s .references) packet
 
-  same : framePacket f (s .fmbw) (s .fmbh) (treesOf nodes) (s .references) packet ≡ o
-  same = λ i. framePacket (ef i) (s .fmbw) (s .fmbh) (et i) (s .references) packet
+  same : framePacket f (s .fields .fmbw) (s .fields .fmbh) (treesOf nodes) (s .references) packet ≡ o
+  same = λ i. framePacket (ef i) (s .fields .fmbw) (s .fields .fmbh) (et i) (s .references) packet
 
   answer-is : r ≡ asFrame o
   answer-is = er ∙ ap asFrame same
 
-  work-is : m ≡ workAfter (format s) (s .fmbw) (s .fmbh) o
-  work-is = em ∙ (λ i. workAfter (ef i) (s .fmbw) (s .fmbh) (same i))
+  work-is : m ≡ workAfter (format s) (s .fields .fmbw) (s .fields .fmbh) o
+  work-is = em ∙ (λ i. workAfter (ef i) (s .fields .fmbw) (s .fields .fmbh) (same i))
 
   module _ (golden previous new : List ℕ) where
     pub on-refused : {k e : ℕ} → r .read ≡ Refused k e → (a : FrameAnswer) → a ≡ answerFor s (refused k 0) → (dc : List ℤ) → dc ≡ replicate (blocks s) (pos 0)
         → done a new (record { work = m; dc = dc }) ≡ decoded firstWay (state s golden previous) new (readBy s setup packet)
     on-refused {k} {e} h a ea dc ed =
         let g = read-refused o answer-is h in
-        let w = work-is ∙ ap (workAfter (format s) (s .fmbw) (s .fmbh)) g in
+        let w = work-is ∙ ap (workAfter (format s) (s .fields .fmbw) (s .fields .fmbh)) g in
         (λ i. done (ea i) new (record { work = w i; dc = ed i }))
         ∙ ap (λ (o : Outcome Frame). decoded firstWay (state s golden previous) new (after o (λ fr e. got (record { setup = setup; frame = fr }) e))) (sym g)
 
@@ -198,31 +198,31 @@ module _ (s : Session) (setup : Setup) (packet nodes : List ℕ) (et : treesOf n
     abbrev fr : Frame
     fr = there .0
 
-    fits : Fits (format s) (s .fmbw) (s .fmbh) fr
-    fits = packet-fits (format s) (s .fmbw) (s .fmbh) (setup .trees) (s .references) packet (there .1)
+    fits : Fits (format s) (s .fields .fmbw) (s .fields .fmbh) fr
+    fits = packet-fits (format s) (s .fields .fmbw) (s .fields .fmbh) (setup .trees) (s .references) packet (there .1)
 
-    work-held : m ≡ holding (format s) (s .fmbw) (s .fmbh) (fr .body)
-    work-held = work-is ∙ ap (workAfter (format s) (s .fmbw) (s .fmbh)) (there .1)
+    work-held : m ≡ holding (format s) (s .fields .fmbw) (s .fields .fmbh) (fr .body)
+    work-held = work-is ∙ ap (workAfter (format s) (s .fields .fmbw) (s .fields .fmbh)) (there .1)
 
-    pub lent : BlocksLent f (s .fmbw) (s .fmbh) (m .records) (m .coded) count (m .coefs) (m .lasts) (r .header .count)
+    pub lent : BlocksLent f (s .fields .fmbw) (s .fields .fmbh) (m .records) (m .coded) count (m .coefs) (m .lasts) (r .header .count)
     lent =
         let m = sym work-held in
         let c = sym (there .2) in
         let q = sym (there .3) in
-        transport (λ i. BlocksLent (sym ef i) (s .fmbw) (s .fmbh) (m i .records) (m i .coded) (c i) (m i .coefs) (m i .lasts) (q i .count)) (held-lent (format s) (s .fmbw) (s .fmbh) fr fits)
+        transport (λ i. BlocksLent (sym ef i) (s .fields .fmbw) (s .fields .fmbh) (m i .records) (m i .coded) (c i) (m i .coefs) (m i .lasts) (q i .count)) (held-lent (format s) (s .fields .fmbw) (s .fields .fmbh) fr fits)
 
     pub header-few : (r .header .count ≤ 3) × AllQi (r .header .qis) 3
-    header-few = subst (λ (x : Header). (x .count ≤ 3) × AllQi (x .qis) 3) (sym (there .3)) (fits .most, held-qi (format s) (s .fmbw) (s .fmbh) fr fits)
+    header-few = subst (λ (x : Header). (x .count ≤ 3) × AllQi (x .qis) 3) (sym (there .3)) (fits .most, held-qi (format s) (s .fields .fmbw) (s .fields .fmbh) fr fits)
 
     -- the frame
     module _ (golden previous new : List ℕ)
-        (en : new ≡ firstWay f (s .fmbw) (s .fmbh) (pictureOf f (s .fmbw) (s .fmbh) (blocksIn (m .records) (m .coded) count (m .coefs) (m .lasts))
+        (en : new ≡ firstWay f (s .fields .fmbw) (s .fields .fmbh) (pictureOf f (s .fields .fmbw) (s .fields .fmbh) (blocksIn (m .records) (m .coded) count (m .coefs) (m .lasts))
         (λ type plane index. matrixOf (setup .parameters) type plane (getD (r .header .qis) index 0)) (limitOf setup (getD (r .header .qis) 0 0)) golden previous) previous) where
-      frame-is : new ≡ firstWay (format s) (s .fmbw) (s .fmbh) (picture s (record { setup = setup; frame = fr }) golden previous) previous
+      frame-is : new ≡ firstWay (format s) (s .fields .fmbw) (s .fields .fmbh) (picture s (record { setup = setup; frame = fr }) golden previous) previous
       unfolding picture
       frame-is =
-          let w = s .fmbw in
-          let h = s .fmbh in
+          let w = s .fields .fmbw in
+          let h = s .fields .fmbh in
           let b = fr .body in
           let ec = there .2 in
           let eh = there .3 in
@@ -240,7 +240,7 @@ module _ (s : Session) (setup : Setup) (packet nodes : List ℕ) (et : treesOf n
           (zeros : (records ≡ replicate (length (m .records)) 0) × (coded ≡ replicate (length (m .coded)) 0) × (coefs ≡ replicate (length (m .coefs)) (pos 0)) × (dc ≡ replicate (length dc₀) (pos 0)) × (lasts ≡ replicate (length (m .lasts)) 0)) where
         memory-is : memory records coded coefs dc lasts (m .flags) (m .bits) (m .supers) (m .modes) (m .active) ≡ cleared s
         memory-is =
-            let l = held-long (format s) (s .fmbw) (s .fmbh) fr fits in
+            let l = held-long (format s) (s .fields .fmbw) (s .fields .fmbh) fr fits in
             let ld : length dc₀ ≡ blocks s = ap length ed ∙ length-replicate (blocks s) (pos 0) in
             let er = zeros .0 ∙ ap (λ (k : ℕ). replicate k 0) (ap (λ (m : Work). length (m .records)) work-held ∙ l .0) in
             let ec = zeros .1 ∙ ap (λ (k : ℕ). replicate k 0) (ap (λ (m : Work). length (m .coded)) work-held ∙ l .1) in

@@ -46,7 +46,7 @@ pub record Asked : Type 0 where
 
 -- a packet by a setup
 abbrev pub readBy : Session → Setup → (packet : List ℕ) → Outcome Asked
-readBy s setup packet = after (framePacket (format s) (s .fmbw) (s .fmbh) (setup .trees) (s .references) packet) (λ fr e. got (record { setup = setup; frame = fr }) e)
+readBy s setup packet = after (framePacket (format s) (s .fields .fmbw) (s .fields .fmbh) (setup .trees) (s .references) packet) (λ fr e. got (record { setup = setup; frame = fr }) e)
 
 -- "the rest of 8, then the packet"
 unfoldable pub read : Session → (table packet : List ℕ) → Outcome Asked
@@ -69,30 +69,12 @@ matricesAsked a type plane index = matrixOf (a .setup .parameters) type plane (q
 
 -- "L is the limit of the first qi"
 unfoldable pub picture : Session → Asked → (golden previous : List ℕ) → Picture
-picture s a = pictureOf (format s) (s .fmbw) (s .fmbh) (blocksAsked a) (matricesAsked a) (limitOf (a .setup) (qiAt a 0))
+picture s a = pictureOf (format s) (s .fields .fmbw) (s .fields .fmbh) (blocksAsked a) (matricesAsked a) (limitOf (a .setup) (qiAt a 0))
 
 -- ---- what a call leaves
 -- "Accepted inter and empty packets leave the session as it was; an intra one sets its reference flag"
 unfoldable pub sessionAfter : Kind → Session → Session
-sessionAfter Intra s = record {
-  vrev = s .vrev;
-  fmbw = s .fmbw;
-  fmbh = s .fmbh;
-  picw = s .picw;
-  pich = s .pich;
-  picx = s .picx;
-  picy = s .picy;
-  frn = s .frn;
-  frd = s .frd;
-  parn = s .parn;
-  pard = s .pard;
-  cs = s .cs;
-  nombr = s .nombr;
-  qual = s .qual;
-  kfgshift = s .kfgshift;
-  pf = s .pf;
-  references = true;
-}
+sessionAfter Intra s = record { fields = s .fields; references = true }
 sessionAfter Inter s = s
 sessionAfter Repeat s = s
 
@@ -111,7 +93,7 @@ abbrev pub newBy : Way → State → List ℕ → Outcome Asked → List ℕ
 newBy way st new (refused k e) = new
 newBy way st new (got a e) =
     let s = st .session in
-    way (format s) (s .fmbw) (s .fmbh) (picture s a (st .golden) (st .previous)) (st .previous)
+    way (format s) (s .fields .fmbw) (s .fields .fmbh) (picture s a (st .golden) (st .previous)) (st .previous)
 
 -- what a call past its length check leaves
 abbrev pub decoded : Way → State → (new : List ℕ) → Outcome Asked → Done

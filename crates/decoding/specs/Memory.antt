@@ -18,8 +18,8 @@ memory records coded coefs dc lasts flags bits supers modes active = record { wo
 
 -- the blocks of a session's frames
 abbrev pub blocks : Session → ℕ
-blocks s = blocksOf (format s) (s .fmbw) (s .fmbh)
+blocks s = blocksOf (format s) (s .fields .fmbw) (s .fields .fmbh)
 
 -- work memory of the published lengths, all zero
 abbrev pub cleared : Session → Memory
-cleared s = record { work = clear (format s) (s .fmbw) (s .fmbh); dc = replicate (blocks s) (pos 0) }
+cleared s = record { work = clear (format s) (s .fields .fmbw) (s .fields .fmbh); dc = replicate (blocks s) (pos 0) }

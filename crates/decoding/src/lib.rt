@@ -174,9 +174,9 @@ fn decode_packet(
         → done r (now (new .exit)) (memory (now (records .exit)) (now (coded .exit)) (now (coefs .exit)) (now (dc .exit)) (now (lasts .exit)) (now (flags .exit)) (now (bits .exit)) (now (supers .exit)) (now (modes .exit)) (now (active .exit)))
         ≡ decoded firstWay (state s (now (golden .entry)) (now (previous .entry))) (now (new .entry)) (readBy s setup (now (packet .entry)))) ⌝ }
 {
-    let format = headers::pixel_format(s.pf);
-    let w = s.fmbw;
-    let h = s.fmbh;
+    let format = headers::pixel_format(s.fields.pf);
+    let w = s.fields.fmbw;
+    let h = s.fields.fmbh;
     let got = frame_packet::read_frame(
         packet,
         s.references,

@@ -17,22 +17,24 @@ header =
 
 session : Session
 session = record {
-  vrev = 1;
-  fmbw = 2;
-  fmbh = 1;
-  picw = 30;
-  pich = 16;
-  picx = 2;
-  picy = 0;
-  frn = 30;
-  frd = 1;
-  parn = 0;
-  pard = 0;
-  cs = 0;
-  nombr = 0;
-  qual = 63;
-  kfgshift = 6;
-  pf = 0;
+  fields = record {
+    vrev = 1;
+    fmbw = 2;
+    fmbh = 1;
+    picw = 30;
+    pich = 16;
+    picx = 2;
+    picy = 0;
+    frn = 30;
+    frd = 1;
+    parn = 0;
+    pard = 0;
+    cs = 0;
+    nombr = 0;
+    qual = 63;
+    kfgshift = 6;
+    pf = 0;
+  };
   references = false;
 }
 

@@ -7,6 +7,7 @@ use lib.ListN.{length, getD}
 use lib.Dec.{lit<}
 use mathlib.Core.Bool.{Bool, true, false, _&&_, false≢true, and-true, and-assoc}
 use borrow.Author.Tests.{ltb-true}
+use Rattle.headers.specs.declared.Fields.{Fields}
 use Rattle.headers.specs.declared.Session.{Session}
 use Rattle.headers.specs.Fits.{all, widthsFit, rangesHold, sessionFits}
 
@@ -37,22 +38,22 @@ all-at (true ∷ bs) (suc k) h l = all-at bs k h (omega arith)
 all-at (false ∷ bs) k h l = absurd (false≢true h)
 all-at [] k h l = absurd (omega arith)
 
-pub widths-macro-blocks : (s : Session) → widthsFit s ≡ true → (s .fmbw < 2 ^ 16) × (s .fmbh < 2 ^ 16)
+pub widths-macro-blocks : (f : Fields) → widthsFit f ≡ true → (f .fmbw < 2 ^ 16) × (f .fmbh < 2 ^ 16)
 unfolding widthsFit
-widths-macro-blocks s h = (ltb-true _ _ (all-at _ 1 h (lit< tt)), ltb-true _ _ (all-at _ 2 h (lit< tt)))
+widths-macro-blocks f h = (ltb-true _ _ (all-at _ 1 h (lit< tt)), ltb-true _ _ (all-at _ 2 h (lit< tt)))
 
-ranges-macro-blocks : (s : Session) → rangesHold s ≡ true → (0 < s .fmbw) × (0 < s .fmbh)
+ranges-macro-blocks : (f : Fields) → rangesHold f ≡ true → (0 < f .fmbw) × (0 < f .fmbh)
 unfolding rangesHold
-ranges-macro-blocks s h = (ltb-true _ _ (all-at _ 0 h (lit< tt)), ltb-true _ _ (all-at _ 1 h (lit< tt)))
+ranges-macro-blocks f h = (ltb-true _ _ (all-at _ 0 h (lit< tt)), ltb-true _ _ (all-at _ 1 h (lit< tt)))
 
-fits-both : (s : Session) → sessionFits s ≡ true → (widthsFit s ≡ true) × (rangesHold s ≡ true)
+fits-both : (s : Session) → sessionFits s ≡ true → (widthsFit (s .fields) ≡ true) × (rangesHold (s .fields) ≡ true)
 unfolding sessionFits
-fits-both s h = and-both (widthsFit s) (rangesHold s) h
+fits-both s h = and-both (widthsFit (s .fields)) (rangesHold (s .fields)) h
 
 -- a frame has 1 to 65,535 macro blocks each way
-pub fits-macro-blocks : (s : Session) → sessionFits s ≡ true → (0 < s .fmbw) × (s .fmbw ≤ 65535) × (0 < s .fmbh) × (s .fmbh ≤ 65535)
+pub fits-macro-blocks : (s : Session) → sessionFits s ≡ true → (0 < s .fields .fmbw) × (s .fields .fmbw ≤ 65535) × (0 < s .fields .fmbh) × (s .fields .fmbh ≤ 65535)
 fits-macro-blocks s h =
     let f = fits-both s h in
-    let w = widths-macro-blocks s (f .0) in
-    let r = ranges-macro-blocks s (f .1) in
+    let w = widths-macro-blocks (s .fields) (f .0) in
+    let r = ranges-macro-blocks (s .fields) (f .1) in
     (r .0, omega arith, r .1, omega arith)

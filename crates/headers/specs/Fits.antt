@@ -3,6 +3,7 @@ use Prim.Native.Nat.{ℕ, _-_, _*_, _^_}
 use mathlib.Core.Bool.{Bool, true, _&&_}
 use mathlib.Core.List.{List, [], _∷_}
 use lib.Dec.{ltb}
+use Rattle.headers.specs.declared.Fields.{Fields}
 use Rattle.headers.specs.declared.Session.{Session}
 use Rattle.headers.specs.Judgement.{isPositive, isAtMost, isFormat}
 
@@ -16,23 +17,23 @@ all [] = true
 all (b ∷ bs) = b && all bs
 
 -- the width of each field
-unfoldable pub widthsFit : Session → Bool
-widthsFit s =
-    all (within 8 (s .vrev) ∷ within 16 (s .fmbw) ∷ within 16 (s .fmbh) ∷ within 24 (s .picw) ∷ within 24 (s .pich)
-    ∷ within 8 (s .picx) ∷ within 8 (s .picy) ∷ within 32 (s .frn) ∷ within 32 (s .frd) ∷ within 24 (s .parn)
-    ∷ within 24 (s .pard) ∷ within 8 (s .cs) ∷ within 24 (s .nombr) ∷ within 6 (s .qual) ∷ within 5 (s .kfgshift)
-    ∷ within 2 (s .pf) ∷ [])
+unfoldable pub widthsFit : Fields → Bool
+widthsFit f =
+    all (within 8 (f .vrev) ∷ within 16 (f .fmbw) ∷ within 16 (f .fmbh) ∷ within 24 (f .picw) ∷ within 24 (f .pich)
+    ∷ within 8 (f .picx) ∷ within 8 (f .picy) ∷ within 32 (f .frn) ∷ within 32 (f .frd) ∷ within 24 (f .parn)
+    ∷ within 24 (f .pard) ∷ within 8 (f .cs) ∷ within 24 (f .nombr) ∷ within 6 (f .qual) ∷ within 5 (f .kfgshift)
+    ∷ within 2 (f .pf) ∷ [])
 
 -- "PICW 24 ≤ 16·FMBW", "PICX 8 ≤ 16·FMBW−PICW", and the same up
 unfoldable pub pictureInside : ℕ → ℕ → ℕ → Bool
 pictureInside frame size offset = isAtMost frame size && isAtMost (frame - size) offset
 
 -- 5 and 6: the judgements of the identification header
-unfoldable pub rangesHold : Session → Bool
-rangesHold s =
-    all (isPositive (s .fmbw) ∷ isPositive (s .fmbh) ∷ pictureInside (16 * s .fmbw) (s .picw) (s .picx)
-    ∷ pictureInside (16 * s .fmbh) (s .pich) (s .picy) ∷ isPositive (s .frn) ∷ isPositive (s .frd) ∷ isFormat (s .pf) ∷ [])
+unfoldable pub rangesHold : Fields → Bool
+rangesHold f =
+    all (isPositive (f .fmbw) ∷ isPositive (f .fmbh) ∷ pictureInside (16 * f .fmbw) (f .picw) (f .picx)
+    ∷ pictureInside (16 * f .fmbh) (f .pich) (f .picy) ∷ isPositive (f .frn) ∷ isPositive (f .frd) ∷ isFormat (f .pf) ∷ [])
 
 -- "the identification fields break 5, 6 or their widths": they do not
 unfoldable pub sessionFits : Session → Bool
-sessionFits s = widthsFit s && rangesHold s
+sessionFits s = widthsFit (s .fields) && rangesHold (s .fields)

@@ -53,22 +53,24 @@ coding = do
 -- "The session record holds the identification fields and whether references exist (at first not)"
 abbrev pub freshSession : ℕ → FrameSize → Rates → Coding → Session
 freshSession vrev f r c = record {
-  vrev = vrev;
-  fmbw = f .fmbw;
-  fmbh = f .fmbh;
-  picw = f .picw;
-  pich = f .pich;
-  picx = f .picx;
-  picy = f .picy;
-  frn = r .frn;
-  frd = r .frd;
-  parn = r .parn;
-  pard = r .pard;
-  cs = r .cs;
-  nombr = c .nombr;
-  qual = c .qual;
-  kfgshift = c .kfgshift;
-  pf = c .pf;
+  fields = record {
+    vrev = vrev;
+    fmbw = f .fmbw;
+    fmbh = f .fmbh;
+    picw = f .picw;
+    pich = f .pich;
+    picx = f .picx;
+    picy = f .picy;
+    frn = r .frn;
+    frd = r .frd;
+    parn = r .parn;
+    pard = r .pard;
+    cs = r .cs;
+    nombr = c .nombr;
+    qual = c .qual;
+    kfgshift = c .kfgshift;
+    pf = c .pf;
+  };
   references = false;
 }
 

@@ -14,8 +14,8 @@ formatOf pf = choose (eqb pf 0) PixelFormat.Chroma420 (choose (eqb pf 2) PixelFo
 
 -- a session's pixel format
 abbrev pub format : Session → PixelFormat
-format s = formatOf (s .pf)
+format s = formatOf (s .fields .pf)
 
 -- the sizes of a session's frames, or number 8
 unfoldable pub sessionSizes : Session → SizesAnswer
-sessionSizes s = choose (sessionFits s) (SizesAnswer.Is (sizesOf (format s) (s .fmbw) (s .fmbh))) (SizesAnswer.Refused 8)
+sessionSizes s = choose (sessionFits s) (SizesAnswer.Is (sizesOf (format s) (s .fields .fmbw) (s .fields .fmbh))) (SizesAnswer.Refused 8)

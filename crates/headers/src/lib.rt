@@ -10,9 +10,8 @@ ghost use Rattle.headers.specs.Judgement.{exactly, positive, atMost, for
 ghost use Rattle.headers.specs.Identification.{version, frameSize, rates, coding, identification, asFrameSize, asRates, asCoding, asIdentification};
 ghost use Rattle.headers.specs.Fits.{widthsFit, pictureInside, rangesHold, sessionFits};
 ghost use Rattle.headers.specs.Sizes.{formatOf, sessionSizes};
-// What is known of a recording between its packets: the identification fields, under the specification's names, and whether
-// references exist.
-pub struct Session {
+// The identification fields, under the specification's names.
+pub struct Fields {
     pub vrev: u64,
     pub fmbw: u64,
     pub fmbh: u64,
@@ -29,6 +28,11 @@ pub struct Session {
     pub qual: u64,
     pub kfgshift: u64,
     pub pf: u64,
+}
+
+// What is known of a recording between its packets: the identification fields, and whether references exist.
+pub struct Session {
+    pub fields: Fields,
     pub references: bool,
 }
 
@@ -316,22 +320,24 @@ fn read_session(packet: &[u8]) -> IdentificationAnswer
             RatesAnswer::Is(r, coding_at) => match read_coding(packet, coding_at) {
                 CodingAnswer::Refused(k, _) => IdentificationAnswer::Refused(k),
                 CodingAnswer::Is(c, _) => IdentificationAnswer::Accepted(Session {
-                    vrev: vrev.is as u64,
-                    fmbw: f.fmbw,
-                    fmbh: f.fmbh,
-                    picw: f.picw,
-                    pich: f.pich,
-                    picx: f.picx,
-                    picy: f.picy,
-                    frn: r.frn,
-                    frd: r.frd,
-                    parn: r.parn,
-                    pard: r.pard,
-                    cs: r.cs,
-                    nombr: c.nombr,
-                    qual: c.qual,
-                    kfgshift: c.kfgshift,
-                    pf: c.pf,
+                    fields: Fields {
+                        vrev: vrev.is as u64,
+                        fmbw: f.fmbw,
+                        fmbh: f.fmbh,
+                        picw: f.picw,
+                        pich: f.pich,
+                        picx: f.picx,
+                        picy: f.picy,
+                        frn: r.frn,
+                        frd: r.frd,
+                        parn: r.parn,
+                        pard: r.pard,
+                        cs: r.cs,
+                        nombr: c.nombr,
+                        qual: c.qual,
+                        kfgshift: c.kfgshift,
+                        pf: c.pf,
+                    },
                     references: false,
                 }),
             },
@@ -347,25 +353,25 @@ pub fn identification(packet: &[u8]) -> IdentificationAnswer
 }
 
 // Every identification field is within its width.
-fn widths_fit(s: Session) -> bool
-    ensures { λ r. ⌜ r ≡ widthsFit s ⌝ }
+fn widths_fit(f: Fields) -> bool
+    ensures { λ r. ⌜ r ≡ widthsFit f ⌝ }
 {
-    (s.vrev < 256)
-        & (s.fmbw < 65536)
-        & (s.fmbh < 65536)
-        & (s.picw < 16777216)
-        & (s.pich < 16777216)
-        & (s.picx < 256)
-        & (s.picy < 256)
-        & (s.frn < 4294967296)
-        & (s.frd < 4294967296)
-        & (s.parn < 16777216)
-        & (s.pard < 16777216)
-        & (s.cs < 256)
-        & (s.nombr < 16777216)
-        & (s.qual < 64)
-        & (s.kfgshift < 32)
-        & (s.pf < 4)
+    (f.vrev < 256)
+        & (f.fmbw < 65536)
+        & (f.fmbh < 65536)
+        & (f.picw < 16777216)
+        & (f.pich < 16777216)
+        & (f.picx < 256)
+        & (f.picy < 256)
+        & (f.frn < 4294967296)
+        & (f.frd < 4294967296)
+        & (f.parn < 16777216)
+        & (f.pard < 16777216)
+        & (f.cs < 256)
+        & (f.nombr < 16777216)
+        & (f.qual < 64)
+        & (f.kfgshift < 32)
+        & (f.pf < 4)
 }
 
 // A picture's size and offset along one axis lie in the frame.
@@ -379,21 +385,22 @@ fn picture_inside(frame: u64, size: u64, offset: u64) -> bool
 }
 
 // 5 and 6 hold of the identification fields.
-fn ranges_hold(s: Session) -> bool
-    requires { ⌜ (s .fmbw < 2 ^ 16) × (s .fmbh < 2 ^ 16) ⌝ }
-    ensures { λ r. ⌜ r ≡ rangesHold s ⌝ }
+fn ranges_hold(f: Fields) -> bool
+    requires { ⌜ (f .fmbw < 2 ^ 16) × (f .fmbh < 2 ^ 16) ⌝ }
+    ensures { λ r. ⌜ r ≡ rangesHold f ⌝ }
 {
-    let across = picture_inside(16 * s.fmbw, s.picw, s.picx);
-    let up = picture_inside(16 * s.fmbh, s.pich, s.picy);
-    (0 < s.fmbw) & (0 < s.fmbh) & across & up & (0 < s.frn) & (0 < s.frd) & (s.pf != 1)
+    let across = picture_inside(16 * f.fmbw, f.picw, f.picx);
+    let up = picture_inside(16 * f.fmbh, f.pich, f.picy);
+    (0 < f.fmbw) & (0 < f.fmbh) & across & up & (0 < f.frn) & (0 < f.frd) & (f.pf != 1)
 }
 
 // The identification part of number 8: whether the fields keep 5, 6 and their widths.
 pub fn session_fits(s: Session) -> bool
     ensures { λ r. ⌜ r ≡ sessionFits s ⌝ }
 {
-    if widths_fit(s) {
-        return ranges_hold(s);
+    let f = s.fields;
+    if widths_fit(f) {
+        return ranges_hold(f);
     }
     false
 }
@@ -422,8 +429,8 @@ pub fn sizes(s: Session) -> SizesAnswer
     ensures { λ r. ⌜ r ≡ sessionSizes s ⌝ }
 {
     if session_fits(s) {
-        let format = pixel_format(s.pf);
-        return SizesAnswer::Is(geometry::sizes(format, s.fmbw, s.fmbh));
+        let format = pixel_format(s.fields.pf);
+        return SizesAnswer::Is(geometry::sizes(format, s.fields.fmbw, s.fields.fmbh));
     }
     SizesAnswer::Refused(8)
 }

@@ -105,67 +105,67 @@ module _ (w h x y : ℕ) where
       n (omega arith) (omega arith)))
 
 -- ---- the calls of a session that fits: g is its pixel format
-module _ (s : Session) (fit : sessionFits s ≡ true) (g : PixelFormat) (eg : g ≡ formatOf (s .pf)) where
-  pub block-at-is : (i : ℕ) (b : Block) → i < blocksOf g (s .fmbw) (s .fmbh) → b ≡ getD (frameOrder g (s .fmbw) (s .fmbh)) i (block 0 0 0) → blockAt s i ≡ is b
+module _ (s : Session) (fit : sessionFits s ≡ true) (g : PixelFormat) (eg : g ≡ formatOf (s .fields .pf)) where
+  pub block-at-is : (i : ℕ) (b : Block) → i < blocksOf g (s .fields .fmbw) (s .fields .fmbh) → b ≡ getD (frameOrder g (s .fields .fmbw) (s .fields .fmbh)) i (block 0 0 0) → blockAt s i ≡ is b
   unfolding blockAt
   block-at-is i b hi e =
-      rw (← eg, e) (fits-on s (element i (frameOrder g (s .fmbw) (s .fmbh))) fit
-      ∙ element-is (frameOrder g (s .fmbw) (s .fmbh)) i (block 0 0 0) (omega (arith, frame-length g (s .fmbw) (s .fmbh))))
+      rw (← eg, e) (fits-on s (element i (frameOrder g (s .fields .fmbw) (s .fields .fmbh))) fit
+      ∙ element-is (frameOrder g (s .fields .fmbw) (s .fields .fmbh)) i (block 0 0 0) (omega (arith, frame-length g (s .fields .fmbw) (s .fields .fmbh))))
 
-  pub block-at-absent : (i : ℕ) → blocksOf g (s .fmbw) (s .fmbh) ≤ i → blockAt s i ≡ absent
+  pub block-at-absent : (i : ℕ) → blocksOf g (s .fields .fmbw) (s .fields .fmbh) ≤ i → blockAt s i ≡ absent
   unfolding blockAt
   block-at-absent i hi =
-      rw (← eg) (fits-on s (element i (frameOrder g (s .fmbw) (s .fmbh))) fit
-      ∙ element-absent (frameOrder g (s .fmbw) (s .fmbh)) i (omega (arith, frame-length g (s .fmbw) (s .fmbh))))
+      rw (← eg) (fits-on s (element i (frameOrder g (s .fields .fmbw) (s .fields .fmbh))) fit
+      ∙ element-absent (frameOrder g (s .fields .fmbw) (s .fields .fmbh)) i (omega (arith, frame-length g (s .fields .fmbw) (s .fields .fmbh))))
 
-  pub block-number-is : (b : Block) (r : ℕ) → r < blocksOf g (s .fmbw) (s .fmbh) → getD (frameOrder g (s .fmbw) (s .fmbh)) r (block 0 0 0) ≡ b → blockNumber s b ≡ is r
+  pub block-number-is : (b : Block) (r : ℕ) → r < blocksOf g (s .fields .fmbw) (s .fields .fmbh) → getD (frameOrder g (s .fields .fmbw) (s .fields .fmbh)) r (block 0 0 0) ≡ b → blockNumber s b ≡ is r
   unfolding blockNumber
   block-number-is b r hr e =
-      rw (← eg) (fits-on s (position (isBlock b) (frameOrder g (s .fmbw) (s .fmbh))) fit ∙ block-there g (s .fmbw) (s .fmbh) b r hr e)
+      rw (← eg) (fits-on s (position (isBlock b) (frameOrder g (s .fields .fmbw) (s .fields .fmbh))) fit ∙ block-there g (s .fields .fmbw) (s .fields .fmbh) b r hr e)
 
-  pub block-number-absent : (b : Block) → hasBlock g (s .fmbw) (s .fmbh) b ≡ false → blockNumber s b ≡ absent
+  pub block-number-absent : (b : Block) → hasBlock g (s .fields .fmbw) (s .fields .fmbh) b ≡ false → blockNumber s b ≡ absent
   unfolding blockNumber
   block-number-absent b n =
-      rw (← eg) (fits-on s (position (isBlock b) (frameOrder g (s .fmbw) (s .fmbh))) fit ∙ block-nowhere g (s .fmbw) (s .fmbh) b n)
+      rw (← eg) (fits-on s (position (isBlock b) (frameOrder g (s .fields .fmbw) (s .fields .fmbh))) fit ∙ block-nowhere g (s .fields .fmbw) (s .fields .fmbh) b n)
 
-  pub macro-block-of-is : (b : Block) → hasBlock g (s .fmbw) (s .fmbh) b ≡ true → macroBlockOf s b ≡ is (macroOf g b)
+  pub macro-block-of-is : (b : Block) → hasBlock g (s .fields .fmbw) (s .fields .fmbh) b ≡ true → macroBlockOf s b ≡ is (macroOf g b)
   unfolding macroBlockOf onSession
   macro-block-of-is b t = rw (← eg, fit, t)
 
-  pub macro-block-of-absent : (b : Block) → hasBlock g (s .fmbw) (s .fmbh) b ≡ false → macroBlockOf s b ≡ absent
+  pub macro-block-of-absent : (b : Block) → hasBlock g (s .fields .fmbw) (s .fields .fmbh) b ≡ false → macroBlockOf s b ≡ absent
   unfolding macroBlockOf onSession
   macro-block-of-absent b t = rw (← eg, fit, t)
 
-  pub sample-offset-is : (b : Block) (c r : ℕ) → (hasBlock g (s .fmbw) (s .fmbh) b && ltb c 8 && ltb r 8) ≡ true → sampleOffset s b c r ≡ is (sampleAt g (s .fmbw) (s .fmbh) b c r)
+  pub sample-offset-is : (b : Block) (c r : ℕ) → (hasBlock g (s .fields .fmbw) (s .fields .fmbh) b && ltb c 8 && ltb r 8) ≡ true → sampleOffset s b c r ≡ is (sampleAt g (s .fields .fmbw) (s .fields .fmbh) b c r)
   unfolding sampleOffset onSession
   sample-offset-is b c r t = rw (← eg, fit, t)
 
-  pub sample-offset-absent : (b : Block) (c r : ℕ) → (hasBlock g (s .fmbw) (s .fmbh) b && ltb c 8 && ltb r 8) ≡ false → sampleOffset s b c r ≡ absent
+  pub sample-offset-absent : (b : Block) (c r : ℕ) → (hasBlock g (s .fields .fmbw) (s .fields .fmbh) b && ltb c 8 && ltb r 8) ≡ false → sampleOffset s b c r ≡ absent
   unfolding sampleOffset onSession
   sample-offset-absent b c r t = rw (← eg, fit, t)
 
 module _ (s : Session) (fit : sessionFits s ≡ true) where
-  pub macro-block-at-is : (i : ℕ) (q : Place) → i < macroBlocksOf (s .fmbw) (s .fmbh) → q ≡ getD (codedMacros (s .fmbw) (s .fmbh)) i (at 0 0) → macroBlockAt s i ≡ is q
+  pub macro-block-at-is : (i : ℕ) (q : Place) → i < macroBlocksOf (s .fields .fmbw) (s .fields .fmbh) → q ≡ getD (codedMacros (s .fields .fmbw) (s .fields .fmbh)) i (at 0 0) → macroBlockAt s i ≡ is q
   unfolding macroBlockAt
   macro-block-at-is i q hi e =
-      rw e (fits-on s (element i (codedMacros (s .fmbw) (s .fmbh))) fit
-      ∙ element-is (codedMacros (s .fmbw) (s .fmbh)) i (at 0 0) (omega (arith, macro-order (s .fmbw) (s .fmbh) .all)))
+      rw e (fits-on s (element i (codedMacros (s .fields .fmbw) (s .fields .fmbh))) fit
+      ∙ element-is (codedMacros (s .fields .fmbw) (s .fields .fmbh)) i (at 0 0) (omega (arith, macro-order (s .fields .fmbw) (s .fields .fmbh) .all)))
 
-  pub macro-block-at-absent : (i : ℕ) → macroBlocksOf (s .fmbw) (s .fmbh) ≤ i → macroBlockAt s i ≡ absent
+  pub macro-block-at-absent : (i : ℕ) → macroBlocksOf (s .fields .fmbw) (s .fields .fmbh) ≤ i → macroBlockAt s i ≡ absent
   unfolding macroBlockAt
   macro-block-at-absent i hi =
-      fits-on s (element i (codedMacros (s .fmbw) (s .fmbh))) fit
-      ∙ element-absent (codedMacros (s .fmbw) (s .fmbh)) i (omega (arith, macro-order (s .fmbw) (s .fmbh) .all))
+      fits-on s (element i (codedMacros (s .fields .fmbw) (s .fields .fmbh))) fit
+      ∙ element-absent (codedMacros (s .fields .fmbw) (s .fields .fmbh)) i (omega (arith, macro-order (s .fields .fmbw) (s .fields .fmbh) .all))
 
-  pub macro-block-number-is : (x y r : ℕ) → r < macroBlocksOf (s .fmbw) (s .fmbh) → getD (codedMacros (s .fmbw) (s .fmbh)) r (at 0 0) ≡ at x y → macroBlockNumber s x y ≡ is r
+  pub macro-block-number-is : (x y r : ℕ) → r < macroBlocksOf (s .fields .fmbw) (s .fields .fmbh) → getD (codedMacros (s .fields .fmbw) (s .fields .fmbh)) r (at 0 0) ≡ at x y → macroBlockNumber s x y ≡ is r
   unfolding macroBlockNumber
   macro-block-number-is x y r hr e =
-      fits-on s (position (isPlace x y) (codedMacros (s .fmbw) (s .fmbh))) fit ∙ macro-there (s .fmbw) (s .fmbh) x y r hr e
+      fits-on s (position (isPlace x y) (codedMacros (s .fields .fmbw) (s .fields .fmbh))) fit ∙ macro-there (s .fields .fmbw) (s .fields .fmbh) x y r hr e
 
-  pub macro-block-number-absent : (x y : ℕ) → (x < s .fmbw → y < s .fmbh → ⊥) → macroBlockNumber s x y ≡ absent
+  pub macro-block-number-absent : (x y : ℕ) → (x < s .fields .fmbw → y < s .fields .fmbh → ⊥) → macroBlockNumber s x y ≡ absent
   unfolding macroBlockNumber
   macro-block-number-absent x y n =
-      fits-on s (position (isPlace x y) (codedMacros (s .fmbw) (s .fmbh))) fit ∙ macro-nowhere (s .fmbw) (s .fmbh) x y n
+      fits-on s (position (isPlace x y) (codedMacros (s .fields .fmbw) (s .fields .fmbh))) fit ∙ macro-nowhere (s .fields .fmbw) (s .fields .fmbh) x y n
 
 -- ---- a session that does not fit
 module _ (s : Session) (unfit : sessionFits s ≡ false) where

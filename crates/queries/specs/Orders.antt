@@ -30,26 +30,26 @@ hasBlock f w h b = ltb (b .plane) 3 && ltb (b .x) (across f w (b .plane)) && ltb
 
 -- the block that is number i in coded order, and the number of block b there
 unfoldable pub blockAt : Session → ℕ → Found Block
-blockAt s i = onSession s (element i (frameOrder (format s) (s .fmbw) (s .fmbh)))
+blockAt s i = onSession s (element i (frameOrder (format s) (s .fields .fmbw) (s .fields .fmbh)))
 
 unfoldable pub blockNumber : Session → Block → Found ℕ
-blockNumber s b = onSession s (position (isBlock b) (frameOrder (format s) (s .fmbw) (s .fmbh)))
+blockNumber s b = onSession s (position (isBlock b) (frameOrder (format s) (s .fields .fmbw) (s .fields .fmbh)))
 
 -- the same of macro blocks
 unfoldable pub macroBlockAt : Session → ℕ → Found Place
-macroBlockAt s i = onSession s (element i (codedMacros (s .fmbw) (s .fmbh)))
+macroBlockAt s i = onSession s (element i (codedMacros (s .fields .fmbw) (s .fields .fmbh)))
 
 unfoldable pub macroBlockNumber : Session → ℕ → ℕ → Found ℕ
-macroBlockNumber s x y = onSession s (position (isPlace x y) (codedMacros (s .fmbw) (s .fmbh)))
+macroBlockNumber s x y = onSession s (position (isPlace x y) (codedMacros (s .fields .fmbw) (s .fields .fmbh)))
 
 -- the macro block that block b belongs to
 unfoldable pub macroBlockOf : Session → Block → Found Place
-macroBlockOf s b = onSession s (provided (hasBlock (format s) (s .fmbw) (s .fmbh) b) (macroOf (format s) b))
+macroBlockOf s b = onSession s (provided (hasBlock (format s) (s .fields .fmbw) (s .fields .fmbh) b) (macroOf (format s) b))
 
 -- where column c and row r of block b lie in a plane buffer
 unfoldable pub sampleOffset : Session → Block → ℕ → ℕ → Found ℕ
 sampleOffset s b c r =
-    onSession s (provided (hasBlock (format s) (s .fmbw) (s .fmbh) b && ltb c 8 && ltb r 8) (sampleAt (format s) (s .fmbw) (s .fmbh) b c r))
+    onSession s (provided (hasBlock (format s) (s .fields .fmbw) (s .fields .fmbh) b && ltb c 8 && ltb r 8) (sampleAt (format s) (s .fields .fmbw) (s .fields .fmbh) b c r))
 
 -- the answers
 abbrev pub asBlock : Found Block → BlockAnswer

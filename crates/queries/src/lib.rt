@@ -55,10 +55,10 @@ pub fn block_at(s: Session, i: u64) -> BlockAnswer
     ensures { λ r. ⌜ r ≡ asBlock (blockAt s i) ⌝ }
 {
     if headers::session_fits(s) {
-        let format = headers::pixel_format(s.pf);
-        let sizes = geometry::sizes(format, s.fmbw, s.fmbh);
+        let format = headers::pixel_format(s.fields.pf);
+        let sizes = geometry::sizes(format, s.fields.fmbw, s.fields.fmbh);
         if i < sizes.blocks {
-            return BlockAnswer::Is(geometry::block_at(format, s.fmbw, s.fmbh, i));
+            return BlockAnswer::Is(geometry::block_at(format, s.fields.fmbw, s.fields.fmbh, i));
         }
         return BlockAnswer::Absent;
     }
@@ -70,10 +70,15 @@ pub fn block_number(s: Session, plane: u64, x: u64, y: u64) -> NumberAnswer
     ensures { λ r. ⌜ r ≡ asNumber (blockNumber s (block plane x y)) ⌝ }
 {
     if headers::session_fits(s) {
-        let format = headers::pixel_format(s.pf);
+        let format = headers::pixel_format(s.fields.pf);
         let b = Block { plane, x, y };
-        if has_block(format, s.fmbw, s.fmbh, b) {
-            return NumberAnswer::Is(geometry::block_number(format, s.fmbw, s.fmbh, b));
+        if has_block(format, s.fields.fmbw, s.fields.fmbh, b) {
+            return NumberAnswer::Is(geometry::block_number(
+                format,
+                s.fields.fmbw,
+                s.fields.fmbh,
+                b,
+            ));
         }
         return NumberAnswer::Absent;
     }
@@ -85,10 +90,10 @@ pub fn macro_block_at(s: Session, i: u64) -> PlaceAnswer
     ensures { λ r. ⌜ r ≡ asPlace (macroBlockAt s i) ⌝ }
 {
     if headers::session_fits(s) {
-        let format = headers::pixel_format(s.pf);
-        let sizes = geometry::sizes(format, s.fmbw, s.fmbh);
+        let format = headers::pixel_format(s.fields.pf);
+        let sizes = geometry::sizes(format, s.fields.fmbw, s.fields.fmbh);
         if i < sizes.macro_blocks {
-            return PlaceAnswer::Is(geometry::macro_block_at(s.fmbw, s.fmbh, i));
+            return PlaceAnswer::Is(geometry::macro_block_at(s.fields.fmbw, s.fields.fmbh, i));
         }
         return PlaceAnswer::Absent;
     }
@@ -100,9 +105,14 @@ pub fn macro_block_number(s: Session, x: u64, y: u64) -> NumberAnswer
     ensures { λ r. ⌜ r ≡ asNumber (macroBlockNumber s x y) ⌝ }
 {
     if headers::session_fits(s) {
-        if x < s.fmbw {
-            if y < s.fmbh {
-                return NumberAnswer::Is(geometry::macro_block_number(s.fmbw, s.fmbh, x, y));
+        if x < s.fields.fmbw {
+            if y < s.fields.fmbh {
+                return NumberAnswer::Is(geometry::macro_block_number(
+                    s.fields.fmbw,
+                    s.fields.fmbh,
+                    x,
+                    y,
+                ));
             }
         }
         return NumberAnswer::Absent;
@@ -115,9 +125,9 @@ pub fn macro_block_of(s: Session, plane: u64, x: u64, y: u64) -> PlaceAnswer
     ensures { λ r. ⌜ r ≡ asPlace (macroBlockOf s (block plane x y)) ⌝ }
 {
     if headers::session_fits(s) {
-        let format = headers::pixel_format(s.pf);
+        let format = headers::pixel_format(s.fields.pf);
         let b = Block { plane, x, y };
-        if has_block(format, s.fmbw, s.fmbh, b) {
+        if has_block(format, s.fields.fmbw, s.fields.fmbh, b) {
             return PlaceAnswer::Is(geometry::macro_of_block(format, b));
         }
         return PlaceAnswer::Absent;
@@ -130,14 +140,14 @@ pub fn sample_offset(s: Session, plane: u64, x: u64, y: u64, column: u64, row: u
     ensures { λ r. ⌜ r ≡ asNumber (sampleOffset s (block plane x y) column row) ⌝ }
 {
     if headers::session_fits(s) {
-        let format = headers::pixel_format(s.pf);
+        let format = headers::pixel_format(s.fields.pf);
         let b = Block { plane, x, y };
-        let there = has_block(format, s.fmbw, s.fmbh, b);
+        let there = has_block(format, s.fields.fmbw, s.fields.fmbh, b);
         if there & (column < 8) & (row < 8) {
             return NumberAnswer::Is(geometry::sample_offset(
                 format,
-                s.fmbw,
-                s.fmbh,
+                s.fields.fmbw,
+                s.fields.fmbh,
                 b,
                 column,
                 row,

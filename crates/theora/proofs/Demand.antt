@@ -50,7 +50,7 @@ new-agrees : (st : State) (c : Call) (o : Outcome Asked) → said st c ≡ o →
 new-agrees st c (refused k e) h = refl
 new-agrees st c (got a e) h =
     let s = st .session in
-    ways-agree (format s) (s .fmbw) (s .fmbh) (picture s a (st .golden) (st .previous)) (st .previous) (said-sized st c h)
+    ways-agree (format s) (s .fields .fmbw) (s .fields .fmbh) (picture s a (st .golden) (st .previous)) (st .previous) (said-sized st c h)
 
 pub call-agrees : (st : State) (c : Call) → byRules firstWay st c ≡ byRules secondWay st c
 unfolding byRules
@@ -86,10 +86,10 @@ kept t done a e said-so b c r inside hc hr uncoded differs =
     let s = st .session in
     let pic = picture s a (st .golden) (st .previous) in
     let len = said-sized st (t .call) said-so in
-    let new : t .done .new ≡ secondWay (format s) (s .fmbw) (s .fmbh) pic (st .previous)
-    = ap (λ (d : Done). d .new) done ∙ ap (λ (o : Outcome Asked). newBy firstWay st (t .call .new) o) said-so ∙ ways-agree (format s) (s .fmbw) (s .fmbh) pic (st .previous) len in
-    differs-along (format s) (s .fmbw) (s .fmbh) pic (st .previous) len b c r inside hc hr uncoded
-    (λ same. differs (ap (λ (l : List ℕ). getD l (sampleAt (format s) (s .fmbw) (s .fmbh) b c r) 0) new ∙ same))
+    let new : t .done .new ≡ secondWay (format s) (s .fields .fmbw) (s .fields .fmbh) pic (st .previous)
+    = ap (λ (d : Done). d .new) done ∙ ap (λ (o : Outcome Asked). newBy firstWay st (t .call .new) o) said-so ∙ ways-agree (format s) (s .fields .fmbw) (s .fields .fmbh) pic (st .previous) len in
+    differs-along (format s) (s .fields .fmbw) (s .fields .fmbh) pic (st .previous) len b c r inside hc hr uncoded
+    (λ same. differs (ap (λ (l : List ℕ). getD l (sampleAt (format s) (s .fields .fmbw) (s .fields .fmbh) b c r) 0) new ∙ same))
 
 -- there is such a run: that of the definition
 pub runs : (start : State) (cs : List Call) → Ran FramePromise start cs (turns (byRules firstWay) start cs)

@@ -20,22 +20,24 @@ use Rattle.theora.specs.Demand.{Turn, turns}
 module _ (memory : Memory) where
   session : Session
   session = record {
-    vrev = 0;
-    fmbw = 1;
-    fmbh = 1;
-    picw = 16;
-    pich = 16;
-    picx = 0;
-    picy = 0;
-    frn = 1;
-    frd = 1;
-    parn = 0;
-    pard = 0;
-    cs = 0;
-    nombr = 0;
-    qual = 0;
-    kfgshift = 0;
-    pf = 0;
+    fields = record {
+      vrev = 0;
+      fmbw = 1;
+      fmbh = 1;
+      picw = 16;
+      pich = 16;
+      picx = 0;
+      picy = 0;
+      frn = 1;
+      frd = 1;
+      parn = 0;
+      pard = 0;
+      cs = 0;
+      nombr = 0;
+      qual = 0;
+      kfgshift = 0;
+      pf = 0;
+    };
     references = false;
   }
 

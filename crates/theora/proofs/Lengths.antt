@@ -34,13 +34,13 @@ module _ (s : Session) where
 
   -- the sizes of a session that fits
   module _ (fits : sessionFits s ≡ true) where
-    pub session-small : SizesSmall (format s) (s .fmbw) (s .fmbh)
-    session-small = let m = fits-macro-blocks s fits in sizes-small (format s) (s .fmbw) (s .fmbh) (m .1) (m .3)
+    pub session-small : SizesSmall (format s) (s .fields .fmbw) (s .fields .fmbh)
+    session-small = let m = fits-macro-blocks s fits in sizes-small (format s) (s .fields .fmbw) (s .fields .fmbh) (m .1) (m .3)
 
     -- as a program comes to them
-    module _ {f : PixelFormat} {z : FrameSizes} (ef : f ≡ format s) (ez : z ≡ sizesOf f (s .fmbw) (s .fmbh)) where
-      sizes-are : z ≡ sizesOf (format s) (s .fmbw) (s .fmbh)
-      sizes-are = ez ∙ ap (λ (f : PixelFormat). sizesOf f (s .fmbw) (s .fmbh)) ef
+    module _ {f : PixelFormat} {z : FrameSizes} (ef : f ≡ format s) (ez : z ≡ sizesOf f (s .fields .fmbw) (s .fields .fmbh)) where
+      sizes-are : z ≡ sizesOf (format s) (s .fields .fmbw) (s .fields .fmbh)
+      sizes-are = ez ∙ ap (λ (f : PixelFormat). sizesOf f (s .fields .fmbw) (s .fields .fmbh)) ef
 
       pub counted-few : (z .blocks ≤ 51538034700) × (z .«macro_blocks» ≤ 4294836225) × (z .«super_blocks» ≤ 3221225472)
       counted-few =

@@ -58,9 +58,9 @@ UncodedKept t =
     let s = st .session in
     (a : Asked) (e : ℕ) → said st (t .call) ≡ got a e
     → let pic = picture s a (st .golden) (st .previous) in
-    (b : Block) (c r : ℕ) → InFrame (format s) (s .fmbw) (s .fmbh) b → c < 8 → r < 8 → pic .coded b ≡ false
-    → let at = sampleAt (format s) (s .fmbw) (s .fmbh) b c r in
-    getD (t .done .new) at 0 ≢ getD (st .previous) at 0 → AlongCoded (format s) (s .fmbw) (s .fmbh) pic b c r
+    (b : Block) (c r : ℕ) → InFrame (format s) (s .fields .fmbw) (s .fields .fmbh) b → c < 8 → r < 8 → pic .coded b ≡ false
+    → let at = sampleAt (format s) (s .fields .fmbw) (s .fields .fmbh) b c r in
+    getD (t .done .new) at 0 ≢ getD (st .previous) at 0 → AlongCoded (format s) (s .fields .fmbw) (s .fields .fmbh) pic b c r
 
 -- of one list of calls. A turn holds the answer, and session, golden, previous and new after the call
 pub record Demand3 (start : State) (calls : List Call) : Type 0 where

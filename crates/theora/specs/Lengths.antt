@@ -17,10 +17,10 @@ use Rattle.theora.specs.declared.WorkAnswer.{WorkAnswer}
 
 -- the sizes of a session's frames, beside `blocks`
 abbrev pub superBlocks : Session → ℕ
-superBlocks s = superBlocksOf (format s) (s .fmbw) (s .fmbh)
+superBlocks s = superBlocksOf (format s) (s .fields .fmbw) (s .fields .fmbh)
 
 abbrev pub macroBlocks : Session → ℕ
-macroBlocks s = macroBlocksOf (s .fmbw) (s .fmbh)
+macroBlocks s = macroBlocksOf (s .fields .fmbw) (s .fields .fmbh)
 
 -- the published lengths of the slices of work memory, in elements, and their bytes together
 unfoldable pub lengthsOf : Session → WorkLengths

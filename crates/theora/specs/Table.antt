@@ -32,22 +32,24 @@ threeThenFive = do
 -- a session whose frames have w by h macro blocks in 4:2:0
 abbrev pub framed : ℕ → ℕ → Session
 framed w h = record {
-  vrev = 0;
-  fmbw = w;
-  fmbh = h;
-  picw = 0;
-  pich = 0;
-  picx = 0;
-  picy = 0;
-  frn = 1;
-  frd = 1;
-  parn = 0;
-  pard = 0;
-  cs = 0;
-  nombr = 0;
-  qual = 0;
-  kfgshift = 0;
-  pf = 0;
+  fields = record {
+    vrev = 0;
+    fmbw = w;
+    fmbh = h;
+    picw = 0;
+    pich = 0;
+    picx = 0;
+    picy = 0;
+    frn = 1;
+    frd = 1;
+    parn = 0;
+    pard = 0;
+    cs = 0;
+    nombr = 0;
+    qual = 0;
+    kfgshift = 0;
+    pf = 0;
+  };
   references = false;
 }
 

@@ -64,8 +64,8 @@ fn lengths_of(s: Session) -> WorkLengths
     requires { ⌜ sessionFits s ≡ true ⌝ }
     ensures { λ r. ⌜ r ≡ lengthsOf s ⌝ }
 {
-    let format = headers::pixel_format(s.pf);
-    let sizes = geometry::sizes(format, s.fmbw, s.fmbh);
+    let format = headers::pixel_format(s.fields.pf);
+    let sizes = geometry::sizes(format, s.fields.fmbw, s.fields.fmbh);
     let n = sizes.blocks;
     let m = sizes.macro_blocks;
     let k = 2 * sizes.super_blocks;

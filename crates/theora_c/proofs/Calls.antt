@@ -27,8 +27,8 @@ use Rattle.theora_c.specs.Face.{Returned, gives, flag, numbersOf, sessio
 
 -- the numbers of a session, with the last one found by `flag_number`
 pub with-flag : (s : Session) (n : ℕ) → n ≡ flag (s .references)
-    → (s .vrev ∷ s .fmbw ∷ s .fmbh ∷ s .picw ∷ s .pich ∷ s .picx ∷ s .picy ∷ s .frn ∷ s .frd ∷ s .parn ∷ s .pard ∷ s .cs
-    ∷ s .nombr ∷ s .qual ∷ s .kfgshift ∷ s .pf ∷ n ∷ []) ≡ numbersOf s
+    → (s .fields .vrev ∷ s .fields .fmbw ∷ s .fields .fmbh ∷ s .fields .picw ∷ s .fields .pich ∷ s .fields .picx ∷ s .fields .picy ∷ s .fields .frn ∷ s .fields .frd ∷ s .fields .parn ∷ s .fields .pard ∷ s .fields .cs
+    ∷ s .fields .nombr ∷ s .fields .qual ∷ s .fields .kfgshift ∷ s .fields .pf ∷ n ∷ []) ≡ numbersOf s
 unfolding numbersOf
 with-flag s n e = rw e
 

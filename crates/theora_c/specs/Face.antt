@@ -52,27 +52,29 @@ flag false = 0
 -- a session as 17 numbers, and 17 numbers as a session
 unfoldable pub numbersOf : Session → List ℕ
 numbersOf s =
-    s .vrev ∷ s .fmbw ∷ s .fmbh ∷ s .picw ∷ s .pich ∷ s .picx ∷ s .picy ∷ s .frn ∷ s .frd ∷ s .parn ∷ s .pard ∷ s .cs
-    ∷ s .nombr ∷ s .qual ∷ s .kfgshift ∷ s .pf ∷ flag (s .references) ∷ []
+    s .fields .vrev ∷ s .fields .fmbw ∷ s .fields .fmbh ∷ s .fields .picw ∷ s .fields .pich ∷ s .fields .picx ∷ s .fields .picy ∷ s .fields .frn ∷ s .fields .frd ∷ s .fields .parn ∷ s .fields .pard ∷ s .fields .cs
+    ∷ s .fields .nombr ∷ s .fields .qual ∷ s .fields .kfgshift ∷ s .fields .pf ∷ flag (s .references) ∷ []
 
 unfoldable pub sessionOf : List ℕ → Session
 sessionOf l = record {
-  vrev = getD l 0 0;
-  fmbw = getD l 1 0;
-  fmbh = getD l 2 0;
-  picw = getD l 3 0;
-  pich = getD l 4 0;
-  picx = getD l 5 0;
-  picy = getD l 6 0;
-  frn = getD l 7 0;
-  frd = getD l 8 0;
-  parn = getD l 9 0;
-  pard = getD l 10 0;
-  cs = getD l 11 0;
-  nombr = getD l 12 0;
-  qual = getD l 13 0;
-  kfgshift = getD l 14 0;
-  pf = getD l 15 0;
+  fields = record {
+    vrev = getD l 0 0;
+    fmbw = getD l 1 0;
+    fmbh = getD l 2 0;
+    picw = getD l 3 0;
+    pich = getD l 4 0;
+    picx = getD l 5 0;
+    picy = getD l 6 0;
+    frn = getD l 7 0;
+    frd = getD l 8 0;
+    parn = getD l 9 0;
+    pard = getD l 10 0;
+    cs = getD l 11 0;
+    nombr = getD l 12 0;
+    qual = getD l 13 0;
+    kfgshift = getD l 14 0;
+    pf = getD l 15 0;
+  };
   references = not (eqb (getD l 16 0) 0);
 }
 

@@ -3,6 +3,7 @@ use decoding::FrameAnswer;
 use decoding::Verdict;
 use frame_header::Header;
 use frame_header::Kind;
+use headers::Fields;
 use headers::IdentificationAnswer;
 use headers::Session;
 use headers::SizesAnswer;
@@ -33,22 +34,24 @@ fn session_of(list: &[u64]) -> Session
     ensures { λ r. ⌜ r ≡ sessionOf (now (list .entry)) ⌝ }
 {
     Session {
-        vrev: list[0],
-        fmbw: list[1],
-        fmbh: list[2],
-        picw: list[3],
-        pich: list[4],
-        picx: list[5],
-        picy: list[6],
-        frn: list[7],
-        frd: list[8],
-        parn: list[9],
-        pard: list[10],
-        cs: list[11],
-        nombr: list[12],
-        qual: list[13],
-        kfgshift: list[14],
-        pf: list[15],
+        fields: Fields {
+            vrev: list[0],
+            fmbw: list[1],
+            fmbh: list[2],
+            picw: list[3],
+            pich: list[4],
+            picx: list[5],
+            picy: list[6],
+            frn: list[7],
+            frd: list[8],
+            parn: list[9],
+            pard: list[10],
+            cs: list[11],
+            nombr: list[12],
+            qual: list[13],
+            kfgshift: list[14],
+            pf: list[15],
+        },
         references: list[16] != 0,
     }
 }
@@ -103,22 +106,22 @@ fn return_session(answer: IdentificationAnswer, list: &mut [u64]) -> u32
         IdentificationAnswer::Accepted(s) => {
             let references = flag_number(s.references);
             let numbers = [
-                s.vrev,
-                s.fmbw,
-                s.fmbh,
-                s.picw,
-                s.pich,
-                s.picx,
-                s.picy,
-                s.frn,
-                s.frd,
-                s.parn,
-                s.pard,
-                s.cs,
-                s.nombr,
-                s.qual,
-                s.kfgshift,
-                s.pf,
+                s.fields.vrev,
+                s.fields.fmbw,
+                s.fields.fmbh,
+                s.fields.picw,
+                s.fields.pich,
+                s.fields.picx,
+                s.fields.picy,
+                s.fields.frn,
+                s.fields.frd,
+                s.fields.parn,
+                s.fields.pard,
+                s.fields.cs,
+                s.fields.nombr,
+                s.fields.qual,
+                s.fields.kfgshift,
+                s.fields.pf,
                 references,
             ];
             store(list, &numbers)

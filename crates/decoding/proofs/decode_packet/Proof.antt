@@ -26,7 +26,7 @@ read-frame-requires c κs =
       k .1,
       k .3,
       tables-held (a .table .now) (a .t4) (z .pre .0 .3 .1),
-      ap (λ (m : Memory). m .work) (z .pre .1 .0) ∙ ap (λ (f : PixelFormat). clear f (a .s .fmbw) (a .s .fmbh)) (sym (c .before .before .before .before .before .before .before .before .before .before .before .before .pixel-format .ensures)),
+      ap (λ (m : Memory). m .work) (z .pre .1 .0) ∙ ap (λ (f : PixelFormat). clear f (a .s .fields .fmbw) (a .s .fields .fmbh)) (sym (c .before .before .before .before .before .before .before .before .before .before .before .before .pixel-format .ensures)),
     )
 
 enum-known-read : tie.Need-enum-known-read
@@ -50,9 +50,9 @@ make-requires c κs =
     let q = header-few (a .s) setup (a .packet .now) (a .t4 .nodes) t ef (r .ensures .0) (r .ensures .1) (c .before .before .before .before .before .before .before .before .read2 .given .1) in
     let b = lent (a .s) setup (a .packet .now) (a .t4 .nodes) t ef (r .ensures .0) (r .ensures .1) (c .before .before .before .before .before .before .before .before .read2 .given .1) in
     let m = z .pre .1 in
-    let n : 64 * blocks (a .s) ≡ 64 * blocksOf (c .before .before .before .before .before .before .before .before .before .before .before .before .before .before .before .before .before .before .before .before .before .before .before .before .before .before .before .before .before .before .before .before .before .before .before .before .before .before .before .before .pixel-format .result) (a .s .fmbw) (a .s .fmbh) = ap (λ (f : PixelFormat). 64 * blocksOf f (a .s .fmbw) (a .s .fmbh)) (sym ef) in (
+    let n : 64 * blocks (a .s) ≡ 64 * blocksOf (c .before .before .before .before .before .before .before .before .before .before .before .before .before .before .before .before .before .before .before .before .before .before .before .before .before .before .before .before .before .before .before .before .before .before .before .before .before .before .before .before .pixel-format .result) (a .s .fields .fmbw) (a .s .fields .fmbh) = ap (λ (f : PixelFormat). 64 * blocksOf f (a .s .fields .fmbw) (a .s .fields .fmbh)) (sym ef) in (
       (z .pre .0 .2, z .pre .0 .3, q .1, q .0, k .1, k .3),
-      (b, ap (λ (m : Memory). m .dc) (m .0) ∙ ap (λ (f : PixelFormat). replicate (blocksOf f (a .s .fmbw) (a .s .fmbh)) (pos 0)) (sym ef), m .1 ∙ n, m .2 ∙ n, m .3 ∙ n),
+      (b, ap (λ (m : Memory). m .dc) (m .0) ∙ ap (λ (f : PixelFormat). replicate (blocksOf f (a .s .fields .fmbw) (a .s .fields .fmbh)) (pos 0)) (sym ef), m .1 ∙ n, m .2 ∙ n, m .3 ∙ n),
     )
 
 session-after-requires : tie.Need-session-after-requires

@@ -10,7 +10,7 @@ widths-fit-requires : tie.Need-widths-fit-requires
 widths-fit-requires c κs = search needs
 
 ranges-hold-requires : tie.Need-ranges-hold-requires
-ranges-hold-requires c κs = widths-macro-blocks (c .before .before .args .s) (sym (c .before .widths-fit .ensures) ∙ c .if1 .taken)
+ranges-hold-requires c κs = widths-macro-blocks (c .before .before .before .args .s .fields) (sym (c .before .widths-fit .ensures) ∙ c .if1 .taken)
 
 returns : tie.Need-returns
 unfolding sessionFits

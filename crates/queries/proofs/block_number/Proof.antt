@@ -22,7 +22,7 @@ has-block-requires c κs =
 block-number-requires : tie.Need-block-number-requires
 block-number-requires c κs =
     let m = fits-macro-blocks (c .before .before .before .before .before .args .s) (sym (c .before .before .before .before .session-fits .ensures) ∙ c .before .before .before .if1 .taken) in
-    (m .1, m .3, has-in-frame (c .before .before .pixel-format .result) (c .before .before .before .before .before .args .s .fmbw) (c .before .before .before .before .before .args .s .fmbh) (block (c .before .before .before .before .before .args .plane) (c .before .before .before .before .before .args .x) (c .before .before .before .before .before .args .y)) (sym (c .before .has-block .ensures) ∙ c .if2 .taken))
+    (m .1, m .3, has-in-frame (c .before .before .pixel-format .result) (c .before .before .before .before .before .args .s .fields .fmbw) (c .before .before .before .before .before .args .s .fields .fmbh) (block (c .before .before .before .before .before .args .plane) (c .before .before .before .before .before .args .x) (c .before .before .before .before .before .args .y)) (sym (c .before .has-block .ensures) ∙ c .if2 .taken))
 
 returns : tie.Need-returns
 returns c = sym (ap asNumber (block-number-is (c .before .before .before .before .before .before .args .s) (sym (c .before .before .before .before .before .session-fits .ensures) ∙ c .before .before .before .before .if1 .taken) (c .before .before .before .pixel-format .result) (c .before .before .before .pixel-format .ensures) (block (c .before .before .before .before .before .before .args .plane) (c .before .before .before .before .before .before .args .x) (c .before .before .before .before .before .before .args .y)) (c .block-number .result) (c .block-number .ensures .0) (c .block-number .ensures .1)))

@@ -25,7 +25,7 @@ has-block-requires c κs =
 sample-offset-requires : tie.Need-sample-offset-requires
 sample-offset-requires c κs =
     let m = fits-macro-blocks (c .before .before .before .before .before .args .s) (sym (c .before .before .before .before .session-fits .ensures) ∙ c .before .before .before .if1 .taken) in
-    let i = sample-inside (c .before .before .pixel-format .result) (c .before .before .before .before .before .args .s .fmbw) (c .before .before .before .before .before .args .s .fmbh) (block (c .before .before .before .before .before .args .plane) (c .before .before .before .before .before .args .x) (c .before .before .before .before .before .args .y)) (c .before .before .before .before .before .args .column) (c .before .before .before .before .before .args .row) (subst (λ (t : Bool). (t && ltb (c .before .before .before .before .before .args .column) 8 && ltb (c .before .before .before .before .before .args .row) 8) ≡ true) (c .before .has-block .ensures) (c .if2 .taken)) in
+    let i = sample-inside (c .before .before .pixel-format .result) (c .before .before .before .before .before .args .s .fields .fmbw) (c .before .before .before .before .before .args .s .fields .fmbh) (block (c .before .before .before .before .before .args .plane) (c .before .before .before .before .before .args .x) (c .before .before .before .before .before .args .y)) (c .before .before .before .before .before .args .column) (c .before .before .before .before .before .args .row) (subst (λ (t : Bool). (t && ltb (c .before .before .before .before .before .args .column) 8 && ltb (c .before .before .before .before .before .args .row) 8) ≡ true) (c .before .has-block .ensures) (c .if2 .taken)) in
     (m .1, m .3, i .0, i .1, i .2)
 
 returns : tie.Need-returns

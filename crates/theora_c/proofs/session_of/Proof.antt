@@ -53,8 +53,8 @@ shared-slice-read-t31 c = search needs
 shared-slice-read-t33 : tie.Need-shared-slice-read-t33
 shared-slice-read-t33 c = search needs
 
-shared-slice-read-t35 : tie.Need-shared-slice-read-t35
-shared-slice-read-t35 c = search needs
+shared-slice-read-t36 : tie.Need-shared-slice-read-t36
+shared-slice-read-t36 c = search needs
 
 returns : tie.Need-returns
 unfolding sessionOf
@@ -80,5 +80,5 @@ session-of-spec =
     shared-slice-read-t29
     shared-slice-read-t31
     shared-slice-read-t33
-    shared-slice-read-t35
+    shared-slice-read-t36
     returns)
