@@ -32,11 +32,12 @@ use Rattle.reconstruct.specs.Picture.{Blocks, Matrices, pictureOf}
 use Rattle.reconstruct.specs.Lent.{blocksIn, CodedBlocks}
 use Rattle.reconstruct.proofs.Facts.{in-at, coded-by}
 use Rattle.reconstruct.proofs.Same.{Alike, lists-same}
-use Rattle.decoding.specs.declared.FrameAnswer.{FrameAnswer}
-use Rattle.decoding.specs.declared.Verdict.the-variants.{Accepted}
+use Rattle.reading.specs.declared.FrameAnswer.{FrameAnswer}
+use Rattle.reading.specs.declared.Verdict.the-variants.{Accepted}
 use Rattle.headers.specs.Sizes.{format}
 use Rattle.decoding.specs.Memory.{memory, blocks, cleared}
-use Rattle.decoding.specs.Answer.{state, done, readBy, picture, sessionAfter, answerFor, decoded}
+use Rattle.reading.specs.Answer.{readBy, sessionAfter, answerFor}
+use Rattle.decoding.specs.Answer.{state, done, picture, decoded}
 use Rattle.decoding.specs.Made.{AllQi, BlocksLent}
 
 -- ---- what the reader's answer says

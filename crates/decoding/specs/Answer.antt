@@ -1,23 +1,16 @@
--- What a packet asks for, what a call answers for it, and what it leaves.
+-- The frame that a packet asks for, and what a call leaves.
 use Prim.Native.Nat.{ℕ}
-use mathlib.Core.Bool.{true}
 use mathlib.Core.List.{List}
 use lib.ListN.{getD}
-use Rattle.bitstream.specs.Reading.{Outcome, got, refused, after}
+use Rattle.bitstream.specs.Reading.{Outcome, got, refused}
 use Rattle.geometry.specs.declared.PixelFormat.{PixelFormat}
 use Rattle.headers.specs.declared.Session.{Session}
 use Rattle.matrices.specs.Matrix.{matrixOf}
-use Rattle.setup.specs.Header.{Setup}
-use Rattle.setup.specs.Table.{heldSetup}
 use Rattle.setup.specs.Loaded.{limitOf}
-use Rattle.frame_header.specs.declared.Kind.{Kind}
-use Rattle.frame_header.specs.declared.Kind.the-variants.{Intra, Inter, Repeat}
-use Rattle.frame_header.specs.Answer.{asHeader, repeated}
-use Rattle.frame_packet.specs.Frame.{Frame, framePacket}
 use Rattle.ways.specs.Ways.{Picture}
 use Rattle.reconstruct.specs.Picture.{Blocks, Matrices, pictureOf}
-use Rattle.decoding.specs.declared.FrameAnswer.{FrameAnswer}
-use Rattle.decoding.specs.declared.Verdict.the-variants.{Accepted, Refused}
+use Rattle.reading.specs.declared.FrameAnswer.{FrameAnswer}
+use Rattle.reading.specs.Answer.{Asked, answerFor}
 use Rattle.headers.specs.Sizes.{format}
 use Rattle.decoding.specs.Memory.{Memory, cleared}
 
@@ -39,19 +32,6 @@ pub record Done : Type 0 where
 abbrev pub done : FrameAnswer → (new : List ℕ) → Memory → Done
 done answer new memory = record { answer = answer; new = new; memory = memory }
 
--- what an accepted packet asks for: what it says, and the setup
-pub record Asked : Type 0 where
-  pub setup : Setup
-  pub frame : Frame
-
--- a packet by a setup
-abbrev pub readBy : Session → Setup → (packet : List ℕ) → Outcome Asked
-readBy s setup packet = after (framePacket (format s) (s .fields .fmbw) (s .fields .fmbh) (setup .trees) (s .references) packet) (λ fr e. got (record { setup = setup; frame = fr }) e)
-
--- "the rest of 8, then the packet"
-unfoldable pub read : Session → (table packet : List ℕ) → Outcome Asked
-read s table packet = after (heldSetup table) (λ setup _. readBy s setup packet)
-
 -- ---- what an accepted packet asks for
 -- the frame's qi of a number, counted from 0
 abbrev pub qiAt : Asked → ℕ → ℕ
@@ -72,18 +52,6 @@ unfoldable pub picture : Session → Asked → (golden previous : List ℕ) → 
 picture s a = pictureOf (format s) (s .fields .fmbw) (s .fields .fmbh) (blocksAsked a) (matricesAsked a) (limitOf (a .setup) (qiAt a 0))
 
 -- ---- what a call leaves
--- "Accepted inter and empty packets leave the session as it was; an intra one sets its reference flag"
-unfoldable pub sessionAfter : Kind → Session → Session
-sessionAfter Intra s = record { fields = s .fields; references = true }
-sessionAfter Inter s = s
-sessionAfter Repeat s = s
-
--- "Every refusal returns its number alone": the header beside it says nothing, and the session is as it was.
--- "An accepted frame answers with its kind (intra, inter, repeat) and the qi list (empty for repeat)"
-abbrev pub answerFor : Session → Outcome Asked → FrameAnswer
-answerFor s (refused k e) = record { verdict = Refused k; header = repeated; session = s }
-answerFor s (got a e) = record { verdict = Accepted; header = asHeader (a .frame .header); session = sessionAfter (a .frame .header .kind) s }
-
 -- a way to make a frame of w by h macro blocks: of a picture and previous
 abbrev pub Way : Type 0
 Way = PixelFormat → ℕ → ℕ → Picture → List ℕ → List ℕ

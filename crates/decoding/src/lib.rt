@@ -6,13 +6,14 @@ use geometry::PixelFormat;
 use headers::Session;
 use quantization::LoadedParameters;
 use quantization::Place;
+use reading::FrameAnswer;
+use reading::Verdict;
 use setup::LoadedSetup;
 ghost use mathlib.Core.Path.{_≡_};
 ghost use mathlib.Core.Bool.{true};
 ghost use Prim.Native.Nat.{_*_, _≤_, _^_};
 ghost use lib.IntN.{pos};
 ghost use lib.ListN.{length, replicate};
-ghost use Rattle.bitstream.specs.Reading.{refused};
 ghost use Rattle.geometry.specs.Sizes.{blocksOf};
 ghost use Rattle.quantization.specs.Sound.{Held as HeldParameters};
 ghost use Rattle.setup.specs.Header.{Setup};
@@ -22,21 +23,9 @@ ghost use Rattle.ways.specs.Ways.{firstWay};
 ghost use Rattle.reconstruct.specs.Lent.{blocksIn};
 ghost use Rattle.headers.specs.Fits.{sessionFits};
 ghost use Rattle.decoding.specs.Memory.{memory, blocks, cleared};
-ghost use Rattle.decoding.specs.Answer.{state, done, readBy, read, sessionAfter, answerFor, decoded};
+ghost use Rattle.reading.specs.Answer.{readBy, read};
+ghost use Rattle.decoding.specs.Answer.{state, done, decoded};
 ghost use Rattle.decoding.specs.Made.{AllQi, BlocksLent, MatricesAre, FrameIs};
-
-// An accepted frame, or the number of the refusal.
-pub enum Verdict {
-    Accepted,
-    Refused(u32),
-}
-
-// A frame call's answer: beside a refusal the header is that of a repeat, and says nothing. The session is that for the next call.
-pub struct FrameAnswer {
-    pub verdict: Verdict,
-    pub header: Header,
-    pub session: Session,
-}
 
 // The quantization matrices of a frame's qi, for each type, in it for each plane, in it for each qi.
 fn load_matrices(
@@ -117,36 +106,6 @@ fn make(
     );
 }
 
-// The number of a refusal alone: nothing else of the answer says anything, and the session stays.
-pub fn refusal(k: u32, s: Session) -> FrameAnswer
-    ensures { λ r. ⌜ r ≡ answerFor s (refused k 0) ⌝ }
-{
-    FrameAnswer {
-        verdict: Verdict::Refused(k),
-        header: Header {
-            kind: Kind::Repeat,
-            qis: [0, 0, 0],
-            count: 0,
-        },
-        session: s,
-    }
-}
-
-// The session after an accepted frame of a kind.
-fn session_after(kind: Kind, s: Session) -> Session
-    ensures { λ r. ⌜ r ≡ sessionAfter kind s ⌝ }
-{
-    match kind {
-        Kind::Intra => {
-            let mut next = s;
-            next.references = true;
-            next
-        }
-        Kind::Inter => s,
-        Kind::Repeat => s,
-    }
-}
-
 // A packet, by a setup that was loaded. Work memory is all zero before and after.
 fn decode_packet(
     s: Session,
@@ -196,7 +155,7 @@ fn decode_packet(
     );
     let read = got.read;
     match read {
-        Read::Refused(k, _) => refusal(k, s),
+        Read::Refused(k, _) => reading::refusal(k, s),
         Read::Whole(count, _, _) => {
             let header = got.header;
             let kind = header.kind;
@@ -217,7 +176,7 @@ fn decode_packet(
                 previous,
                 new,
             );
-            let next = session_after(kind, s);
+            let next = reading::session_after(kind, s);
             FrameAnswer {
                 verdict: Verdict::Accepted,
                 header: header,
@@ -255,7 +214,7 @@ pub fn decode(
     let held = setup::load_table(table);
     let place = held.place;
     match place {
-        Place::Refused(_, _) => refusal(8, s),
+        Place::Refused(_, _) => reading::refusal(8, s),
         Place::At(_) => decode_packet(
             s,
             packet,

@@ -2,7 +2,7 @@
 use Prim.Native.Nat.{ℕ, _*_, _≤_, _<_, _^_}
 use native.Mathlib.Omega.{arith}
 use mathlib.Core.Path.{_≡_, refl, sym, ap, _∙_}
-use mathlib.Core.List.{List, [], _∷_, _++_}
+use mathlib.Core.List.{List, _∷_}
 use mathlib.Core.Bool.{Bool, true, false, _&&_}
 use lib.Dec.{ltb, lit<}
 use lib.IntN.{pos}
@@ -20,11 +20,11 @@ use Rattle.setup.specs.Table.{heldSetup}
 use Rattle.setup.specs.declared.SetupRead.{SetupRead}
 use Rattle.setup.proofs.Held.{held-8, genuine-held, genuine-holds}
 use Rattle.tokens.specs.Answer.{Tables, treesOf}
-use Rattle.decoding.proofs.Held.{tables-held, trees-held}
+use Rattle.reading.proofs.Held.{tables-held, trees-held}
 use Rattle.frame_packet.specs.declared.Read.{Read}
 use Rattle.frame_packet.specs.declared.Read.the-variants.{Whole, Refused}
 use Rattle.frame_packet.specs.declared.FrameRead.{FrameRead}
-use Rattle.frame_packet.specs.Frame.{Frame, framePacket}
+use Rattle.frame_packet.specs.Frame.{framePacket}
 use Rattle.frame_packet.specs.Work.{Work, work, clear, workAfter, asFrame}
 use Rattle.parts_c.specs.Packet.{Returned, returned, kindNumber, numberOf, countsOf, numbersOf, zeroed, lengthsFit, byTrees, bySetup, readCall}
 

@@ -4,7 +4,7 @@ use mathlib.Core.Path.{_≡_}
 use mathlib.Core.List.{List}
 use Rattle.headers.specs.declared.Session.{Session}
 use Rattle.frame_header.specs.declared.Kind.{Kind}
-use Rattle.decoding.specs.declared.Verdict.the-variants.{Accepted}
+use Rattle.reading.specs.declared.Verdict.the-variants.{Accepted}
 use Rattle.decoding.specs.Answer.{state}
 use Rattle.theora.specs.Demand.{handedOn}
 

@@ -1,11 +1,11 @@
 // Decodes the packet files that its arguments name. For each packet it prints the answer, and for a frame its hash.
 mod report;
 
-use decoding::FrameAnswer;
-use decoding::Verdict;
 use frame_header::Kind;
 use headers::IdentificationAnswer;
 use headers::Session;
+use reading::FrameAnswer;
+use reading::Verdict;
 use report::print;
 use report::print_frame;
 use report::print_frame_number;

@@ -14,10 +14,11 @@ use Rattle.headers.specs.Fits.{sessionFits}
 use Rattle.headers.proofs.Fitting.{all-at}
 use Rattle.setup.specs.Table.{tableBytes}
 use Rattle.ways.specs.Ways.{firstWay}
-use Rattle.decoding.specs.declared.FrameAnswer.{FrameAnswer}
+use Rattle.reading.specs.declared.FrameAnswer.{FrameAnswer}
 use Rattle.decoding.specs.Memory.{Memory, memory, blocks, cleared}
-use Rattle.decoding.specs.Answer.{State, Done, state, done, read, answerFor, decoded}
-use Rattle.decoding.proofs.Answers.{read-readable}
+use Rattle.reading.specs.Answer.{read, answerFor}
+use Rattle.decoding.specs.Answer.{State, Done, state, done, decoded}
+use Rattle.reading.proofs.Readable.{read-readable}
 use Rattle.theora.specs.Lengths.{superBlocks, macroBlocks, lengthsOf, zeroed, lengthsFit}
 use Rattle.theora.specs.Call.{Call, call, lengthsHold, said, memoryAfter, byRules}
 

@@ -1,7 +1,7 @@
 -- Demand 3, proved whole: of every list of frame calls, from every fresh session.
 -- Assumes nothing.
 use mathlib.Core.Path.{_≡_, refl, sym, ap, ap₂, _∙_, fun-ext}
-use mathlib.Core.Bool.{Bool, true, false, _&&_}
+use mathlib.Core.Bool.{Bool, true, false}
 use mathlib.Core.List.{List, [], _∷_}
 use mathlib.Core.Logic.{inl, inr}
 use Prim.Native.Nat.{ℕ, _*_}
@@ -11,7 +11,6 @@ use lib.ListN.{length, getD}
 use borrow.Author.Tests.{eqb-true}
 use Rattle.bitstream.specs.Reading.{Outcome, got, refused, choose}
 use Rattle.geometry.specs.Sample.{sampleAt}
-use Rattle.headers.specs.declared.Session.{Session}
 use Rattle.headers.specs.Fits.{all, sessionFits}
 use Rattle.ways.specs.Loops.{_∈_}
 use Rattle.ways.specs.Ways.{firstWay, secondWay}
@@ -20,7 +19,8 @@ use Rattle.ways.proofs.Kept.{differs-along}
 use Rattle.headers.specs.Sizes.{format}
 use Rattle.decoding.specs.Memory.{blocks}
 use Rattle.theora.specs.Lengths.{lengthsOf, lengthsFit}
-use Rattle.decoding.specs.Answer.{State, Done, Asked, done, read, picture, answerFor, newBy, state}
+use Rattle.reading.specs.Answer.{Asked, read, answerFor}
+use Rattle.decoding.specs.Answer.{State, Done, done, picture, newBy, state}
 use Rattle.theora.specs.Call.{Call, lengthsHold, said, memoryAfter, byRules, FramePromise}
 use Rattle.theora.specs.Demand.{Turn, turn, turns, Ran, UncodedKept, Demand3, Demand3Holds}
 

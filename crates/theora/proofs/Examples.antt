@@ -10,10 +10,11 @@ use Rattle.bitstream.specs.Reading.{choose}
 use Rattle.headers.specs.declared.Session.{Session}
 use Rattle.frame_header.specs.declared.Kind.{Kind}
 use Rattle.frame_header.specs.declared.Kind.the-variants.{Intra, Inter, Repeat}
-use Rattle.decoding.specs.declared.Verdict.{Verdict}
-use Rattle.decoding.specs.declared.Verdict.the-variants.{Accepted, Refused}
+use Rattle.reading.specs.declared.Verdict.{Verdict}
+use Rattle.reading.specs.declared.Verdict.the-variants.{Accepted, Refused}
 use Rattle.decoding.specs.Memory.{Memory}
-use Rattle.decoding.specs.Answer.{State, Done, sessionAfter, state}
+use Rattle.reading.specs.Answer.{sessionAfter}
+use Rattle.decoding.specs.Answer.{State, Done, state}
 use Rattle.theora.specs.Call.{Call}
 use Rattle.theora.specs.Demand.{Turn, turns}
 

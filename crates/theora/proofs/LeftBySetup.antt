@@ -8,15 +8,14 @@ use lib.ListN.{length, replicate, length-replicate}
 use borrow.Author.Tests.{eq-eqb, eqb-true}
 use Rattle.bitstream.specs.Reading.{Outcome, got, refused, choose, after}
 use Rattle.bitstream.proofs.Fields.{no-mix}
-use Rattle.headers.specs.Fits.{sessionFits}
 use Rattle.table_memory.specs.Kept.{kept}
 use Rattle.table_memory.specs.Genuine.{Bytes}
 use Rattle.setup.specs.Header.{Setup, setupHeader}
 use Rattle.setup.specs.Table.{tableBytes, setupOutcome, tableAfter, isTable, heldSetup}
 use Rattle.setup.proofs.Laws.{exact, accepted-table, accepted-reads}
-use Rattle.decoding.specs.Answer.{State, Asked, read, readBy}
-use Rattle.theora.specs.Call.{Call, lengthsHold, said}
-use Rattle.theora.specs.LeftBySetup.{SetupLeaves, LeftBySetup, TableJudged, TablesJudged}
+use Rattle.reading.specs.Answer.{read, readBy}
+use Rattle.theora.specs.Call.{said}
+use Rattle.theora.specs.LeftBySetup.{SetupLeaves, LeftBySetup, TablesJudged}
 
 -- a setup call that is accepted
 leaving : (packet old t : List ℕ) {s : Setup} {e : ℕ} → length old ≡ tableBytes → setupHeader packet 0 ≡ got s e → t ≡ kept packet e tableBytes → SetupLeaves packet old s t

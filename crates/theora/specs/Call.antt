@@ -7,7 +7,8 @@ use Rattle.bitstream.specs.Reading.{Outcome, refused, choose}
 use Rattle.headers.specs.Fits.{sessionFits}
 use Rattle.ways.specs.Ways.{firstWay}
 use Rattle.decoding.specs.Memory.{Memory, cleared}
-use Rattle.decoding.specs.Answer.{State, Done, Asked, Way, done, read, answerFor, newBy}
+use Rattle.reading.specs.Answer.{Asked, read, answerFor}
+use Rattle.decoding.specs.Answer.{State, Done, Way, done, newBy}
 use Rattle.theora.specs.Lengths.{lengthsOf, lengthsFit}
 
 -- what a call brings

@@ -15,10 +15,11 @@ use Rattle.frame_header.specs.declared.Kind.{Kind}
 use Rattle.frame_header.specs.declared.Kind.the-variants.{Intra, Inter, Repeat}
 use Rattle.ways.specs.Loops.{_∈_}
 use Rattle.ways.specs.Ways.{firstWay, secondWay, AlongCoded}
-use Rattle.decoding.specs.declared.Verdict.{Verdict}
-use Rattle.decoding.specs.declared.Verdict.the-variants.{Accepted, Refused}
+use Rattle.reading.specs.declared.Verdict.{Verdict}
+use Rattle.reading.specs.declared.Verdict.the-variants.{Accepted, Refused}
 use Rattle.headers.specs.Sizes.{format}
-use Rattle.decoding.specs.Answer.{State, Done, Asked, state, picture}
+use Rattle.reading.specs.Answer.{Asked}
+use Rattle.decoding.specs.Answer.{State, Done, state, picture}
 use Rattle.theora.specs.Call.{Call, said, byRules, FramePromise}
 
 -- "After an accepted intra frame new becomes golden and previous, after another accepted packet previous; after a refusal all stay"

@@ -9,7 +9,8 @@ use Rattle.headers.specs.Fits.{sessionFits}
 use Rattle.table_memory.specs.Genuine.{Bytes}
 use Rattle.setup.specs.Header.{Setup}
 use Rattle.setup.specs.Table.{setupOutcome, tableAfter}
-use Rattle.decoding.specs.Answer.{State, readBy}
+use Rattle.reading.specs.Answer.{readBy}
+use Rattle.decoding.specs.Answer.{State}
 use Rattle.theora.specs.Call.{Call, lengthsHold, said}
 
 -- a setup call with this packet and this memory is accepted, and leaves t

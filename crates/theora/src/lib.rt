@@ -1,8 +1,8 @@
 // The public face of the decoder: the two headers, the sizes, and the frame call. No call asks anything of what is handed in.
-use decoding::FrameAnswer;
 use headers::IdentificationAnswer;
 use headers::Session;
 use headers::SizesAnswer;
+use reading::FrameAnswer;
 use setup::SetupAnswer;
 ghost use mathlib.Core.Path.{_≡_};
 ghost use mathlib.Core.Bool.{true};
@@ -232,7 +232,7 @@ pub fn frame(
                 new,
             );
         }
-        return decoding::refusal(1, s);
+        return reading::refusal(1, s);
     }
-    decoding::refusal(8, s)
+    reading::refusal(8, s)
 }

@@ -20,10 +20,11 @@ use Rattle.frame_header.specs.declared.Header.{Header}
 use Rattle.frame_header.specs.declared.Kind.{Kind}
 use Rattle.frame_header.specs.declared.Kind.the-variants.{Intra, Inter, Repeat}
 use Rattle.ways.specs.Ways.{firstWay}
-use Rattle.decoding.specs.declared.Verdict.{Verdict}
-use Rattle.decoding.specs.Answer.{Done, Asked, state, sessionAfter, answerFor}
-use Rattle.theora.specs.Call.{Call, said, byRules}
-use Rattle.theora_c.specs.Face.{Returned, gives, flag, numbersOf, sessionOf, listsNumber, onList, setupNumber, setupCall, tableCall, matrixReturned, matrixFound, matrixCall, headerNumbers, referenceNumber, sessionNumbers, Answered, answers, verdictReturned, frameGives, stateOf, frameCall}
+use Rattle.reading.specs.declared.Verdict.{Verdict}
+use Rattle.reading.specs.Answer.{Asked, sessionAfter, answerFor}
+use Rattle.decoding.specs.Answer.{Done, state}
+use Rattle.theora.specs.Call.{Call, byRules}
+use Rattle.theora_c.specs.Face.{Returned, gives, flag, numbersOf, sessionOf, listsNumber, onList, setupNumber, setupCall, tableCall, matrixReturned, matrixFound, matrixCall, headerNumbers, referenceNumber, sessionNumbers, Answered, answers, verdictReturned, frameGives, frameCall}
 
 -- the numbers of a session, with the last one found by `flag_number`
 pub with-flag : (s : Session) (n : ℕ) → n ≡ flag (s .references)

@@ -2,22 +2,23 @@
 use Prim.Native.Nat.{ℕ}
 use mathlib.Core.Path.{_≡_, refl, sym, ap, _∙_}
 use mathlib.Core.Bool.{Bool, true, false}
-use mathlib.Core.List.{List, [], _∷_, map}
-use lib.ListN.{length, set, length-set}
+use mathlib.Core.List.{List, [], _∷_}
+use lib.ListN.{length, length-set}
 use borrow.Author.Tests.{eq-eqb}
-use Rattle.bitstream.specs.Reading.{Outcome, got, refused, choose}
+use Rattle.bitstream.specs.Reading.{Outcome, got, refused}
 use Rattle.headers.specs.Fits.{sessionFits}
 use Rattle.headers.specs.declared.Session.{Session}
 use Rattle.frame_header.specs.declared.Header.{Header}
 use Rattle.frame_header.specs.declared.Kind.{Kind}
 use Rattle.frame_header.specs.declared.Kind.the-variants.{Intra, Inter, Repeat}
 use Rattle.ways.specs.Ways.{firstWay}
-use Rattle.decoding.specs.declared.Verdict.{Verdict}
-use Rattle.decoding.specs.declared.Verdict.the-variants.{Accepted, Refused}
-use Rattle.decoding.specs.Answer.{State, Done, Asked, answerFor}
+use Rattle.reading.specs.declared.Verdict.{Verdict}
+use Rattle.reading.specs.declared.Verdict.the-variants.{Accepted, Refused}
+use Rattle.reading.specs.Answer.{Asked, answerFor}
+use Rattle.decoding.specs.Answer.{State, Done}
 use Rattle.theora.specs.Call.{Call, said, memoryAfter, byRules}
-use Rattle.theora.specs.Demand.{Turn, turn, turns, handedOn}
-use Rattle.theora_c.specs.Face.{sessionOf, listsNumber, Answered, verdictReturned, FrameReturned, stateOf, doneReturned, frameCall}
+use Rattle.theora.specs.Demand.{turn, turns, handedOn}
+use Rattle.theora_c.specs.Face.{sessionOf, listsNumber, verdictReturned, FrameReturned, stateOf, doneReturned, frameCall}
 use Rattle.theora_c.specs.Turns.{FaceCall, AnswersFit, SameTurns, FaceTurns}
 use Rattle.theora_c.proofs.Calls.{session-handed}
 

@@ -26,8 +26,7 @@ use Rattle.frame_header.specs.declared.Header.{Header}
 use Rattle.frame_header.specs.declared.Kind.{Kind}
 use Rattle.frame_header.specs.declared.Kind.the-variants.{Intra, Inter, Repeat}
 use Rattle.ways.specs.Ways.{firstWay}
-use Rattle.decoding.specs.declared.FrameAnswer.{FrameAnswer}
-use Rattle.decoding.specs.declared.Verdict.{Verdict}
+use Rattle.reading.specs.declared.Verdict.{Verdict}
 use Rattle.theora.specs.declared.WorkAnswer.{WorkAnswer}
 use Rattle.theora.specs.declared.WorkLengths.{WorkLengths}
 use Rattle.decoding.specs.Memory.{Memory}

@@ -1,6 +1,4 @@
 // The face for C and other languages: include/wedgepetal.h says what each call is for.
-use decoding::FrameAnswer;
-use decoding::Verdict;
 use frame_header::Header;
 use frame_header::Kind;
 use headers::Fields;
@@ -11,12 +9,13 @@ use queries::BlockAnswer;
 use queries::MatrixAnswer;
 use queries::NumberAnswer;
 use queries::PlaceAnswer;
+use reading::FrameAnswer;
+use reading::Verdict;
 use setup::SetupAnswer;
 use theora::WorkAnswer;
 ghost use mathlib.Core.Path.{_≡_};
-ghost use Prim.Native.Nat.{ℕ};
 ghost use lib.ListN.{length};
-ghost use Rattle.theora_c.specs.Face.{gives, flag, numbersOf, sessionOf, listsNumber, sessionReturned, sizesReturned, blockReturned, placeReturned, numberReturned, identificationCall, sizesCall, blockAtCall, blockNumberCall, macroBlockAtCall, macroBlockNumberCall, macroBlockOfCall, sampleOffsetCall, setupCall, tableCall, limitCall, matrixReturned, matrixCall, lengthsReturned, workLengthsCall, kindNumber, headerNumbers, referenceNumber, answers, verdictReturned, frameGives, frameCall};
+ghost use Rattle.theora_c.specs.Face.{gives, flag, sessionOf, listsNumber, sessionReturned, sizesReturned, blockReturned, placeReturned, numberReturned, identificationCall, sizesCall, blockAtCall, blockNumberCall, macroBlockAtCall, macroBlockNumberCall, macroBlockOfCall, sampleOffsetCall, setupCall, tableCall, limitCall, matrixReturned, matrixCall, lengthsReturned, workLengthsCall, kindNumber, headerNumbers, referenceNumber, answers, verdictReturned, frameGives, frameCall};
 ghost use Rattle.decoding.specs.Memory.{memory};
 ghost use Rattle.theora.specs.Call.{call};
 

@@ -8,7 +8,7 @@ use Rattle.geometry.specs.declared.PixelFormat.{PixelFormat}
 use Rattle.headers.proofs.Fitting.{fits-macro-blocks}
 use Rattle.frame_packet.specs.Work.{clear}
 use Rattle.decoding.specs.Memory.{Memory, blocks}
-use Rattle.decoding.proofs.Held.{tables-held, trees-held}
+use Rattle.reading.proofs.Held.{tables-held, trees-held}
 use Rattle.decoding.proofs.Decoded.{on-refused, lent, header-few, on-accepted}
 use borrow.Author.Needs.{needs}
 use Rattle.decoding.proofs.decode_packet.Statement.{statement}

@@ -6,7 +6,8 @@ use mathlib.Core.List.{List}
 use lib.ListN.{length}
 use Rattle.bitstream.proofs.Spends.{readable-short}
 use Rattle.ways.specs.Ways.{firstWay}
-use Rattle.decoding.specs.Answer.{state, read, decoded}
+use Rattle.reading.specs.Answer.{read}
+use Rattle.decoding.specs.Answer.{state, decoded}
 use Rattle.theora.proofs.Calls.{fit-lent, fit-ranks, fit-zeroed, call-8, call-1, call-decoded}
 use Rattle.theora.proofs.frame.Statement.{statement}
 use Rattle.theora.proofs.frame.Tie as tie

@@ -1,8 +1,8 @@
--- `decoding::session_after` meets its contract. Assumes nothing.
+-- `reading::session_after` meets its contract. Assumes nothing.
 use borrow.Author.Needs.{needs}
-use Rattle.decoding.specs.Answer.{sessionAfter}
-use Rattle.decoding.proofs.session_after.Statement.{statement}
-use Rattle.decoding.proofs.session_after.Tie as tie
+use Rattle.reading.specs.Answer.{sessionAfter}
+use Rattle.reading.proofs.session_after.Statement.{statement}
+use Rattle.reading.proofs.session_after.Tie as tie
 
 enum-told : tie.Need-enum-told
 enum-told c = search needs
