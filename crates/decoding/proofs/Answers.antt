@@ -16,7 +16,8 @@ use Rattle.frame_packet.proofs.Laws.{packet-readable}
 use Rattle.ways.specs.Ways.{firstWay}
 use Rattle.decoding.specs.declared.FrameAnswer.{FrameAnswer}
 use Rattle.headers.specs.Sizes.{format}
-use Rattle.decoding.specs.Memory.{Memory, cleared}
+use Rattle.work_memory.specs.Memory.{Memory}
+use Rattle.work_memory.specs.Lengths.{lengthsOf, cleared}
 use Rattle.decoding.specs.Answer.{Done, state, done, readBy, read, answerFor, decoded}
 use Rattle.decoding.proofs.Held.{trees-proper}
 
@@ -39,7 +40,7 @@ module _ (s : Session) (fits : sessionFits s ≡ true) where
 
 -- ---- a packet by table memory
 module _ (s : Session) (golden previous packet table new : List ℕ) where
-  pub decoded-8 : heldSetup table ≡ refused 8 0 → (a : FrameAnswer) → a ≡ answerFor s (refused 8 0) → (m : Memory) → m ≡ cleared s
+  pub decoded-8 : heldSetup table ≡ refused 8 0 → (a : FrameAnswer) → a ≡ answerFor s (refused 8 0) → (m : Memory) → m ≡ cleared (lengthsOf s)
       → done a new m ≡ decoded firstWay (state s golden previous) new (read s table packet)
   unfolding read
   decoded-8 h a ea m em = rw h (λ i. done (ea i) new (em i))

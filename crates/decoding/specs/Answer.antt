@@ -19,7 +19,8 @@ use Rattle.reconstruct.specs.Picture.{Blocks, Matrices, pictureOf}
 use Rattle.decoding.specs.declared.FrameAnswer.{FrameAnswer}
 use Rattle.decoding.specs.declared.Verdict.the-variants.{Accepted, Refused}
 use Rattle.headers.specs.Sizes.{format}
-use Rattle.decoding.specs.Memory.{Memory, cleared}
+use Rattle.work_memory.specs.Memory.{Memory}
+use Rattle.work_memory.specs.Lengths.{lengthsOf, cleared}
 
 -- what is kept from call to call
 pub record State : Type 0 where
@@ -115,4 +116,4 @@ newBy way st new (got a e) =
 
 -- what a call past its length check leaves
 abbrev pub decoded : Way → State → (new : List ℕ) → Outcome Asked → Done
-decoded way st new o = done (answerFor (st .session) o) (newBy way st new o) (cleared (st .session))
+decoded way st new o = done (answerFor (st .session) o) (newBy way st new o) (cleared (lengthsOf (st .session)))

@@ -12,7 +12,7 @@ use Rattle.frame_header.specs.declared.Kind.{Kind}
 use Rattle.frame_header.specs.declared.Kind.the-variants.{Intra, Inter, Repeat}
 use Rattle.decoding.specs.declared.Verdict.{Verdict}
 use Rattle.decoding.specs.declared.Verdict.the-variants.{Accepted, Refused}
-use Rattle.decoding.specs.Memory.{Memory}
+use Rattle.work_memory.specs.Memory.{Memory}
 use Rattle.decoding.specs.Answer.{State, Done, sessionAfter, state}
 use Rattle.theora.specs.Call.{Call}
 use Rattle.theora.specs.Demand.{Turn, turns}
