@@ -22,7 +22,9 @@ use Rattle.block_record.proofs.MemoryLaws.{in-range-at, records-packed}
 use Rattle.frame_header.specs.declared.Header.{Header}
 use Rattle.frame_header.specs.Answer.{asHeader, three}
 use Rattle.frame_packet.specs.Frame.{Body, Frame, framePacket}
-use Rattle.frame_packet.specs.Work.{Work, work, padded, holding, workAfter, asFrame}
+use Rattle.work_memory.specs.Memory.{Work, memory}
+use Rattle.work_memory.specs.Lengths.{blocks, lengthsOf, cleared}
+use Rattle.frame_packet.specs.Work.{padded, holding, workAfter, asFrame}
 use Rattle.frame_packet.specs.declared.Read.the-variants.{Whole, Refused}
 use Rattle.frame_packet.specs.declared.FrameRead.{FrameRead}
 use Rattle.frame_packet.proofs.Fits.{Fits, packet-fits}
@@ -35,7 +37,6 @@ use Rattle.reconstruct.proofs.Same.{Alike, lists-same}
 use Rattle.reading.specs.declared.FrameAnswer.{FrameAnswer}
 use Rattle.reading.specs.declared.Verdict.the-variants.{Accepted}
 use Rattle.headers.specs.Sizes.{format}
-use Rattle.decoding.specs.Memory.{memory, blocks, cleared}
 use Rattle.reading.specs.Answer.{readBy, sessionAfter, answerFor}
 use Rattle.decoding.specs.Answer.{state, done, picture, decoded}
 use Rattle.decoding.specs.Made.{AllQi, BlocksLent}
@@ -239,7 +240,7 @@ module _ (s : Session) (setup : Setup) (packet nodes : List ℕ) (et : treesOf n
       -- work memory
       module _ (records coded : List ℕ) (coefs dc dc₀ : List ℤ) (lasts : List ℕ) (ed : dc₀ ≡ replicate (blocks s) (pos 0))
           (zeros : (records ≡ replicate (length (m .records)) 0) × (coded ≡ replicate (length (m .coded)) 0) × (coefs ≡ replicate (length (m .coefs)) (pos 0)) × (dc ≡ replicate (length dc₀) (pos 0)) × (lasts ≡ replicate (length (m .lasts)) 0)) where
-        memory-is : memory records coded coefs dc lasts (m .flags) (m .bits) (m .supers) (m .modes) (m .active) ≡ cleared s
+        memory-is : memory records coded coefs dc lasts (m .flags) (m .bits) (m .supers) (m .modes) (m .active) ≡ cleared (lengthsOf s)
         memory-is =
             let l = held-long (format s) (s .fields .fmbw) (s .fields .fmbh) fr fits in
             let ld : length dc₀ ≡ blocks s = ap length ed ∙ length-replicate (blocks s) (pos 0) in

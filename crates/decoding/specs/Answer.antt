@@ -12,7 +12,8 @@ use Rattle.reconstruct.specs.Picture.{Blocks, Matrices, pictureOf}
 use Rattle.reading.specs.declared.FrameAnswer.{FrameAnswer}
 use Rattle.reading.specs.Answer.{Asked, answerFor}
 use Rattle.headers.specs.Sizes.{format}
-use Rattle.decoding.specs.Memory.{Memory, cleared}
+use Rattle.work_memory.specs.Memory.{Memory}
+use Rattle.work_memory.specs.Lengths.{lengthsOf, cleared}
 
 -- what is kept from call to call
 pub record State : Type 0 where
@@ -65,4 +66,4 @@ newBy way st new (got a e) =
 
 -- what a call past its length check leaves
 abbrev pub decoded : Way → State → (new : List ℕ) → Outcome Asked → Done
-decoded way st new o = done (answerFor (st .session) o) (newBy way st new o) (cleared (st .session))
+decoded way st new o = done (answerFor (st .session) o) (newBy way st new o) (cleared (lengthsOf (st .session)))

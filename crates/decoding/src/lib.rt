@@ -22,7 +22,8 @@ ghost use Rattle.setup.specs.Table.{tableBytes};
 ghost use Rattle.ways.specs.Ways.{firstWay};
 ghost use Rattle.reconstruct.specs.Lent.{blocksIn};
 ghost use Rattle.headers.specs.Fits.{sessionFits};
-ghost use Rattle.decoding.specs.Memory.{memory, blocks, cleared};
+ghost use Rattle.work_memory.specs.Memory.{memory};
+ghost use Rattle.work_memory.specs.Lengths.{blocks, lengthsOf, cleared};
 ghost use Rattle.reading.specs.Answer.{readBy, read};
 ghost use Rattle.decoding.specs.Answer.{state, done, decoded};
 ghost use Rattle.decoding.specs.Made.{AllQi, BlocksLent, MatricesAre, FrameIs};
@@ -127,7 +128,7 @@ fn decode_packet(
     new: &mut [u8],
 ) -> FrameAnswer
     requires { ⌜ (sessionFits s ≡ true) × (length (now packet) ≤ 2 ^ 58) × (length (now table) ≤ 2 ^ 58) × Held (now table) loaded ⌝ }
-    requires { ⌜ (memory (now records) (now coded) (now coefs) (now dc) (now lasts) (now flags) (now bits) (now supers) (now modes) (now active) ≡ cleared s)
+    requires { ⌜ (memory (now records) (now coded) (now coefs) (now dc) (now lasts) (now flags) (now bits) (now supers) (now modes) (now active) ≡ cleared (lengthsOf s))
         × (length (now new) ≡ 64 * blocks s) × (length (now golden) ≡ 64 * blocks s) × (length (now previous) ≡ 64 * blocks s) ⌝ }
     ensures { λ r. ⌜ ((setup : Setup) → Holds (now (table .entry)) loaded setup
         → done r (now (new .exit)) (memory (now (records .exit)) (now (coded .exit)) (now (coefs .exit)) (now (dc .exit)) (now (lasts .exit)) (now (flags .exit)) (now (bits .exit)) (now (supers .exit)) (now (modes .exit)) (now (active .exit)))
@@ -206,7 +207,7 @@ pub fn decode(
     new: &mut [u8],
 ) -> FrameAnswer
     requires { ⌜ (sessionFits s ≡ true) × (length (now packet) ≤ 2 ^ 58) × (length (now table) ≡ tableBytes)
-        × (memory (now records) (now coded) (now coefs) (now dc) (now lasts) (now flags) (now bits) (now supers) (now modes) (now active) ≡ cleared s)
+        × (memory (now records) (now coded) (now coefs) (now dc) (now lasts) (now flags) (now bits) (now supers) (now modes) (now active) ≡ cleared (lengthsOf s))
         × (length (now new) ≡ 64 * blocks s) × (length (now golden) ≡ 64 * blocks s) × (length (now previous) ≡ 64 * blocks s) ⌝ }
     ensures { λ r. ⌜ done r (now (new .exit)) (memory (now (records .exit)) (now (coded .exit)) (now (coefs .exit)) (now (dc .exit)) (now (lasts .exit)) (now (flags .exit)) (now (bits .exit)) (now (supers .exit)) (now (modes .exit)) (now (active .exit)))
         ≡ decoded firstWay (state s (now (golden .entry)) (now (previous .entry))) (now (new .entry)) (read s (now (table .entry)) (now (packet .entry))) ⌝ }

@@ -13,7 +13,7 @@ use types.Run.{OneOf}
 use Rattle.bitstream.specs.Reading.{Outcome, got, refused, after, bind}
 use Rattle.bitstream.proofs.Laws.{bind-step}
 use Rattle.huffman.specs.Tree.{Tree}
-use Rattle.buffer.proofs.Laws.{cleared, cleared-all, cleared-front, take-cleared, drop-cleared}
+use Rattle.buffer.proofs.Laws.{take-cleared, drop-cleared}
 use Rattle.geometry.specs.declared.PixelFormat.{PixelFormat}
 use Rattle.geometry.specs.declared.PixelFormat.the-variants.{Chroma420, Chroma422, Chroma444}
 use Rattle.geometry.specs.Sizes.{blocksOf, superBlocksOf, macroBlocksOf}
@@ -41,11 +41,13 @@ use Rattle.tokens.specs.Tokens.{Tokens, readTokens}
 use Rattle.tokens.specs.declared.Counted.{Counted}
 use Rattle.tokens.specs.declared.Counted.the-variants as counted
 use Rattle.tokens.specs.Answer as tokens
+use Rattle.work_memory.specs.Memory.{Work, work}
+use Rattle.work_memory.specs.Lengths.{published, cleared}
 use Rattle.frame_packet.specs.declared.CodedRead.{CodedRead}
 use Rattle.frame_packet.specs.declared.CodedRead.the-variants as answer
 use Rattle.frame_packet.specs.declared.Read.the-variants as read
 use Rattle.frame_packet.specs.Frame.{Body, isIntra, flagsOf, predictions, body}
-use Rattle.frame_packet.specs.Work.{Work, work, padded, clear, LeftBy, Left, asCoded, StoredCoded, StoredTokens, asRead}
+use Rattle.frame_packet.specs.Work.{padded, LeftBy, Left, asCoded, StoredCoded, StoredTokens, asRead}
 use Rattle.frame_packet.proofs.Laws.{made}
 use Rattle.frame_packet.proofs.Fits.{predictions-keep}
 
@@ -61,7 +63,7 @@ pub record Sized (f : PixelFormat) (w h : ℕ) (m : Work) : Type 0 where
   pub modes : length (m .modes) ≡ macroBlocksOf w h
   pub active : length (m .active) ≡ blocksOf f w h
 
-pub sized : (f : PixelFormat) (w h : ℕ) (m : Work) → m ≡ clear f w h → Sized f w h m
+pub sized : (f : PixelFormat) (w h : ℕ) (m : Work) → m ≡ cleared (published f w h) .work → Sized f w h m
 sized f w h m e =
     let n = length-replicate {A = ℕ} (blocksOf f w h) 0 in
     rw e (record {
@@ -100,13 +102,6 @@ module _ {A : Type 0} (z : A) where
   padded-by n k l t e h a b =
       let m : k ≡ length t = sym (length-take-le k l (omega arith)) ∙ ap length a in
       sym (take-append-drop k l) ∙ (λ i. a i ++ b i) ∙ ap (λ (j : ℕ). t ++ replicate (n - j) z) m
-
-  -- all of a list, and the front of one behind which nothing else is
-  pub clear-whole : (l r : List A) → r ≡ cleared z (length l) l → r ≡ replicate (length l) z
-  clear-whole l r e = e ∙ cleared-all z l
-
-  pub clear-front : (n : ℕ) (l r : List A) → n ≤ length l → drop n l ≡ replicate (length l - n) z → r ≡ cleared z n l → r ≡ replicate (length l) z
-  clear-front n l r h b e = e ∙ cleared-front z n l h b
 
 -- ---- the coded blocks
 module _ (f : PixelFormat) (w h : ℕ) (o : Outcome (List ℕ)) where

@@ -6,7 +6,7 @@ use mathlib.Core.Path.{_≡_, refl, sym, ap, _∙_, subst}
 use mathlib.Core.List.{List, [], _∷_, map}
 use mathlib.Core.Bool.{Bool, true, false}
 use lib.IntN.{pos}
-use lib.ListN.{length, drop, replicate, length-append, drop-of-length-le}
+use lib.ListN.{length, drop, replicate, length-append}
 use Rattle.bitstream.specs.Reading.{Outcome, got, refused, after, choose}
 use Rattle.geometry.specs.declared.PixelFormat.{PixelFormat}
 use Rattle.geometry.specs.Sizes.{blocksOf}
@@ -24,7 +24,9 @@ use Rattle.frame_packet.specs.declared.Read.{Read}
 use Rattle.frame_packet.specs.declared.Read.the-variants as read
 use Rattle.frame_packet.specs.declared.FrameRead.{FrameRead}
 use Rattle.frame_packet.specs.Frame.{Body, Frame, body, frame, repeated, framePacket}
-use Rattle.frame_packet.specs.Work.{Work, padded, clear, holding, LeftBy, Left, workAfter, asRead, asFrame}
+use Rattle.work_memory.specs.Memory.{Work}
+use Rattle.work_memory.specs.Lengths.{published, cleared}
+use Rattle.frame_packet.specs.Work.{padded, holding, LeftBy, Left, workAfter, asRead, asFrame}
 use Rattle.frame_packet.proofs.Laws.{packet-some}
 
 -- ---- what the answers of the header and of the body say
@@ -75,7 +77,7 @@ module _ (f : PixelFormat) (w h : ℕ) (trees : List Tree) (references : Bool) (
       go [] e = refl
       go (b ∷ p) e = absurd (omega arith)
 
-  nothing-held : holding f w h (repeated f w h .body) ≡ clear f w h
+  nothing-held : holding f w h (repeated f w h .body) ≡ cleared (published f w h) .work
   nothing-held =
       let r : map packed (replicate (blocksOf f w h) uncoded) ≡ replicate (blocksOf f w h) 0 = map-replicate packed (blocksOf f w h) uncoded ∙ ap (replicate (blocksOf f w h)) packed-uncoded in
       let n : blocksOf f w h - 0 ≡ blocksOf f w h = sub-zero (blocksOf f w h) in
@@ -85,40 +87,30 @@ module _ (f : PixelFormat) (w h : ℕ) (trees : List Tree) (references : Bool) (
         coded = replicate (n i) 0;
         coefs = replicate (m i) (pos 0);
         lasts = replicate (n i) 0;
-        flags = clear f w h .flags;
-        bits = clear f w h .bits;
-        supers = clear f w h .supers;
-        modes = clear f w h .modes;
-        active = clear f w h .active;
+        flags = cleared (published f w h) .work .flags;
+        bits = cleared (published f w h) .work .bits;
+        supers = cleared (published f w h) .work .supers;
+        modes = cleared (published f w h) .work .modes;
+        active = cleared (published f w h) .work .active;
       }
 
-  pub on-empty : (r : FrameRead) (m : Work) → r ≡ asFrame (choose references (got (repeated f w h) 0) (refused 9 0)) → m ≡ clear f w h
+  pub on-empty : (r : FrameRead) (m : Work) → r ≡ asFrame (choose references (got (repeated f w h) 0) (refused 9 0)) → m ≡ cleared (published f w h) .work
       → (r ≡ asFrame (framePacket f w h trees references p)) × (m ≡ workAfter f w h (framePacket f w h trees references p))
   on-empty r m a b = rw packet-empty (a, b ∙ go references)
     where
-      go : (t : Bool) → clear f w h ≡ workAfter f w h (choose t (got (repeated f w h) 0) (refused 9 0))
+      go : (t : Bool) → cleared (published f w h) .work ≡ workAfter f w h (choose t (got (repeated f w h) 0) (refused 9 0))
       go true = sym nothing-held
       go false = refl
 
 -- ---- what a return has to show
 module _ (f : PixelFormat) (w h : ℕ) (r : FrameRead) (m : Work) (o : Outcome Frame) where
-  pub on-no-frame : {k e : ℕ} → o ≡ refused k e → r ≡ asFrame (refused k e) → m ≡ clear f w h → (r ≡ asFrame o) × (m ≡ workAfter f w h o)
+  pub on-no-frame : {k e : ℕ} → o ≡ refused k e → r ≡ asFrame (refused k e) → m ≡ cleared (published f w h) .work → (r ≡ asFrame o) × (m ≡ workAfter f w h o)
   on-no-frame g a b = rw g (a, b)
 
   pub on-frame : {fr : Frame} {e : ℕ} → o ≡ got fr e → r ≡ asFrame (got fr e) → m ≡ holding f w h (fr .body) → (r ≡ asFrame o) × (m ≡ workAfter f w h o)
   on-frame g a b = rw g (a, b)
 
 -- ---- clearing
--- as many as there are
-pub cleared-to : {A : Type 0} (z : A) {l : List A} {n m : ℕ} → l ≡ replicate n z → n ≡ m → l ≡ replicate m z
-cleared-to z e h = e ∙ ap (λ (k : ℕ). replicate k z) h
-
--- nothing is behind all of a list
-pub nothing-behind : (n : ℕ) (l : List ℕ) → length l ≡ n → (n ≤ length l) × (drop n l ≡ replicate (length l - n) 0)
-nothing-behind n l e =
-    let z : 0 ≡ length l - n = omega arith in
-    (omega arith, drop-of-length-le l {i = n} (omega arith) ∙ ap (λ (k : ℕ). replicate k 0) z)
-
 -- zeros are behind the coded blocks
 pub zeros-behind : (f : PixelFormat) (w h count : ℕ) (b : Body) (coded l : List ℕ) → count ≡ length (b .coded) → length coded ≡ blocksOf f w h → coded ≡ padded 0 (blocksOf f w h) (b .coded)
     → length l ≡ blocksOf f w h → drop (length (b .coded)) l ≡ replicate (blocksOf f w h - length (b .coded)) 0 → (count ≤ length l) × (drop count l ≡ replicate (length l - count) 0)

@@ -1,4 +1,4 @@
--- Work memory: the lent slices, and how what was read lies in them.
+-- How what was read lies in work memory.
 use Prim.Native.Nat.{ℕ, _-_, _*_}
 use mathlib.Core.Path.{_≡_}
 use mathlib.Core.List.{List, _++_, map}
@@ -11,6 +11,8 @@ use Rattle.block_record.specs.Packed.{packed}
 use Rattle.frame_header.specs.Answer as header
 use Rattle.coded_flags.specs.Coded.{codedBlocks, codedLuma, codedRecords}
 use Rattle.tokens.specs.Tokens.{Tokens}
+use Rattle.work_memory.specs.Memory.{Work}
+use Rattle.work_memory.specs.Lengths.{published, cleared}
 use Rattle.frame_packet.specs.Frame.{Body, Frame}
 use Rattle.frame_packet.specs.declared.Read.{Read}
 use Rattle.frame_packet.specs.declared.Read.the-variants.{Whole, Refused}
@@ -18,50 +20,11 @@ use Rattle.frame_packet.specs.declared.FrameRead.{FrameRead}
 use Rattle.frame_packet.specs.declared.CodedRead.{CodedRead}
 use Rattle.frame_packet.specs.declared.CodedRead.the-variants as coded
 
--- the slices that the reader of a frame packet is lent
-pub record Work : Type 0 where
-  pub records : List ℕ  -- each block's packed record, by raster number
-  pub coded : List ℕ  -- the raster numbers of the coded blocks, in coded order
-  pub coefs : List ℤ  -- 64 coefficients for each coded block, by rank, in zig-zag order
-  pub lasts : List ℕ  -- the position of each coded block's last visit, by rank
-  pub flags : List ℕ  -- a coded flag for each block, in coded order
-  pub bits : List ℕ  -- scratch: a bit string; the position that comes next of each coded block
-  pub supers : List ℕ  -- scratch: two bit strings of super blocks
-  pub modes : List ℕ  -- the mode of each macro block, in coded order
-  pub active : List ℕ  -- scratch: the ranks of the unfinished blocks
-
-abbrev pub work : (records coded : List ℕ) (coefs : List ℤ) (lasts flags bits supers modes active : List ℕ) → Work
-work records coded coefs lasts flags bits supers modes active = record {
-  records = records;
-  coded = coded;
-  coefs = coefs;
-  lasts = lasts;
-  flags = flags;
-  bits = bits;
-  supers = supers;
-  modes = modes;
-  active = active;
-}
-
 -- l, and zeros behind it, n in all
 abbrev pub padded : {A : Type 0} → A → ℕ → List A → List A
 padded zero n l = l ++ replicate (n - length l) zero
 
 module _ (f : PixelFormat) (w h : ℕ) where
-  -- the published lengths, all zero
-  abbrev pub clear : Work
-  clear = record {
-    records = replicate (blocksOf f w h) 0;
-    coded = replicate (blocksOf f w h) 0;
-    coefs = replicate (64 * blocksOf f w h) (pos 0);
-    lasts = replicate (blocksOf f w h) 0;
-    flags = replicate (blocksOf f w h) 0;
-    bits = replicate (blocksOf f w h) 0;
-    supers = replicate (2 * superBlocksOf f w h) 0;
-    modes = replicate (macroBlocksOf w h) 0;
-    active = replicate (blocksOf f w h) 0;
-  }
-
   -- what was read, with zeros behind it; the scratch is all zero
   abbrev pub holding : Body → Work
   holding b = record {
@@ -79,7 +42,7 @@ module _ (f : PixelFormat) (w h : ℕ) where
   -- after a refusal all zero
   abbrev pub workAfter : Outcome Frame → Work
   workAfter (got fr e) = holding (fr .body)
-  workAfter (refused k e) = clear
+  workAfter (refused k e) = cleared (published f w h) .work
 
 -- the numbers of coded blocks and of tokens, and the place behind the packet
 abbrev pub asRead : Outcome Body → Read

@@ -6,9 +6,9 @@ use runs::Done;
 use tokens::Counted;
 ghost use mathlib.Core.Path.{_≡_};
 ghost use mathlib.Core.List.{map};
-ghost use Prim.Native.Nat.{_-_, _*_, _≤_, _^_};
+ghost use Prim.Native.Nat.{_*_, _≤_, _^_};
 ghost use lib.IntN.{pos};
-ghost use lib.ListN.{length, drop, replicate};
+ghost use lib.ListN.{length, replicate};
 ghost use Rattle.bitstream.specs.Reading.{bind, got, refused, choose};
 ghost use Rattle.geometry.specs.Sizes.{blocksOf, superBlocksOf, macroBlocksOf};
 ghost use Rattle.runs.specs.Lists.{AllBelow, Once};
@@ -18,8 +18,10 @@ ghost use Rattle.block_record.specs.Memory.{AllPacked, recordsOf};
 ghost use Rattle.block_qi.specs.BlockQi.{blockQi};
 ghost use Rattle.tokens.specs.Tokens.{readTokens};
 ghost use Rattle.tokens.specs.Answer.{Tables, treesOf, asCounted};
+ghost use Rattle.work_memory.specs.Memory.{work};
+ghost use Rattle.work_memory.specs.Lengths.{published, cleared};
 ghost use Rattle.frame_packet.specs.Frame.{flagsOf, predictions, body, repeated, framePacket};
-ghost use Rattle.frame_packet.specs.Work.{work, clear, asCoded, StoredCoded, StoredTokens, Left, asRead, asFrame, workAfter};
+ghost use Rattle.frame_packet.specs.Work.{asCoded, StoredCoded, StoredTokens, Left, asRead, asFrame, workAfter};
 
 // The numbers of coded blocks and of tokens, and the place behind the packet; or the refusal.
 pub enum Read {
@@ -191,7 +193,7 @@ fn read_body(
     modes: &mut [u8],
     active: &mut [u64],
 ) -> Read
-    requires { ⌜ (length (now packet) ≤ 2 ^ 58) × (w ≤ 65535) × (h ≤ 65535) × (qis ≤ 3) × Tables (now nodes) × (work (now records) (now coded) (now coefs) (now lasts) (now flags) (now bits) (now supers) (now modes) (now active) ≡ clear format w h) ⌝ }
+    requires { ⌜ (length (now packet) ≤ 2 ^ 58) × (w ≤ 65535) × (h ≤ 65535) × (qis ≤ 3) × Tables (now nodes) × (work (now records) (now coded) (now coefs) (now lasts) (now flags) (now bits) (now supers) (now modes) (now active) ≡ cleared (published format w h) .work) ⌝ }
     ensures { λ r. ⌜ r ≡ asRead (body format w h (treesOf (now (nodes .entry))) kind qis (now (packet .entry)) at) ⌝ }
     ensures { λ r. ⌜ Left format w h (work (now (records .exit)) (now (coded .exit)) (now (coefs .exit)) (now (lasts .exit)) (now (flags .exit)) (now (bits .exit)) (now (supers .exit)) (now (modes .exit)) (now (active .exit))) (body format w h (treesOf (now (nodes .entry))) kind qis (now (packet .entry)) at) ⌝ }
 {
@@ -249,42 +251,6 @@ fn read_body(
     }
 }
 
-// The slices that hold what was read.
-pub fn clear_read(records: &mut [u32], coded: &mut [u64], coefs: &mut [i16], lasts: &mut [u8])
-    ensures { λ _. ⌜ (now (records .exit) ≡ replicate (length (now (records .entry))) 0) × (now (coded .exit) ≡ replicate (length (now (coded .entry))) 0) × (now (coefs .exit) ≡ replicate (length (now (coefs .entry))) (pos 0)) × (now (lasts .exit) ≡ replicate (length (now (lasts .entry))) 0) ⌝ }
-{
-    let blocks = records.len();
-    buffer::clear_words(records, blocks);
-    let numbers = coded.len();
-    buffer::clear_longs(coded, numbers);
-    let values = coefs.len();
-    buffer::clear_shorts(coefs, values);
-    let visits = lasts.len();
-    buffer::clear_bytes(lasts, visits);
-}
-
-// The other slices. Behind the first `count` of `bits` and of `active` there is nothing to clear.
-pub fn clear_scratch(
-    count: usize,
-    flags: &mut [u8],
-    bits: &mut [u8],
-    supers: &mut [u8],
-    modes: &mut [u8],
-    active: &mut [u64],
-)
-    requires { ⌜ (count ≤ length (now bits)) × (drop count (now bits) ≡ replicate (length (now bits) - count) 0) × (count ≤ length (now active)) × (drop count (now active) ≡ replicate (length (now active) - count) 0) ⌝ }
-    ensures { λ _. ⌜ (now (flags .exit) ≡ replicate (length (now (flags .entry))) 0) × (now (bits .exit) ≡ replicate (length (now (bits .entry))) 0) × (now (supers .exit) ≡ replicate (length (now (supers .entry))) 0) × (now (modes .exit) ≡ replicate (length (now (modes .entry))) 0) × (now (active .exit) ≡ replicate (length (now (active .entry))) 0) ⌝ }
-{
-    let blocks = flags.len();
-    buffer::clear_bytes(flags, blocks);
-    buffer::clear_bytes(bits, count);
-    let strings = supers.len();
-    buffer::clear_bytes(supers, strings);
-    let macros = modes.len();
-    buffer::clear_bytes(modes, macros);
-    buffer::clear_longs(active, count);
-}
-
 fn refusal(k: u32, e: usize) -> FrameRead
     ensures { λ r. ⌜ r ≡ asFrame (refused k e) ⌝ }
 {
@@ -333,7 +299,7 @@ pub fn read_frame(
     modes: &mut [u8],
     active: &mut [u64],
 ) -> FrameRead
-    requires { ⌜ (length (now packet) ≤ 2 ^ 58) × (w ≤ 65535) × (h ≤ 65535) × Tables (now nodes) × (work (now records) (now coded) (now coefs) (now lasts) (now flags) (now bits) (now supers) (now modes) (now active) ≡ clear format w h) ⌝ }
+    requires { ⌜ (length (now packet) ≤ 2 ^ 58) × (w ≤ 65535) × (h ≤ 65535) × Tables (now nodes) × (work (now records) (now coded) (now coefs) (now lasts) (now flags) (now bits) (now supers) (now modes) (now active) ≡ cleared (published format w h) .work) ⌝ }
     ensures { λ r. ⌜ r ≡ asFrame (framePacket format w h (treesOf (now (nodes .entry))) references (now (packet .entry))) ⌝ }
     ensures { λ r. ⌜ work (now (records .exit)) (now (coded .exit)) (now (coefs .exit)) (now (lasts .exit)) (now (flags .exit)) (now (bits .exit)) (now (supers .exit)) (now (modes .exit)) (now (active .exit)) ≡ workAfter format w h (framePacket format w h (treesOf (now (nodes .entry))) references (now (packet .entry))) ⌝ }
 {
@@ -369,13 +335,13 @@ pub fn read_frame(
             );
             match read {
                 Read::Refused(k, e) => {
-                    clear_read(records, coded, coefs, lasts);
+                    work_memory::clear_read(records, coded, coefs, lasts);
                     let all = bits.len();
-                    clear_scratch(all, flags, bits, supers, modes, active);
+                    work_memory::clear_scratch(all, flags, bits, supers, modes, active);
                     refusal(k, e)
                 }
                 Read::Whole(count, _, _) => {
-                    clear_scratch(count, flags, bits, supers, modes, active);
+                    work_memory::clear_scratch(count, flags, bits, supers, modes, active);
                     FrameRead {
                         read: read,
                         header: header,

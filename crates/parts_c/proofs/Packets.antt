@@ -25,8 +25,11 @@ use Rattle.frame_packet.specs.declared.Read.{Read}
 use Rattle.frame_packet.specs.declared.Read.the-variants.{Whole, Refused}
 use Rattle.frame_packet.specs.declared.FrameRead.{FrameRead}
 use Rattle.frame_packet.specs.Frame.{framePacket}
-use Rattle.frame_packet.specs.Work.{Work, work, clear, workAfter, asFrame}
-use Rattle.parts_c.specs.Packet.{Returned, returned, kindNumber, numberOf, countsOf, numbersOf, zeroed, lengthsFit, byTrees, bySetup, readCall}
+use Rattle.work_memory.specs.Memory.{Work, work}
+use Rattle.work_memory.specs.Lengths.{published, cleared}
+use Rattle.work_memory.proofs.Clearing.{cleared-to}
+use Rattle.frame_packet.specs.Work.{workAfter, asFrame}
+use Rattle.parts_c.specs.Packet.{Returned, returned, kindNumber, numberOf, countsOf, numbersOf, lengthsFit, byTrees, bySetup, readCall}
 
 -- ---- the trees of a table memory
 module _ (t : List ℕ) {r : SetupRead} (a : r ≡ asSetupRead (heldSetup t)) where
@@ -40,7 +43,7 @@ module _ (t : List ℕ) {r : SetupRead} (a : r ≡ asSetupRead (heldSetup t)) wh
       )
 
   -- one that is not
-  pub other-table : {k e : ℕ} → r .place ≡ place.Refused k e → (f : PixelFormat) (w h : ℕ) (references : Bool) (packet old : List ℕ) {m : Work} → m ≡ clear f w h
+  pub other-table : {k e : ℕ} → r .place ≡ place.Refused k e → (f : PixelFormat) (w h : ℕ) (references : Bool) (packet old : List ℕ) {m : Work} → m ≡ cleared (published f w h) .work
       → returned 8 old m ≡ bySetup f w h references packet old (heldSetup t)
   other-table g f w h references packet old c = ap (returned 8 old) c ∙ sym (ap (bySetup f w h references packet old) (held-8 t a g))
 
@@ -82,9 +85,10 @@ module _ (f : PixelFormat) (w h : ℕ) (packet table answer : List ℕ) (m : Wor
   unfolding lengthsFit
   fit-ranks = eqb-true _ _ (all-at _ 11 fit (lit< tt)) ∙ sym (eqb-true _ _ (all-at _ 8 fit (lit< tt)))
 
-  pub fit-zeroed : zeroed m ≡ clear f w h
+  pub fit-cleared : (k : Work) → (k .records ≡ replicate (length (m .records)) 0) × (k .coded ≡ replicate (length (m .coded)) 0) × (k .coefs ≡ replicate (length (m .coefs)) (pos 0)) × (k .lasts ≡ replicate (length (m .lasts)) 0) × (k .flags ≡ replicate (length (m .flags)) 0)
+      × (k .bits ≡ replicate (length (m .bits)) 0) × (k .supers ≡ replicate (length (m .supers)) 0) × (k .modes ≡ replicate (length (m .modes)) 0) × (k .active ≡ replicate (length (m .active)) 0) → k ≡ cleared (published f w h) .work
   unfolding lengthsFit
-  fit-zeroed =
+  fit-cleared k e =
       let records : length (m .records) ≡ blocksOf f w h = eqb-true _ _ (all-at _ 3 fit (lit< tt)) in
       let coded : length (m .coded) ≡ blocksOf f w h = eqb-true _ _ (all-at _ 4 fit (lit< tt)) in
       let coefs : length (m .coefs) ≡ 64 * blocksOf f w h = eqb-true _ _ (all-at _ 5 fit (lit< tt)) in
@@ -94,8 +98,8 @@ module _ (f : PixelFormat) (w h : ℕ) (packet table answer : List ℕ) (m : Wor
       let supers : length (m .supers) ≡ 2 * superBlocksOf f w h = eqb-true _ _ (all-at _ 9 fit (lit< tt)) in
       let modes : length (m .modes) ≡ macroBlocksOf w h = eqb-true _ _ (all-at _ 10 fit (lit< tt)) in
       let active : length (m .active) ≡ blocksOf f w h = eqb-true _ _ (all-at _ 11 fit (lit< tt)) in
-      λ i. work (replicate (records i) 0) (replicate (coded i) 0) (replicate (coefs i) (pos 0)) (replicate (lasts i) 0) (replicate (flags i) 0)
-      (replicate (bits i) 0) (replicate (supers i) 0) (replicate (modes i) 0) (replicate (active i) 0)
+      λ i. work (cleared-to 0 (e .0) records i) (cleared-to 0 (e .1) coded i) (cleared-to (pos 0) (e .2) coefs i) (cleared-to 0 (e .3) lasts i) (cleared-to 0 (e .4) flags i)
+      (cleared-to 0 (e .5) bits i) (cleared-to 0 (e .6) supers i) (cleared-to 0 (e .7) modes i) (cleared-to 0 (e .8) active i)
 
 -- a frame that is not too large
 pub small-frame : (w h : ℕ) → (ltb w 65536 && ltb h 65536) ≡ true → (w ≤ 65535) × (h ≤ 65535)

@@ -3,8 +3,7 @@ use Prim.Native.Nat.{ℕ, _*_}
 use mathlib.Core.Bool.{Bool, _&&_}
 use mathlib.Core.List.{List, [], _∷_}
 use lib.Dec.{eqb, ltb}
-use lib.IntN.{pos}
-use lib.ListN.{length, getD, replicate}
+use lib.ListN.{length, getD}
 use Rattle.bitstream.specs.Reading.{Outcome, got, refused, choose}
 use Rattle.geometry.specs.declared.PixelFormat.{PixelFormat}
 use Rattle.geometry.specs.Sizes.{blocksOf, superBlocksOf, macroBlocksOf}
@@ -19,7 +18,9 @@ use Rattle.frame_packet.specs.declared.Read.{Read}
 use Rattle.frame_packet.specs.declared.Read.the-variants.{Whole, Refused}
 use Rattle.frame_packet.specs.declared.FrameRead.{FrameRead}
 use Rattle.frame_packet.specs.Frame.{framePacket}
-use Rattle.frame_packet.specs.Work.{Work, work, clear, workAfter, asFrame}
+use Rattle.work_memory.specs.Memory.{Work}
+use Rattle.work_memory.specs.Lengths.{published, cleared}
+use Rattle.frame_packet.specs.Work.{workAfter, asFrame}
 
 -- what a call returns, and what the list of its answer and work memory hold afterwards
 pub record Returned : Type 0 where
@@ -50,12 +51,6 @@ countsOf (Refused k place) = 0 ∷ 0 ∷ place ∷ []
 abbrev pub numbersOf : FrameRead → List ℕ
 numbersOf r = kindNumber (r .header .kind) ∷ r .header .count ∷ getD (r .header .qis) 0 0 ∷ getD (r .header .qis) 1 0 ∷ getD (r .header .qis) 2 0 ∷ countsOf (r .read)
 
--- the same lengths, all zero
-abbrev pub zeroed : Work → Work
-zeroed m =
-    work (replicate (length (m .records)) 0) (replicate (length (m .coded)) 0) (replicate (length (m .coefs)) (pos 0)) (replicate (length (m .lasts)) 0) (replicate (length (m .flags)) 0)
-    (replicate (length (m .bits)) 0) (replicate (length (m .supers)) 0) (replicate (length (m .modes)) 0) (replicate (length (m .active)) 0)
-
 module _ (f : PixelFormat) (w h : ℕ) where
   -- every lent length is the right one, and the packet is not longer than readers can take
   unfoldable pub lengthsFit : (packet table answer : List ℕ) → Work → Bool
@@ -74,7 +69,7 @@ module _ (f : PixelFormat) (w h : ℕ) where
   -- by the setup that a table memory holds; a table memory that is not genuine is 8
   abbrev pub bySetup : Bool → (packet old : List ℕ) → Outcome Setup → Returned
   bySetup references packet old (got s e) = byTrees references packet (s .trees)
-  bySetup references packet old (refused k e) = returned 8 old (clear f w h)
+  bySetup references packet old (refused k e) = returned 8 old (cleared (published f w h) .work)
 
 -- a frame that is too large is 8, then a wrong length is 1: these leave all as it was
 unfoldable pub readCall : (packet : List ℕ) (references : Bool) (table : List ℕ) (pf w h : ℕ) → Work → (old : List ℕ) → Returned

@@ -28,8 +28,9 @@ ghost use Rattle.reconstruct.specs.Picture.{pictureOf};
 ghost use Rattle.reconstruct.specs.Lent.{blocksIn, matrixIn, Lent, ZerosBehind};
 ghost use Rattle.setup.specs.Table.{tableBytes, heldSetup};
 ghost use Rattle.tokens.specs.Answer.{Tables, treesOf};
-ghost use Rattle.frame_packet.specs.Work.{work, clear};
-ghost use Rattle.parts_c.specs.Packet.{returned, kindNumber, numberOf, numbersOf, zeroed, lengthsFit, byTrees, bySetup, readCall};
+ghost use Rattle.work_memory.specs.Memory.{work};
+ghost use Rattle.work_memory.specs.Lengths.{published, cleared};
+ghost use Rattle.parts_c.specs.Packet.{returned, kindNumber, numberOf, numbersOf, lengthsFit, byTrees, bySetup, readCall};
 
 // The 64 residuals of a block, from the coefficients that start at `at`.
 #[no_mangle]
@@ -261,11 +262,12 @@ fn clear_work(
     active: &mut [u64],
 )
     requires { ⌜ length (now active) ≡ length (now bits) ⌝ }
-    ensures { λ _. ⌜ work (now (records .exit)) (now (coded .exit)) (now (coefs .exit)) (now (lasts .exit)) (now (flags .exit)) (now (bits .exit)) (now (supers .exit)) (now (modes .exit)) (now (active .exit)) ≡ zeroed (work (now (records .entry)) (now (coded .entry)) (now (coefs .entry)) (now (lasts .entry)) (now (flags .entry)) (now (bits .entry)) (now (supers .entry)) (now (modes .entry)) (now (active .entry))) ⌝ }
+    ensures { λ _. ⌜ (now (records .exit) ≡ replicate (length (now (records .entry))) 0) × (now (coded .exit) ≡ replicate (length (now (coded .entry))) 0) × (now (coefs .exit) ≡ replicate (length (now (coefs .entry))) (pos 0)) × (now (lasts .exit) ≡ replicate (length (now (lasts .entry))) 0)
+        × (now (flags .exit) ≡ replicate (length (now (flags .entry))) 0) × (now (bits .exit) ≡ replicate (length (now (bits .entry))) 0) × (now (supers .exit) ≡ replicate (length (now (supers .entry))) 0) × (now (modes .exit) ≡ replicate (length (now (modes .entry))) 0) × (now (active .exit) ≡ replicate (length (now (active .entry))) 0) ⌝ }
 {
-    frame_packet::clear_read(records, coded, coefs, lasts);
+    work_memory::clear_read(records, coded, coefs, lasts);
     let blocks = bits.len();
-    frame_packet::clear_scratch(blocks, flags, bits, supers, modes, active);
+    work_memory::clear_scratch(blocks, flags, bits, supers, modes, active);
 }
 
 // A packet by the trees of a setup, whose nodes are lent. Work memory is all zero before.
@@ -287,7 +289,7 @@ fn read_by_nodes(
     active: &mut [u64],
     answer: &mut [u64],
 ) -> u32
-    requires { ⌜ (length (now packet) ≤ 2 ^ 58) × (w ≤ 65535) × (h ≤ 65535) × Tables (now nodes) × (work (now records) (now coded) (now coefs) (now lasts) (now flags) (now bits) (now supers) (now modes) (now active) ≡ clear format w h) × (length (now answer) ≡ 8) ⌝ }
+    requires { ⌜ (length (now packet) ≤ 2 ^ 58) × (w ≤ 65535) × (h ≤ 65535) × Tables (now nodes) × (work (now records) (now coded) (now coefs) (now lasts) (now flags) (now bits) (now supers) (now modes) (now active) ≡ cleared (published format w h) .work) × (length (now answer) ≡ 8) ⌝ }
     ensures { λ r. ⌜ returned r (now (answer .exit)) (work (now (records .exit)) (now (coded .exit)) (now (coefs .exit)) (now (lasts .exit)) (now (flags .exit)) (now (bits .exit)) (now (supers .exit)) (now (modes .exit)) (now (active .exit))) ≡ byTrees format w h references (now (packet .entry)) (treesOf (now (nodes .entry))) ⌝ }
 {
     let got = frame_packet::read_frame(
@@ -332,7 +334,7 @@ fn read_by_table(
     active: &mut [u64],
     answer: &mut [u64],
 ) -> u32
-    requires { ⌜ (length (now packet) ≤ 2 ^ 58) × (w ≤ 65535) × (h ≤ 65535) × (work (now records) (now coded) (now coefs) (now lasts) (now flags) (now bits) (now supers) (now modes) (now active) ≡ clear format w h) × (length (now answer) ≡ 8) ⌝ }
+    requires { ⌜ (length (now packet) ≤ 2 ^ 58) × (w ≤ 65535) × (h ≤ 65535) × (work (now records) (now coded) (now coefs) (now lasts) (now flags) (now bits) (now supers) (now modes) (now active) ≡ cleared (published format w h) .work) × (length (now answer) ≡ 8) ⌝ }
     ensures { λ r. ⌜ returned r (now (answer .exit)) (work (now (records .exit)) (now (coded .exit)) (now (coefs .exit)) (now (lasts .exit)) (now (flags .exit)) (now (bits .exit)) (now (supers .exit)) (now (modes .exit)) (now (active .exit))) ≡ bySetup format w h references (now (packet .entry)) (now (answer .entry)) (heldSetup (now (table .entry))) ⌝ }
 {
     let held = setup::load_table(table);

@@ -12,7 +12,7 @@ use report::print_frame_number;
 use report::print_refused;
 use setup::SetupAnswer;
 use theora::WorkAnswer;
-use theora::WorkLengths;
+use work_memory::WorkLengths;
 ghost use mathlib.Core.Path.{_≡_};
 ghost use Prim.Native.Nat.{_≤_, _<_};
 ghost use lib.ListN.{length};

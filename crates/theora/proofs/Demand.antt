@@ -6,22 +6,20 @@ use mathlib.Core.List.{List, [], _∷_}
 use mathlib.Core.Logic.{inl, inr}
 use Prim.Native.Nat.{ℕ, _*_}
 use native.Mathlib.Omega.{arith}
-use lib.Dec.{eqb}
 use lib.ListN.{length, getD}
-use borrow.Author.Tests.{eqb-true}
 use Rattle.bitstream.specs.Reading.{Outcome, got, refused, choose}
 use Rattle.geometry.specs.Sample.{sampleAt}
-use Rattle.headers.specs.Fits.{all, sessionFits}
+use Rattle.headers.specs.Fits.{sessionFits}
 use Rattle.ways.specs.Loops.{_∈_}
 use Rattle.ways.specs.Ways.{firstWay, secondWay}
 use Rattle.ways.proofs.Agree.{ways-agree}
 use Rattle.ways.proofs.Kept.{differs-along}
 use Rattle.headers.specs.Sizes.{format}
-use Rattle.decoding.specs.Memory.{blocks}
-use Rattle.theora.specs.Lengths.{lengthsOf, lengthsFit}
+use Rattle.work_memory.specs.Lengths.{blocks}
 use Rattle.reading.specs.Answer.{Asked, read, answerFor}
 use Rattle.decoding.specs.Answer.{State, Done, done, picture, newBy, state}
 use Rattle.theora.specs.Call.{Call, lengthsHold, said, memoryAfter, byRules, FramePromise}
+use Rattle.theora.proofs.Lengths.{lent-lengths}
 use Rattle.theora.specs.Demand.{Turn, turn, turns, Ran, UncodedKept, Demand3, Demand3Holds}
 
 -- an accepted call passed both tests
@@ -30,20 +28,12 @@ passed true true o h = refl
 passed true false o h = let z : _≡_ {A = ℕ} 0 1 = cc in absurd (omega arith)
 passed false b o h = let z : _≡_ {A = ℕ} 0 1 = cc in absurd (omega arith)
 
--- the second of some tests that all hold
-second : (a b : Bool) (rest : List Bool) → all (a ∷ b ∷ rest) ≡ true → b ≡ true
-unfolding all
-second true true rest h = refl
-second true false rest h = h
-second false b rest h = let z : false ≡ true = h in let y : _≡_ {A = ℕ} 0 1 = cc in absurd (omega arith)
-
 -- previous has the length of a frame where a call is accepted
 said-sized : (st : State) (c : Call) {a : Asked} {e : ℕ} → said st c ≡ got a e → length (st .previous) ≡ 64 * blocks (st .session)
-unfolding said lengthsFit lengthsOf
+unfolding said
 said-sized st c h =
     let s = st .session in
-    eqb-true (length (st .previous)) (64 * blocks s)
-    (second (eqb (length (st .golden)) (64 * blocks s)) (eqb (length (st .previous)) (64 * blocks s)) _ (passed (sessionFits s) (lengthsHold st c) (read s (c .table) (c .packet)) h))
+    lent-lengths s (st .golden) (st .previous) (c .new) (c .table) (c .memory) (passed (sessionFits s) (lengthsHold st c) (read s (c .table) (c .packet)) h) .1
 
 -- one call: the two ways leave the same
 new-agrees : (st : State) (c : Call) (o : Outcome Asked) → said st c ≡ o → newBy firstWay st (c .new) o ≡ newBy secondWay st (c .new) o

@@ -12,7 +12,7 @@ use Rattle.frame_header.specs.declared.Kind.{Kind}
 use Rattle.frame_header.specs.declared.Kind.the-variants.{Intra, Inter, Repeat}
 use Rattle.reading.specs.declared.Verdict.{Verdict}
 use Rattle.reading.specs.declared.Verdict.the-variants.{Accepted, Refused}
-use Rattle.decoding.specs.Memory.{Memory}
+use Rattle.work_memory.specs.Memory.{Memory}
 use Rattle.reading.specs.Answer.{sessionAfter}
 use Rattle.decoding.specs.Answer.{State, Done, state}
 use Rattle.theora.specs.Call.{Call}

@@ -1,79 +1,48 @@
--- The published lengths: what they come to, and that a caller can lend them. Assumes nothing.
-use Prim.Native.Nat.{_+_, _*_, _≤_}
+-- The lengths of what a caller lends. Assumes nothing.
+use Prim.Native.Nat.{ℕ, _*_, _≤_, _^_}
 use native.Mathlib.Omega.{arith}
-use mathlib.Core.Path.{_≡_, ap, _∙_}
-use mathlib.Core.Bool.{true}
-use Rattle.geometry.specs.declared.PixelFormat.{PixelFormat}
-use Rattle.geometry.specs.declared.FrameSizes.{FrameSizes}
-use Rattle.geometry.specs.Sizes.{sizesOf}
-use Rattle.geometry.proofs.SizeLaws.{SizesSmall, sizes-small}
+use mathlib.Core.Path.{_≡_, sym, ap, _∙_}
+use mathlib.Core.Bool.{Bool, true, _&&_}
+use mathlib.Core.List.{List}
+use lib.Dec.{lit<}
+use lib.ListN.{length}
+use borrow.Author.Tests.{eqb-true}
 use Rattle.headers.specs.declared.Session.{Session}
 use Rattle.headers.specs.Fits.{sessionFits}
-use Rattle.headers.proofs.Fitting.{fits-macro-blocks}
+use Rattle.headers.proofs.Fitting.{all-at, and-both}
 use Rattle.setup.specs.Table.{tableBytes}
-use Rattle.theora.specs.declared.WorkLengths.{WorkLengths}
-use Rattle.headers.specs.Sizes.{format}
-use Rattle.decoding.specs.Memory.{blocks}
-use Rattle.theora.specs.Lengths.{superBlocks, macroBlocks, lengthsOf}
+use Rattle.work_memory.specs.declared.WorkLengths.{WorkLengths}
+use Rattle.work_memory.specs.Memory.{Memory}
+use Rattle.work_memory.specs.Lengths.{blocks, lengthsOf, lengthsFit}
+use Rattle.work_memory.proofs.Lengths.{session-small}
+use Rattle.work_memory.proofs.Clearing.{fit-bits, fit-active}
+use Rattle.theora.specs.Lengths.{buffersFit}
 
 -- "Table memory has one fixed length, at most 1,048,576 bytes"
 pub table-bytes-few : tableBytes ≤ 1048576
 table-bytes-few = omega arith
 
-module _ (s : Session) where
-  -- "work memory a length linear in NBS, NMBS, NSBS, at most 1,024·(NBS+NMBS+NSBS) bytes"
-  pub work-bytes-few : lengthsOf s .bytes ≤ 1024 * (blocks s + macroBlocks s + superBlocks s)
-  unfolding lengthsOf
-  work-bytes-few = omega arith
+-- the blocks of a session that fits are few enough for the test of its buffers
+pub blocks-few : (s : Session) → sessionFits s ≡ true → {l : WorkLengths} → l ≡ lengthsOf s → l .records ≤ 2 ^ 36
+blocks-few s fits e = omega (arith, ap (λ (l : WorkLengths). l .records) e, session-small s fits .blocks)
 
-  -- the bytes are those of the slices: 4 to a record, 8 to a number of a block or a rank, 2 to a coefficient
-  pub work-bytes-sum : let l = lengthsOf s in
-      l .bytes ≡ 4 * l .records + 8 * l .coded + 2 * l .coefs + 2 * l .dc + l .lasts + l .flags + l .bits + l .supers + l .modes + 8 * l .active
-  unfolding lengthsOf
-  work-bytes-sum = omega arith
+module _ (s : Session) (golden previous new table : List ℕ) (m : Memory) where
+  abbrev hold : Bool
+  hold = buffersFit (blocks s) golden previous new table && lengthsFit (lengthsOf s) m
 
-  -- the sizes of a session that fits
-  module _ (fits : sessionFits s ≡ true) where
-    pub session-small : SizesSmall (format s) (s .fields .fmbw) (s .fields .fmbh)
-    session-small = let m = fits-macro-blocks s fits in sizes-small (format s) (s .fields .fmbw) (s .fields .fmbh) (m .1) (m .3)
+  -- the two tests, as a program comes to them
+  pub tests-are : {l : WorkLengths} {b t : Bool} → l ≡ lengthsOf s → b ≡ buffersFit (l .records) golden previous new table → t ≡ lengthsFit l m → hold ≡ (b && t)
+  tests-are e f g = ap (λ (l : WorkLengths). buffersFit (l .records) golden previous new table && lengthsFit l m) (sym e) ∙ sym (λ i. f i && g i)
 
-    -- as a program comes to them
-    module _ {f : PixelFormat} {z : FrameSizes} (ef : f ≡ format s) (ez : z ≡ sizesOf f (s .fields .fmbw) (s .fields .fmbh)) where
-      sizes-are : z ≡ sizesOf (format s) (s .fields .fmbw) (s .fields .fmbh)
-      sizes-are = ez ∙ ap (λ (f : PixelFormat). sizesOf f (s .fields .fmbw) (s .fields .fmbh)) ef
+  module _ (h : hold ≡ true) where
+    pub lent-lengths : (length golden ≡ 64 * blocks s) × (length previous ≡ 64 * blocks s) × (length new ≡ 64 * blocks s) × (length table ≡ tableBytes)
+    unfolding buffersFit
+    lent-lengths =
+        let f = and-both (buffersFit (blocks s) golden previous new table) (lengthsFit (lengthsOf s) m) h .0 in
+        (eqb-true _ _ (all-at _ 0 f (lit< tt)), eqb-true _ _ (all-at _ 1 f (lit< tt)), eqb-true _ _ (all-at _ 2 f (lit< tt)), eqb-true _ _ (all-at _ 3 f (lit< tt)))
 
-      pub counted-few : (z .blocks ≤ 51538034700) × (z .«macro_blocks» ≤ 4294836225) × (z .«super_blocks» ≤ 3221225472)
-      counted-few =
-          let n : z .blocks ≡ blocks s = ap (λ (z : FrameSizes). z .blocks) sizes-are in
-          let m : z .«macro_blocks» ≡ macroBlocks s = ap (λ (z : FrameSizes). z .«macro_blocks») sizes-are in
-          let k : z .«super_blocks» ≡ superBlocks s = ap (λ (z : FrameSizes). z .«super_blocks») sizes-are in
-          let l = session-small in
-          (omega arith, omega arith, omega arith)
+    pub memory-fits : lengthsFit (lengthsOf s) m ≡ true
+    memory-fits = and-both (buffersFit (blocks s) golden previous new table) (lengthsFit (lengthsOf s) m) h .1
 
-      pub lengths-are : _≡_ {A = WorkLengths} (record {
-        records = z .blocks;
-        coded = z .blocks;
-        coefs = 64 * z .blocks;
-        dc = z .blocks;
-        lasts = z .blocks;
-        flags = z .blocks;
-        bits = z .blocks;
-        supers = 2 * z .«super_blocks»;
-        modes = z .«macro_blocks»;
-        active = z .blocks;
-        bytes = 153 * z .blocks + 2 * z .«super_blocks» + z .«macro_blocks»;
-      }) (lengthsOf s)
-      unfolding lengthsOf
-      lengths-are = λ i. let z = sizes-are i in record {
-        records = z .blocks;
-        coded = z .blocks;
-        coefs = 64 * z .blocks;
-        dc = z .blocks;
-        lasts = z .blocks;
-        flags = z .blocks;
-        bits = z .blocks;
-        supers = 2 * z .«super_blocks»;
-        modes = z .«macro_blocks»;
-        active = z .blocks;
-        bytes = 153 * z .blocks + 2 * z .«super_blocks» + z .«macro_blocks»;
-      }
+    pub ranks-fit : length (m .work .active) ≡ length (m .work .bits)
+    ranks-fit = fit-active (lengthsOf s) m memory-fits ∙ sym (fit-bits (lengthsOf s) m memory-fits)

@@ -13,7 +13,7 @@ use contract.Notation as notation
 use denote.Ref.{now}
 use denote.Triple.Entry.{Args, Res}
 use denote.Triple.Clauses.{AtExit}
-use Rattle.decoding.specs.Memory.{memory}
+use Rattle.work_memory.specs.Memory.{memory}
 use Rattle.decoding.specs.Answer.{State, Done, state, done}
 use Rattle.theora.specs.Call.{Call, call, FramePromise}
 use Rattle.theora.proofs.frame as frame

@@ -6,10 +6,11 @@ use mathlib.Core.List.{List}
 use Rattle.bitstream.specs.Reading.{Outcome, refused, choose}
 use Rattle.headers.specs.Fits.{sessionFits}
 use Rattle.ways.specs.Ways.{firstWay}
-use Rattle.decoding.specs.Memory.{Memory, cleared}
+use Rattle.work_memory.specs.Memory.{Memory}
+use Rattle.work_memory.specs.Lengths.{blocks, lengthsOf, lengthsFit, cleared}
 use Rattle.reading.specs.Answer.{Asked, read, answerFor}
 use Rattle.decoding.specs.Answer.{State, Done, Way, done, newBy}
-use Rattle.theora.specs.Lengths.{lengthsOf, lengthsFit}
+use Rattle.theora.specs.Lengths.{buffersFit}
 
 -- what a call brings
 pub record Call : Type 0 where
@@ -24,7 +25,7 @@ call packet table memory new = record { packet = packet; table = table; memory =
 -- ---- when a call is refused
 -- every lent length is the published one
 abbrev pub lengthsHold : State → Call → Bool
-lengthsHold st c = lengthsFit (lengthsOf (st .session)) (st .golden) (st .previous) (c .new) (c .table) (c .memory)
+lengthsHold st c = buffersFit (blocks (st .session)) (st .golden) (st .previous) (c .new) (c .table) && lengthsFit (lengthsOf (st .session)) (c .memory)
 
 -- "Frame: that" (the identification part of 8), "then 1, the rest of 8, then the packet"
 unfoldable pub said : State → Call → Outcome Asked
@@ -40,7 +41,7 @@ pastLengths st c = sessionFits (st .session) && lengthsHold st c
 
 -- "Work memory is all zero after every frame call past its length check, else untouched"
 unfoldable pub memoryAfter : State → Call → Memory
-memoryAfter st c = choose (pastLengths st c) (cleared (st .session)) (c .memory)
+memoryAfter st c = choose (pastLengths st c) (cleared (lengthsOf (st .session))) (c .memory)
 
 -- a frame call by a way
 unfoldable pub byRules : Way → State → Call → Done

@@ -28,8 +28,8 @@ use Rattle.frame_header.specs.declared.Kind.the-variants.{Intra, Inter, Repeat}
 use Rattle.ways.specs.Ways.{firstWay}
 use Rattle.reading.specs.declared.Verdict.{Verdict}
 use Rattle.theora.specs.declared.WorkAnswer.{WorkAnswer}
-use Rattle.theora.specs.declared.WorkLengths.{WorkLengths}
-use Rattle.decoding.specs.Memory.{Memory}
+use Rattle.work_memory.specs.declared.WorkLengths.{WorkLengths}
+use Rattle.work_memory.specs.Memory.{Memory}
 use Rattle.theora.specs.Lengths.{workLengths}
 use Rattle.decoding.specs.Answer.{State, Done, state}
 use Rattle.theora.specs.Call.{Call, byRules}

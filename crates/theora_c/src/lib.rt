@@ -16,7 +16,7 @@ use theora::WorkAnswer;
 ghost use mathlib.Core.Path.{_≡_};
 ghost use lib.ListN.{length};
 ghost use Rattle.theora_c.specs.Face.{gives, flag, sessionOf, listsNumber, sessionReturned, sizesReturned, blockReturned, placeReturned, numberReturned, identificationCall, sizesCall, blockAtCall, blockNumberCall, macroBlockAtCall, macroBlockNumberCall, macroBlockOfCall, sampleOffsetCall, setupCall, tableCall, limitCall, matrixReturned, matrixCall, lengthsReturned, workLengthsCall, kindNumber, headerNumbers, referenceNumber, answers, verdictReturned, frameGives, frameCall};
-ghost use Rattle.decoding.specs.Memory.{memory};
+ghost use Rattle.work_memory.specs.Memory.{memory};
 ghost use Rattle.theora.specs.Call.{call};
 
 // ---- lists of numbers

@@ -6,8 +6,8 @@ use Rattle.geometry.specs.Sizes.{blocksOf}
 use mathlib.Core.Path.{_≡_, sym, ap, _∙_}
 use Rattle.geometry.specs.declared.PixelFormat.{PixelFormat}
 use Rattle.headers.proofs.Fitting.{fits-macro-blocks}
-use Rattle.frame_packet.specs.Work.{clear}
-use Rattle.decoding.specs.Memory.{Memory, blocks}
+use Rattle.work_memory.specs.Memory.{Memory}
+use Rattle.work_memory.specs.Lengths.{blocks, published, cleared}
 use Rattle.reading.proofs.Held.{tables-held, trees-held}
 use Rattle.decoding.proofs.Decoded.{on-refused, lent, header-few, on-accepted}
 use borrow.Author.Needs.{needs}
@@ -26,7 +26,7 @@ read-frame-requires c κs =
       k .1,
       k .3,
       tables-held (a .table .now) (a .t4) (z .pre .0 .3 .1),
-      ap (λ (m : Memory). m .work) (z .pre .1 .0) ∙ ap (λ (f : PixelFormat). clear f (a .s .fields .fmbw) (a .s .fields .fmbh)) (sym (c .before .before .before .before .before .before .before .before .before .before .before .before .pixel-format .ensures)),
+      ap (λ (m : Memory). m .work) (z .pre .1 .0) ∙ ap (λ (f : PixelFormat). cleared (published f (a .s .fields .fmbw) (a .s .fields .fmbh)) .work) (sym (c .before .before .before .before .before .before .before .before .before .before .before .before .pixel-format .ensures)),
     )
 
 enum-known-read : tie.Need-enum-known-read

@@ -13,7 +13,7 @@ use Rattle.block_record.specs.Packed.{packed}
 use Rattle.tokens.specs.Tokens.{readTokens}
 use Rattle.tokens.specs.Answer.{treesOf}
 use Rattle.frame_packet.specs.Frame.{flagsOf, body}
-use Rattle.frame_packet.specs.Work.{Work, work}
+use Rattle.work_memory.specs.Memory.{Work, work}
 use Rattle.frame_packet.proofs.Steps.{Sized, sized, Listing, coded-refused, coded-listed, body-flags, listed-fits, listed-room, listed-part, listed-once, listed-below, listed-packed, listed-luma, indexed, body-index, body-tokens, body-whole, left-by, blocks-few, counted-refused, counted-done, on-no-body, on-body}
 use borrow.Author.Needs.{needs}
 use Rattle.frame_packet.proofs.read_body.Statement.{statement}

@@ -2,7 +2,8 @@
 use lib.ListN.{length}
 use Rattle.tokens.specs.Tokens.{readTokens}
 use Rattle.tokens.specs.Answer.{treesOf}
-use Rattle.frame_packet.proofs.Steps.{clear-whole, all-cleared, tokens-stored}
+use Rattle.work_memory.proofs.Clearing.{clear-whole}
+use Rattle.frame_packet.proofs.Steps.{all-cleared, tokens-stored}
 use borrow.Author.Needs.{needs}
 use Rattle.frame_packet.proofs.read_coefs.Statement.{statement}
 use Rattle.frame_packet.proofs.read_coefs.Tie as tie

@@ -2,8 +2,7 @@
 -- Assumes nothing.
 use mathlib.Core.Path.{refl}
 use lib.ListN.{length}
-use Rattle.frame_packet.specs.Work.{work}
-use Rattle.frame_packet.proofs.Whole.{nothing-behind}
+use Rattle.work_memory.proofs.Clearing.{nothing-behind}
 use borrow.Author.Needs.{needs}
 use Rattle.parts_c.proofs.clear_work.Statement.{statement}
 use Rattle.parts_c.proofs.clear_work.Tie as tie
@@ -50,7 +49,7 @@ returns : tie.Need-returns
 returns c =
     let r = c .before .before .before .before .before .before .before .before .before .before .before .before .before .before .before .before .before .before .before .before .before .before .before .clear-read .ensures in
     let s = c .before .before .before .before .before .before .before .before .before .before .clear-scratch .ensures in
-    λ i. work (r .0 i) (r .1 i) (r .2 i) (r .3 i) (s .0 i) (s .1 i) (s .2 i) (s .3 i) (s .4 i)
+    (r .0, r .1, r .2, r .3, s .0, s .1, s .2, s .3, s .4)
 
 pub clear-work-spec : {M : Type 1} → statement M
 clear-work-spec =

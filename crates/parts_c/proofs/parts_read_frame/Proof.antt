@@ -1,7 +1,7 @@
 -- `parts_c::parts_read_frame` meets its contract.
 -- Assumes nothing.
 use mathlib.Core.Path.{sym, _∙_}
-use Rattle.parts_c.proofs.Packets.{small-frame, fit-packet, fit-answer, fit-ranks, fit-zeroed, call-8, call-1, call-read}
+use Rattle.parts_c.proofs.Packets.{small-frame, fit-packet, fit-answer, fit-ranks, fit-cleared, call-8, call-1, call-read}
 use borrow.Author.Needs.{needs}
 use Rattle.parts_c.proofs.parts_read_frame.Statement.{statement}
 use Rattle.parts_c.proofs.parts_read_frame.Tie as tie
@@ -26,7 +26,7 @@ read-by-table-requires c κs =
       fit-packet f (a .w) (a .h) (a .packet .now) (a .table .now) (a .answer .now) _ t,
       s .0,
       s .1,
-      c .before .before .before .before .before .before .before .before .before .before .before .before .before .before .before .before .before .before .before .before .before .before .before .before .before .before .before .clear-work .ensures ∙ fit-zeroed f (a .w) (a .h) (a .packet .now) (a .table .now) (a .answer .now) _ t,
+      fit-cleared f (a .w) (a .h) (a .packet .now) (a .table .now) (a .answer .now) _ t _ (c .before .before .before .before .before .before .before .before .before .before .before .before .before .before .before .before .before .before .before .before .before .before .before .before .before .before .before .clear-work .ensures),
       fit-answer f (a .w) (a .h) (a .packet .now) (a .table .now) (a .answer .now) _ t,
     )
 

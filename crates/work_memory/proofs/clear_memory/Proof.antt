@@ -1,13 +1,12 @@
--- `theora::clear_memory` meets its contract. Assumes nothing.
+-- `work_memory::clear_memory` meets its contract. Assumes nothing.
 use borrow.Author.Needs.{needs}
 use mathlib.Core.Path.{refl, _∙_}
 use lib.IntN.{pos}
 use lib.ListN.{length}
 use Rattle.buffer.proofs.Laws.{cleared-all}
-use Rattle.frame_packet.proofs.Whole.{nothing-behind}
-use Rattle.decoding.specs.Memory.{memory}
-use Rattle.theora.proofs.clear_memory.Statement.{statement}
-use Rattle.theora.proofs.clear_memory.Tie as tie
+use Rattle.work_memory.proofs.Clearing.{nothing-behind, fit-cleared}
+use Rattle.work_memory.proofs.clear_memory.Statement.{statement}
+use Rattle.work_memory.proofs.clear_memory.Tie as tie
 
 clear-read-requires : tie.Need-clear-read-requires
 clear-read-requires c κs = search needs
@@ -54,11 +53,11 @@ same-length-10 : tie.Need-same-length-10
 same-length-10 c = search needs
 
 returns : tie.Need-returns
-returns c =
+returns c l fit =
     let r = c .before .before .before .before .before .before .before .before .before .before .before .before .before .before .before .before .before .before .before .before .before .before .before .before .before .before .clear-read .ensures in
     let d = c .before .before .before .before .before .before .before .before .before .before .before .before .before .before .before .before .before .clear-shorts .ensures ∙ cleared-all (pos 0) (c .before .before .before .before .before .before .before .before .before .before .before .before .before .before .before .before .before .before .before .before .before .before .before .before .before .before .before .before .before .before .before .before .before .before .before .before .before .before .before .args .dc .now) in
     let s = c .before .before .before .before .before .before .before .before .before .before .clear-scratch .ensures in
-    λ i. memory (r .0 i) (r .1 i) (r .2 i) (d i) (r .3 i) (s .0 i) (s .1 i) (s .2 i) (s .3 i) (s .4 i)
+    fit-cleared l _ fit (r .0) (r .1) (r .2) d (r .3) (s .0) (s .1) (s .2) (s .3) (s .4)
 
 pub clear-memory-spec : {M : Type 1} → statement M
 clear-memory-spec =

@@ -1,8 +1,8 @@
--- `frame_packet::clear_scratch` meets its contract. Behind the front that is cleared there is nothing but zeros. Assumes nothing.
-use Rattle.frame_packet.proofs.Steps.{clear-whole, clear-front}
+-- `work_memory::clear_scratch` meets its contract. Behind the front that is cleared there is nothing but zeros. Assumes nothing.
+use Rattle.work_memory.proofs.Clearing.{clear-whole, clear-front}
 use borrow.Author.Needs.{needs}
-use Rattle.frame_packet.proofs.clear_scratch.Statement.{statement}
-use Rattle.frame_packet.proofs.clear_scratch.Tie as tie
+use Rattle.work_memory.proofs.clear_scratch.Statement.{statement}
+use Rattle.work_memory.proofs.clear_scratch.Tie as tie
 
 clear-bytes-requires : tie.Need-clear-bytes-requires
 clear-bytes-requires c κs = search needs

@@ -1,12 +1,12 @@
--- `theora::lengths_of` meets its contract. Assumes nothing.
+-- `work_memory::lengths_of` meets its contract. Assumes nothing.
 use borrow.Author.Needs.{needs}
 use native.Mathlib.Omega.{arith}
 use Prim.Native.Nat.{_≤_}
 use Rattle.headers.specs.declared.Session.{Session}
 use Rattle.headers.proofs.Fitting.{fits-macro-blocks}
-use Rattle.theora.proofs.Lengths.{counted-few, lengths-are}
-use Rattle.theora.proofs.lengths_of.Statement.{statement}
-use Rattle.theora.proofs.lengths_of.Tie as tie
+use Rattle.work_memory.proofs.Lengths.{counted-few, lengths-are}
+use Rattle.work_memory.proofs.lengths_of.Statement.{statement}
+use Rattle.work_memory.proofs.lengths_of.Tie as tie
 
 pixel-format-requires : tie.Need-pixel-format-requires
 pixel-format-requires c κs = search needs

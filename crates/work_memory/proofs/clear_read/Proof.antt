@@ -1,9 +1,9 @@
--- `frame_packet::clear_read` meets its contract. Assumes nothing.
+-- `work_memory::clear_read` meets its contract. Assumes nothing.
 use lib.IntN.{pos}
-use Rattle.frame_packet.proofs.Steps.{clear-whole}
+use Rattle.work_memory.proofs.Clearing.{clear-whole}
 use borrow.Author.Needs.{needs}
-use Rattle.frame_packet.proofs.clear_read.Statement.{statement}
-use Rattle.frame_packet.proofs.clear_read.Tie as tie
+use Rattle.work_memory.proofs.clear_read.Statement.{statement}
+use Rattle.work_memory.proofs.clear_read.Tie as tie
 
 clear-words-requires : tie.Need-clear-words-requires
 clear-words-requires c κs = search needs

@@ -1,0 +1,140 @@
+// Work memory: the published lengths of its slices, the test of the lengths that are lent, and clearing.
+use headers::Session;
+ghost use mathlib.Core.Path.{_≡_};
+ghost use mathlib.Core.Bool.{true};
+ghost use Prim.Native.Nat.{_-_, _≤_};
+ghost use lib.IntN.{pos};
+ghost use lib.ListN.{length, drop, replicate};
+ghost use Rattle.headers.specs.Fits.{sessionFits};
+ghost use Rattle.work_memory.specs.Memory.{memory};
+ghost use Rattle.work_memory.specs.Lengths.{lengthsOf, lengthsFit, cleared};
+
+// The lengths of work memory's slices, in elements, and the bytes of all of them together.
+pub struct WorkLengths {
+    pub records: u64,
+    pub coded: u64,
+    pub coefs: u64,
+    pub dc: u64,
+    pub lasts: u64,
+    pub flags: u64,
+    pub bits: u64,
+    pub supers: u64,
+    pub modes: u64,
+    pub active: u64,
+    pub bytes: u64,
+}
+
+// The published lengths for the frames of a session that fits.
+pub fn lengths_of(s: Session) -> WorkLengths
+    requires { ⌜ sessionFits s ≡ true ⌝ }
+    ensures { λ r. ⌜ r ≡ lengthsOf s ⌝ }
+{
+    let format = headers::pixel_format(s.fields.pf);
+    let sizes = geometry::sizes(format, s.fields.fmbw, s.fields.fmbh);
+    let n = sizes.blocks;
+    let m = sizes.macro_blocks;
+    let k = 2 * sizes.super_blocks;
+    let coefs = 64 * n;
+    let bytes = 153 * n + k + m;
+    WorkLengths {
+        records: n,
+        coded: n,
+        coefs,
+        dc: n,
+        lasts: n,
+        flags: n,
+        bits: n,
+        supers: k,
+        modes: m,
+        active: n,
+        bytes,
+    }
+}
+
+// Whether every slice has its length.
+pub fn lengths_fit(
+    l: WorkLengths,
+    records: &[u32],
+    coded: &[u64],
+    coefs: &[i16],
+    dc: &[i16],
+    lasts: &[u8],
+    flags: &[u8],
+    bits: &[u8],
+    supers: &[u8],
+    modes: &[u8],
+    active: &[u64],
+) -> bool
+    ensures { λ r. ⌜ r ≡ lengthsFit l (memory (now (records .entry)) (now (coded .entry)) (now (coefs .entry)) (now (dc .entry)) (now (lasts .entry)) (now (flags .entry)) (now (bits .entry)) (now (supers .entry)) (now (modes .entry)) (now (active .entry))) ⌝ }
+{
+    (records.len() as u64 == l.records)
+        & (coded.len() as u64 == l.coded)
+        & (coefs.len() as u64 == l.coefs)
+        & (dc.len() as u64 == l.dc)
+        & (lasts.len() as u64 == l.lasts)
+        & (flags.len() as u64 == l.flags)
+        & (bits.len() as u64 == l.bits)
+        & (supers.len() as u64 == l.supers)
+        & (modes.len() as u64 == l.modes)
+        & (active.len() as u64 == l.active)
+}
+
+// The slices that hold what was read become 0.
+pub fn clear_read(records: &mut [u32], coded: &mut [u64], coefs: &mut [i16], lasts: &mut [u8])
+    ensures { λ _. ⌜ (now (records .exit) ≡ replicate (length (now (records .entry))) 0) × (now (coded .exit) ≡ replicate (length (now (coded .entry))) 0) × (now (coefs .exit) ≡ replicate (length (now (coefs .entry))) (pos 0)) × (now (lasts .exit) ≡ replicate (length (now (lasts .entry))) 0) ⌝ }
+{
+    let blocks = records.len();
+    buffer::clear_words(records, blocks);
+    let numbers = coded.len();
+    buffer::clear_longs(coded, numbers);
+    let values = coefs.len();
+    buffer::clear_shorts(coefs, values);
+    let visits = lasts.len();
+    buffer::clear_bytes(lasts, visits);
+}
+
+// The other slices that a reader uses become 0. Behind the first `count` of `bits` and of `active` there is nothing to clear.
+pub fn clear_scratch(
+    count: usize,
+    flags: &mut [u8],
+    bits: &mut [u8],
+    supers: &mut [u8],
+    modes: &mut [u8],
+    active: &mut [u64],
+)
+    requires { ⌜ (count ≤ length (now bits)) × (drop count (now bits) ≡ replicate (length (now bits) - count) 0) × (count ≤ length (now active)) × (drop count (now active) ≡ replicate (length (now active) - count) 0) ⌝ }
+    ensures { λ _. ⌜ (now (flags .exit) ≡ replicate (length (now (flags .entry))) 0) × (now (bits .exit) ≡ replicate (length (now (bits .entry))) 0) × (now (supers .exit) ≡ replicate (length (now (supers .entry))) 0) × (now (modes .exit) ≡ replicate (length (now (modes .entry))) 0) × (now (active .exit) ≡ replicate (length (now (active .entry))) 0) ⌝ }
+{
+    let blocks = flags.len();
+    buffer::clear_bytes(flags, blocks);
+    buffer::clear_bytes(bits, count);
+    let strings = supers.len();
+    buffer::clear_bytes(supers, strings);
+    let macros = modes.len();
+    buffer::clear_bytes(modes, macros);
+    buffer::clear_longs(active, count);
+}
+
+// Work memory, whole, becomes 0.
+pub fn clear_memory(
+    records: &mut [u32],
+    coded: &mut [u64],
+    coefs: &mut [i16],
+    dc: &mut [i16],
+    lasts: &mut [u8],
+    flags: &mut [u8],
+    bits: &mut [u8],
+    supers: &mut [u8],
+    modes: &mut [u8],
+    active: &mut [u64],
+)
+    requires { ⌜ length (now active) ≡ length (now bits) ⌝ }
+    ensures { λ _. ⌜ ((l : WorkLengths) → lengthsFit l (memory (now (records .entry)) (now (coded .entry)) (now (coefs .entry)) (now (dc .entry)) (now (lasts .entry)) (now (flags .entry)) (now (bits .entry)) (now (supers .entry)) (now (modes .entry)) (now (active .entry))) ≡ true
+        → memory (now (records .exit)) (now (coded .exit)) (now (coefs .exit)) (now (dc .exit)) (now (lasts .exit)) (now (flags .exit)) (now (bits .exit)) (now (supers .exit)) (now (modes .exit)) (now (active .exit)) ≡ cleared l) ⌝ }
+{
+    clear_read(records, coded, coefs, lasts);
+    let values = dc.len();
+    buffer::clear_shorts(dc, values);
+    let blocks = bits.len();
+    clear_scratch(blocks, flags, bits, supers, modes, active);
+}
