@@ -95,7 +95,9 @@ fn refusals() {
     assert_eq!(identification(b""), Err(Refusal::PACKET_END));
     assert_eq!(session(1, 1, 1).sizes(), Err(Refusal::SESSION));
     assert_eq!(session(1, 1, 0).block_at(6), Err(Refusal::ABSENT));
-    assert_eq!(lists::sizes(&[0; 17], &mut []), 1);
+    assert_eq!(lists::sizes(&[0; 16], &mut []), 1);
+    assert_eq!(lists::sizes(&[0; 17], &mut []), 8);
+    assert_eq!(lists::sizes(&session(1, 1, 0).to_list(), &mut []), 1);
     assert_eq!(lists::identification(&[], &mut []), 1);
 }
 
