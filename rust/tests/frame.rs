@@ -79,8 +79,9 @@ fn work_lengths() {
     assert_eq!(session(1, 1, 1).work_lengths(), Err(Refusal::SESSION));
     let mut list = [7; lists::LENGTH_NUMBERS];
     assert_eq!(lists::work_lengths(&[0; 16], &mut list), 1);
-    assert_eq!(lists::work_lengths(&[0; 17], &mut list[1..]), 1);
-    assert_eq!(lists::work_lengths(&[0; 17], &mut list), 8);
+    assert_eq!(lists::work_lengths(&[0; 17], &mut list[1..]), 8);
+    let sound = session(1, 1, 0).to_list();
+    assert_eq!(lists::work_lengths(&sound, &mut list[1..]), 1);
     assert_eq!(list, [7; lists::LENGTH_NUMBERS]);
 }
 

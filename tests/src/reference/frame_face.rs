@@ -213,8 +213,9 @@ mod tests {
         let mut unsound = session(0);
         unsound[15] = 1;
         refused(&unsound, &[], 5, 8);
-        // The lengths of the lists come first.
-        refused(&unsound, &[], 4, 1);
+        // The length of the session's list, its fields, then the other lengths.
         refused(&unsound[..16], &[], 5, 1);
+        refused(&unsound, &[], 4, 8);
+        refused(&session(0), &[], 4, 1);
     }
 }
