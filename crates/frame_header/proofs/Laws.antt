@@ -11,8 +11,8 @@ use Rattle.bitstream.specs.Reading.{got, bind, pure, pick, choose, guard, field
 use Rattle.bitstream.proofs.Laws.{Lawful, pure-lawful, field-lawful, judged-lawful, pick-lawful, bind-lawful, bind-got}
 use Rattle.bitstream.proofs.Spends.{Spends, spends-more, pure-spends, field-spends, judged-spends, pick-spends, bind-spends}
 use Rattle.bitstream.proofs.Fields.{no-mix, field-lt}
-use Rattle.runs.specs.Lists.{AllBelow, none, one}
-use Rattle.runs.proofs.ListLaws.{all-append}
+use Rattle.bitstream.specs.Lists.{AllBelow, one, none}
+use Rattle.bitstream.proofs.ListLaws.{all-append}
 use Rattle.frame_header.specs.declared.Kind.the-variants.{Intra, Inter}
 use Rattle.frame_header.specs.Header.{isZero, allowed, frameType, moreQis, qiList, reserved, kindOf, FrameHeader, frameHeader}
 

@@ -5,21 +5,12 @@ use mathlib.Core.Path.{_≡_, refl, _∙_}
 use mathlib.Core.List.{List, [], _∷_}
 use lib.ListN.{length, getD}
 use Rattle.bitstream.specs.Bits.{number}
-use Rattle.bitstream.proofs.Numbers.{number-add, number-lt, number-part}
-use Rattle.bitstream.proofs.Bytes.{byte-number, byte-more}
+use Rattle.bitstream.proofs.Numbers.{number-add, number-lt}
 
 pub past-end : (l : List ℕ) (i : ℕ) → length l ≤ i → getD l i 0 ≡ 0
 past-end [] i h = refl
 past-end (x ∷ l) zero h = absurd (omega arith)
 past-end (x ∷ l) (suc i) h = past-end l i (omega arith)
-
--- w bits of them, with b bits behind
-pub bits-of-two : (p : List ℕ) (at w b : ℕ) → at % 8 + w + b ≡ 16 → getD p (at / 8) 0 < 256 → getD p (at / 8 + 1) 0 < 256
-    → (getD p (at / 8) 0 * 256 + getD p (at / 8 + 1) 0) / 2 ^ b % 2 ^ w ≡ number p at w
-bits-of-two p at w b s h l =
-    let e : at / 8 * 8 + at % 8 ≡ at = omega arith in
-    let two : getD p (at / 8) 0 * 256 + getD p (at / 8 + 1) 0 ≡ number p (at / 8 * 8) 16 = rw (← byte-number p (at / 8) h) (byte-more p (at / 8) 1 l) in
-    rw (two, ← s, number-part p (at / 8 * 8) (at % 8) w b, e)
 
 -- ---- the seven bits s at a node: a leaf bit, a token and one bit more; or a leaf bit, that of the 0 branch, and its token
 module _ (p : List ℕ) (at s : ℕ) (is : s ≡ number p at 7) where

@@ -9,7 +9,7 @@ use lib.ListN.{length, set, replicate, length-append}
 use Rattle.bitstream.specs.Reading.{got, bind, field}
 use Rattle.bitstream.proofs.Laws.{Lawful, pure-lawful, pick-lawful, bind-lawful, field-lawful, whole-lawful, bind-got}
 use Rattle.bitstream.proofs.Spends.{Spends, spends-more, pure-spends, field-spends, bind-spends, pick-spends, whole-spends}
-use Rattle.runs.proofs.Laws.{rank-lawful, rank-spends}
+use Rattle.bitstream.proofs.Unary.{unary-spends, unary-lawful}
 use Rattle.modes.specs.Modes.{ranksFrom, sentAlphabet, mode, lumaCoded, modeOf, modesFrom, macroModes}
 
 ranks-lawful : (n m : ℕ) (alphabet : List ℕ) → Lawful (ranksFrom n m alphabet)
@@ -24,7 +24,7 @@ sent-lawful scheme = pick-lawful (eqb scheme 0) (ranks-lawful 8 0 (replicate 8 0
 mode-lawful : (scheme : ℕ) (alphabet flags : List ℕ) (m : ℕ) → Lawful (modeOf scheme alphabet flags m)
 unfolding modeOf mode
 mode-lawful scheme alphabet flags m =
-    pick-lawful (lumaCoded flags m) (pick-lawful (eqb scheme 7) (field-lawful 3) (bind-lawful (whole-lawful (rank-lawful 7 0)) (λ r. pure-lawful _))) (pure-lawful 0)
+    pick-lawful (lumaCoded flags m) (pick-lawful (eqb scheme 7) (field-lawful 3) (bind-lawful (whole-lawful (unary-lawful 7 0)) (λ r. pure-lawful _))) (pure-lawful 0)
 
 modes-lawful : (scheme : ℕ) (alphabet flags : List ℕ) (n m : ℕ) (done : List ℕ) → Lawful (modesFrom scheme alphabet flags n m done)
 unfolding modesFrom
@@ -49,7 +49,7 @@ mode-spends : (scheme : ℕ) (alphabet flags : List ℕ) (m : ℕ) → Spends 7 
 unfolding modeOf mode
 mode-spends scheme alphabet flags m =
     pick-spends (lumaCoded flags m)
-    (λ _. pick-spends (eqb scheme 7) (λ _. spends-more (omega arith) (field-spends 3)) (λ _. spends-more (omega arith) (bind-spends {b = 0} (whole-spends (rank-spends 7 0)) (λ r. pure-spends _))))
+    (λ _. pick-spends (eqb scheme 7) (λ _. spends-more (omega arith) (field-spends 3)) (λ _. spends-more (omega arith) (bind-spends {b = 0} (whole-spends (unary-spends 7 0)) (λ r. pure-spends _))))
     (λ _. spends-more (omega arith) (pure-spends 0))
 
 modes-spends : (scheme : ℕ) (alphabet flags : List ℕ) (n m : ℕ) (done : List ℕ) → Spends (n * 7) (modesFrom scheme alphabet flags n m done)

@@ -13,8 +13,8 @@ use Rattle.geometry.specs.Sizes.{blocksOf, superBlocksOf, macroBlocksOf}
 use Rattle.headers.specs.Sizes.{formatOf}
 use Rattle.huffman.specs.Tree.{Tree}
 use Rattle.headers.proofs.Fitting.{all-at, and-both}
-use Rattle.quantization.specs.declared.Place.the-variants as place
-use Rattle.quantization.specs.declared.Place.the-variants.{At}
+use Rattle.bitstream.specs.declared.End.the-variants as end
+use Rattle.bitstream.specs.declared.End.the-variants.{At}
 use Rattle.setup.specs.Loaded.{asSetupRead}
 use Rattle.setup.specs.Table.{heldSetup}
 use Rattle.setup.specs.declared.SetupRead.{SetupRead}
@@ -43,7 +43,7 @@ module _ (t : List ℕ) {r : SetupRead} (a : r ≡ asSetupRead (heldSetup t)) wh
       )
 
   -- one that is not
-  pub other-table : {k e : ℕ} → r .place ≡ place.Refused k e → (f : PixelFormat) (w h : ℕ) (references : Bool) (packet old : List ℕ) {m : Work} → m ≡ cleared (published f w h) .work
+  pub other-table : {k e : ℕ} → r .place ≡ end.Refused k e → (f : PixelFormat) (w h : ℕ) (references : Bool) (packet old : List ℕ) {m : Work} → m ≡ cleared (published f w h) .work
       → returned 8 old m ≡ bySetup f w h references packet old (heldSetup t)
   other-table g f w h references packet old c = ap (returned 8 old) c ∙ sym (ap (bySetup f w h references packet old) (held-8 t a g))
 

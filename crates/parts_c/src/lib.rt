@@ -1,11 +1,11 @@
 // For the tests alone: each part of making a frame behind a call on numbers and slices, so that it can be compared by itself.
 // A call has the contract of the part, and its caller meets what that requires. A pixel format is PF, a prediction the packed record of a block.
+use bitstream::End as Place;
 use frame_header::Kind;
 use frame_packet::FrameRead;
 use frame_packet::Read;
 use geometry::Block;
 use geometry::PixelFormat;
-use quantization::Place;
 ghost use mathlib.Core.Path.{_≡_};
 ghost use mathlib.Core.List.{map};
 ghost use Prim.Native.Nat.{_+_, _*_, _≤_, _^_};
@@ -26,7 +26,7 @@ ghost use Rattle.ways.specs.Corner.{blockAt};
 ghost use Rattle.ways.specs.Ways.{filterAll, firstWay};
 ghost use Rattle.reconstruct.specs.Picture.{pictureOf};
 ghost use Rattle.reconstruct.specs.Lent.{blocksIn, matrixIn, Lent, ZerosBehind};
-ghost use Rattle.setup.specs.Table.{tableBytes, heldSetup};
+ghost use Rattle.setup.specs.Table.{heldSetup};
 ghost use Rattle.tokens.specs.Answer.{Tables, treesOf};
 ghost use Rattle.work_memory.specs.Memory.{work};
 ghost use Rattle.work_memory.specs.Lengths.{published, cleared};
