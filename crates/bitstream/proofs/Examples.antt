@@ -3,7 +3,9 @@ use Prim.Native.Nat.{ℕ}
 use mathlib.Core.Path.{_≡_, refl}
 use mathlib.Core.List.{List, [], _∷_}
 use Rattle.bitstream.specs.Bits.{bitAt, number}
+use Rattle.bitstream.specs.Lists.{among}
 use Rattle.bitstream.specs.Reading.{got, refused, Parse, pure, field, many, whole, _>>=_, _>>_}
+use Rattle.bitstream.proofs.Inside.{Inside, Refuses, inside, refuses}
 
 -- 3 bits, then 5
 three-five : Parse (List ℕ)
@@ -34,3 +36,12 @@ border = refl
 whole-place : whole (many 3 (field 6)) (0x12 ∷ 0x34 ∷ []) 2 ≡ refused 4 2
 unfolding whole many field number bitAt
 whole-place = refl
+
+-- what is refused there is refused by 4, at a place of the packet
+three-five-inside : Inside 0 three-five
+unfolding three-five
+three-five-inside = search inside
+
+three-five-refuses : Refuses (4 ∷ []) three-five
+unfolding three-five among
+three-five-refuses = search refuses

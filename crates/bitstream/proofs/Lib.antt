@@ -1,8 +1,9 @@
--- What other crates cite: Fields, Numbers, Bytes (what a field is), Laws and Spends (the three laws of every reader), Lists. Examples: worked examples. Assumes nothing.
+-- What other crates cite: Fields, Numbers, Bytes (what a field is), Laws, Spends and Inside (the laws of every reader), Lists. Examples: worked examples. Assumes nothing.
 pub mod Numbers
 pub mod Bytes
 pub mod Fields
 pub mod Laws
 pub mod Spends
+pub mod Inside
 pub mod Examples
 pub mod Lists

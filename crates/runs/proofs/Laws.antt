@@ -3,10 +3,13 @@ use Prim.Native.Nat.{ℕ, zero, suc, _+_, _*_, _≤_, _<_}
 use native.Mathlib.Omega.{arith}
 use mathlib.Core.Path.{_≡_, refl, sym, ap, _∙_}
 use mathlib.Core.List.{List}
+use mathlib.Core.Bool.{true}
 use lib.Dec.{eqb, leb}
 use lib.ListN.{length}
+use Rattle.bitstream.specs.Lists.{among}
 use Rattle.bitstream.specs.Reading.{got, refused, field, pure}
 use Rattle.bitstream.proofs.Laws.{Lawful, lawful, pure-lawful, here-lawful, guard-lawful, pick-lawful, bind-lawful, field-lawful, until-lawful, whole-lawful}
+use Rattle.bitstream.proofs.Inside.{Inside, inside, pure-inside, field-inside, pick-inside, bind-inside, whole-inside, until-inside, Refuses, refuses, pure-refuses, field-refuses, pick-refuses, bind-refuses, here-refuses, guard-refuses, whole-refuses, until-refuses}
 use Rattle.bitstream.proofs.Spends.{Spends, spends-more, pure-spends, field-spends, bind-spends, bind-spends-got, here-then, guard-then, pick-spends, until-spends, whole-spends}
 use Rattle.runs.specs.declared.RunCode.{RunCode}
 use Rattle.runs.specs.Runs.{rank, most, start, extra, runLength, run, Sent, nextBit, oneRun, complete, sent, bitString}
@@ -34,6 +37,54 @@ oneRun-lawful code n s =
 pub bitString-lawful : (code : RunCode) (n : ℕ) → Lawful (bitString code n)
 unfolding bitString sent
 bitString-lawful code n = bind-lawful (until-lawful (complete n) (oneRun code n) 12 n _ (oneRun-lawful code n)) (λ s. pure-lawful _)
+
+-- ---- what is refused lies in the packet
+pub rank-inside : {d : ℕ} (n r : ℕ) → Inside d (rank n r)
+unfolding rank
+rank-inside zero r = pure-inside r
+rank-inside (suc n) r = bind-inside (field-inside 1) (λ b. pick-inside (eqb b 0) (pure-inside r) (rank-inside n (r + 1)))
+
+run-inside : {d : ℕ} (code : RunCode) → Inside d (run code)
+unfolding run runLength
+run-inside code = whole-inside (search (inside, rank-inside) depth 10)
+
+nextBit-inside : {d : ℕ} (anew value : ℕ) → Inside d (nextBit anew value)
+unfolding nextBit
+nextBit-inside anew value = pick-inside (eqb anew 1) (field-inside 1) (pure-inside value)
+
+oneRun-inside : {d : ℕ} (code : RunCode) (n : ℕ) (s : Sent) → Inside d (oneRun code n s)
+unfolding oneRun
+oneRun-inside code n s = search (inside, nextBit-inside, run-inside) depth 12
+
+pub bitString-inside : {d : ℕ} (code : RunCode) (n : ℕ) → Inside d (bitString code n)
+unfolding bitString sent
+bitString-inside code n = bind-inside (until-inside (complete n) (oneRun code n) 12 n _ (oneRun-inside code n)) (λ s. pure-inside _)
+
+-- ---- and is refused by 4 or 12
+module _ {ks : List ℕ} (four : among ks 4 ≡ true) where
+  pub rank-refuses : (n r : ℕ) → Refuses ks (rank n r)
+  unfolding rank
+  rank-refuses zero r = pure-refuses r
+  rank-refuses (suc n) r = bind-refuses (field-refuses 1 four) (λ b. pick-refuses (eqb b 0) (pure-refuses r) (rank-refuses n (r + 1)))
+
+  run-refuses : (code : RunCode) → Refuses ks (run code)
+  unfolding run runLength
+  run-refuses code = whole-refuses (search (refuses, rank-refuses, four) depth 10)
+
+  nextBit-refuses : (anew value : ℕ) → Refuses ks (nextBit anew value)
+  unfolding nextBit
+  nextBit-refuses anew value = pick-refuses (eqb anew 1) (field-refuses 1 four) (pure-refuses value)
+
+  module _ (twelve : among ks 12 ≡ true) where
+    oneRun-refuses : (code : RunCode) (n : ℕ) (s : Sent) → Refuses ks (oneRun code n s)
+    unfolding oneRun
+    oneRun-refuses code n s =
+        bind-refuses (nextBit-refuses (s .anew) (s .value)) (λ b. bind-refuses here-refuses (λ at. bind-refuses (run-refuses code) (λ r.
+        bind-refuses (guard-refuses (leb (length (s .done) + r) n) 12 at twelve) (λ _. pure-refuses _))))
+
+    pub bitString-refuses : (code : RunCode) (n : ℕ) → Refuses ks (bitString code n)
+    unfolding bitString sent
+    bitString-refuses code n = bind-refuses (until-refuses (complete n) (oneRun code n) 12 n _ twelve (oneRun-refuses code n)) (λ s. pure-refuses _)
 
 -- ---- bits that are spent: a rank of at most n, a run of at most 18, and n runs with a bit each for a string of n bits
 pub rank-spends : (n r : ℕ) → Spends n (rank n r)
