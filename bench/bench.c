@@ -119,9 +119,11 @@ struct lent {
 static struct lent lend(const struct recording *r)
 {
     struct lent l;
+    uint64_t place[1];
     l.table = memory(WEDGEPETAL_TABLE_BYTES);
-    if (wedgepetal_identification(r->packets[0], r->lengths[0], l.session, WEDGEPETAL_SESSION_NUMBERS) != 0 ||
-        wedgepetal_setup(r->packets[2], r->lengths[2], l.table, WEDGEPETAL_TABLE_BYTES) != 0 ||
+    if (wedgepetal_identification(r->packets[0], r->lengths[0], l.session, WEDGEPETAL_SESSION_NUMBERS,
+                                  place, 1) != 0 ||
+        wedgepetal_setup(r->packets[2], r->lengths[2], l.table, WEDGEPETAL_TABLE_BYTES, place, 1) != 0 ||
         wedgepetal_sizes(l.session, WEDGEPETAL_SESSION_NUMBERS, l.sizes, WEDGEPETAL_SIZE_NUMBERS) != 0 ||
         wedgepetal_work_lengths(l.session, WEDGEPETAL_SESSION_NUMBERS, l.lengths, WEDGEPETAL_LENGTH_NUMBERS) != 0) {
         fail("a header is refused");

@@ -21,12 +21,29 @@
  * elements (and not null, even for an empty list), and a list that is written
  * must not overlap another list of the same call. Nothing else is asked.
  *
- * Each call returns 0 if it is accepted, else the number of its refusal. A
- * refused call writes nothing, but for the table memory of wedgepetal_setup and
- * the work memory of wedgepetal_frame (see there). Where several numbers apply,
- * they are found in this order: 1 for the session's list, 8 for its fields, 1
- * for any other list, 8 for the table memory, then a fault of the packet, or
- * 255 if there is no such thing as is asked for.
+ * Each call returns 0 if it is accepted, else the number of its refusal. Where
+ * several numbers apply, they are found in this order: 1 for the session's list,
+ * 8 for its fields, 1 for any other list, 8 for the table memory, then a fault
+ * of the packet, or 255 if there is no such thing as is asked for.
+ *
+ * A refusal found inside a packet (2 to 7, 9 to 13) has a place: the bit of the
+ * packet, counted from 0 and from the highest bit of byte 0 on, at which the
+ * field at fault begins; for a run its prefix code, for a token its Huffman
+ * code, for a mode its rank code, for a vector component its first bit. A field
+ * that the packet does not hold whole is at fault (4), so that a place may be 8
+ * times the packet's length, the place behind it. For an empty packet it is 0.
+ * All other refusals have place 0. What each call writes:
+ *
+ *   call            accepted              refused by 1   by another number
+ *   identification  session; place: 0     nothing        place
+ *   setup           table; place: 0       place: 0 (*)   place; table: all zero
+ *   frame           session, new_frame,   answer (*)     answer; work memory: all zero
+ *                   answer; work                         (8 for the session's fields:
+ *                   memory: all zero                     answer (*) alone)
+ *   all others      their list            nothing        nothing
+ *
+ *   (*) nothing where the list for the place or the answer, or the session's
+ *       list, has itself another length than it must have
  *
  * Planes are 0 (Y'), 1 (Cb) and 2 (Cr). A block has 8 by 8 samples of one
  * plane, a super block 4 by 4 blocks; a macro block has 16 by 16 samples of Y'
@@ -128,12 +145,15 @@ enum {
     WEDGEPETAL_LENGTH_NUMBERS
 };
 
-/* The answer of a frame is a list of 5 numbers. */
+/* The answer of a frame is a list of 7 numbers. After a refusal all but the
+ * first two are 0. */
 enum {
+    WEDGEPETAL_NUMBER,   /* what the call returns: 0, or the number of the refusal */
+    WEDGEPETAL_PLACE,    /* the place of the refusal, 0 if there is none */
     WEDGEPETAL_KIND,     /* one of the three kinds */
     WEDGEPETAL_QI_COUNT, /* how many qi it has: 1 to 3, or 0 for a repeat */
     WEDGEPETAL_QIS,      /* the first of three numbers: these qi, then zeros */
-    WEDGEPETAL_ANSWER_NUMBERS = 5
+    WEDGEPETAL_ANSWER_NUMBERS = 7
 };
 
 /* The kinds of a frame: coded by itself, coded as a change of other frames, the
@@ -143,9 +163,10 @@ enum { WEDGEPETAL_INTRA, WEDGEPETAL_INTER, WEDGEPETAL_REPEAT };
 /* ---- Headers and sizes. How many numbers a list must have stands behind it. */
 
 /* Reads an identification header; session (17) receives a fresh session, which
- * has no references. Refused by 1 to 6. */
+ * has no references. Refused by 1 to 6; place (1) receives the refusal's place. */
 uint32_t wedgepetal_identification(const uint8_t *packet, size_t packet_length,
-                                   uint64_t *session, size_t session_length);
+                                   uint64_t *session, size_t session_length,
+                                   uint64_t *place, size_t place_length);
 
 /* The sizes of a session's frames (16). This call and the next six take a
  * session (17) and are refused by 1 and 8, and the six by 255 if the frame does
@@ -185,9 +206,11 @@ uint32_t wedgepetal_sample_offset(const uint64_t *session, size_t session_length
 
 /* Reads a setup header into table memory of WEDGEPETAL_TABLE_BYTES bytes. All
  * of it is fixed by the packet alone: what was read if it is accepted, all zero
- * if it is refused (2, 4 or 7). Refused by 1 it is untouched. */
+ * if it is refused (2, 4 or 7). Refused by 1 it is untouched. place (1) receives
+ * the refusal's place. */
 uint32_t wedgepetal_setup(const uint8_t *packet, size_t packet_length,
-                          uint8_t *table, size_t table_length);
+                          uint8_t *table, size_t table_length,
+                          uint64_t *place, size_t place_length);
 
 /* Whether some accepted setup packet leaves this table memory: 0 if so, else 8
  * (1 if it has another length). */
@@ -230,7 +253,7 @@ uint32_t wedgepetal_work_lengths(const uint64_t *session, size_t session_length,
  *          first, in each plane the lowest row first. The whole frame is there;
  *          the caller cuts the picture out of it. It must be another buffer than
  *          golden and previous
- * answer   (5 numbers) receives the answer of an accepted frame
+ * answer   (7 numbers) receives the answer, also of a refusal
  *
  * After an accepted intra frame the caller takes new_frame for golden and
  * previous, after another accepted frame for previous; after a refusal all
@@ -239,8 +262,8 @@ uint32_t wedgepetal_work_lengths(const uint64_t *session, size_t session_length,
  *
  * Refusals, in the order in which they are found: 1 for the session's list, 8
  * for its fields, 1 for any other list, 8 for the table memory, then 4 and 9 to
- * 13 for the first fault in the packet. A refused call leaves session, answer
- * and new_frame as they were. */
+ * 13 for the first fault in the packet. A refused call leaves session and
+ * new_frame as they were. */
 uint32_t wedgepetal_frame(uint64_t *session, size_t session_length,
                           const uint8_t *packet, size_t packet_length,
                           const uint8_t *table, size_t table_length,

@@ -29,9 +29,9 @@ impl FrameAnswer {
         &self.qis[..self.count]
     }
 
-    /// The answer that a list of numbers stands for.
+    /// The answer that the list of an accepted frame stands for.
     fn from_list(list: &[u64; ANSWER_NUMBERS]) -> FrameAnswer {
-        let [kind, count, qis @ ..] = *list;
+        let [_, _, kind, count, qis @ ..] = *list;
         FrameAnswer {
             kind: match kind {
                 0 => Kind::Intra,
@@ -54,8 +54,8 @@ impl Session {
     ///
     /// Number 8 for fields that could not come from an identification header,
     /// 1 if work memory or a buffer has another length than this session's,
-    /// then 4 and 9 to 13, for the first fault of the packet. The session and
-    /// `buffers.new` are then as they were.
+    /// then 4 and 9 to 13 with the bit place, for the first fault of the packet.
+    /// The session and `buffers.new` are then as they were.
     pub fn frame(
         &mut self,
         packet: &[u8],
@@ -65,14 +65,16 @@ impl Session {
     ) -> Result<FrameAnswer, Refusal> {
         let mut session = self.to_list();
         let mut answer = [0; ANSWER_NUMBERS];
-        Refusal::check(lists::frame(
+        let number = lists::frame(
             &mut session,
             packet,
             table.bytes(),
             work.slices(),
             buffers,
             &mut answer,
-        ))?;
+        );
+        let [_, place, ..] = answer;
+        Refusal::check_at(number, place)?;
         *self = Session::from_list(&session);
         Ok(FrameAnswer::from_list(&answer))
     }

@@ -4,7 +4,8 @@
 //! gives the [`Session`]), the third its setup header ([`setup`] gives the
 //! [`Table`]). A [`Player`] of both decodes the packets that follow, one by one,
 //! into planes. Whatever a packet holds, each call ends with an answer, and a
-//! refusal ([`Refusal`]) changes nothing.
+//! refusal ([`Refusal`]) changes nothing and says where in the packet it was
+//! found.
 //!
 //! ```
 //! use wedgepetal::{Refusal, identification};
@@ -13,6 +14,8 @@
 //! assert_eq!(identification(b""), Err(Refusal::PACKET_END));
 //! // A comment header is another header.
 //! assert_eq!(identification(b"\x81theora"), Err(Refusal::NOT_THIS_HEADER));
+//! // One whose fourth letter is wrong.
+//! assert_eq!(identification(b"\x80theXra"), Err(Refusal::NOT_THIS_HEADER.at(32)));
 //! ```
 //!
 //! ```no_run
@@ -27,7 +30,7 @@
 //!                 let sum: u64 = luma.bytes.iter().map(|sample| u64::from(*sample)).sum();
 //!                 println!("{number}: {:?}, {}", answer.kind, sum / luma.bytes.len() as u64);
 //!             }
-//!             Err(refusal) => println!("{number}: {refusal}"),
+//!             Err(refusal) => println!("{number}: {}", refusal.in_packet(packet.len())),
 //!         }
 //!     }
 //!     Ok(())

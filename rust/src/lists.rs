@@ -2,11 +2,10 @@
 //!
 //! Each function is the call of the same name in `include/wedgepetal.h`, with
 //! a slice for each pointer and length. It answers 0 if the call is accepted,
-//! else the number of its refusal, and a refused call writes nothing (but
-//! `setup`, which then clears table memory of the right length, and `frame`,
-//! which clears work memory once all lengths are right). Every list may have
-//! any length and any contents. The functions of the crate's root are easier
-//! to use; these are here for those who hold lists already.
+//! else the number of its refusal; the header has a table of what a refused
+//! call writes. Every list may have any length and any contents. The functions
+//! of the crate's root are easier to use; these are here for those who hold
+//! lists already.
 #![allow(unsafe_code)]
 
 /// How many numbers a session has.
@@ -21,12 +20,16 @@ pub const BLOCK_NUMBERS: usize = 3;
 /// How many numbers the place of a macro block has: x, y.
 pub const PLACE_NUMBERS: usize = 2;
 
+/// How many numbers the bit place of a header's refusal has.
+pub const FAULT_NUMBERS: usize = 1;
+
 /// How many numbers the lengths of work memory have: the ten slices in the
 /// order of [`WorkSlices`], then the bytes of all of them together.
 pub const LENGTH_NUMBERS: usize = 11;
 
-/// How many numbers the answer of a frame has: kind, how many qi, three qi.
-pub const ANSWER_NUMBERS: usize = 5;
+/// How many numbers the answer of a frame has: the number of the refusal (0 if
+/// there is none), its place, kind, how many qi, three qi.
+pub const ANSWER_NUMBERS: usize = 7;
 
 /// How many bytes table memory has.
 pub const TABLE_BYTES: usize = 28_184;
@@ -41,6 +44,8 @@ mod face {
             packet_length: usize,
             session: *mut u64,
             session_length: usize,
+            place: *mut u64,
+            place_length: usize,
         ) -> u32;
         pub fn wedgepetal_sizes(
             session: *const u64,
@@ -104,6 +109,8 @@ mod face {
             packet_length: usize,
             table: *mut u8,
             table_length: usize,
+            place: *mut u64,
+            place_length: usize,
         ) -> u32;
         pub fn wedgepetal_table(table: *const u8, table_length: usize) -> u32;
         pub fn wedgepetal_loop_limit(
@@ -167,9 +174,10 @@ mod face {
     }
 }
 
-/// Reads an identification header; `session` (17 numbers) receives the fresh session.
-pub fn identification(packet: &[u8], session: &mut [u64]) -> u32 {
-    // SAFETY: both pointers come from slices, so they are not null and valid
+/// Reads an identification header; `session` (17 numbers) receives the fresh
+/// session, `place` (1 number) the bit place of a refusal, 0 where there is none.
+pub fn identification(packet: &[u8], session: &mut [u64], place: &mut [u64]) -> u32 {
+    // SAFETY: all pointers come from slices, so they are not null and valid
     // for the lengths given, and a slice that is lent to be written overlaps
     // no other.
     unsafe {
@@ -178,6 +186,8 @@ pub fn identification(packet: &[u8], session: &mut [u64]) -> u32 {
             packet.len(),
             session.as_mut_ptr(),
             session.len(),
+            place.as_mut_ptr(),
+            place.len(),
         )
     }
 }
@@ -298,8 +308,9 @@ pub fn sample_offset(
 }
 
 /// Reads a setup header into table memory (28,184 bytes). Refused by another
-/// number than 1, it leaves all of table memory zero.
-pub fn setup(packet: &[u8], table: &mut [u8]) -> u32 {
+/// number than 1, it leaves all of table memory zero. `place` (1 number)
+/// receives the bit place of a refusal, 0 where there is none.
+pub fn setup(packet: &[u8], table: &mut [u8], place: &mut [u64]) -> u32 {
     // SAFETY: as in `identification`.
     unsafe {
         face::wedgepetal_setup(
@@ -307,6 +318,8 @@ pub fn setup(packet: &[u8], table: &mut [u8]) -> u32 {
             packet.len(),
             table.as_mut_ptr(),
             table.len(),
+            place.as_mut_ptr(),
+            place.len(),
         )
     }
 }
@@ -398,9 +411,11 @@ pub fn work_lengths(session: &[u64], lengths: &mut [u64]) -> u32 {
     }
 }
 
-/// Decodes a frame packet: `answer` (5 numbers) receives its kind (0 intra, 1
-/// inter, 2 repeat), how many qi it has and three qi, of which the others are
-/// 0. An accepted intra frame sets the reference number of `session` to 1.
+/// Decodes a frame packet: `answer` (7 numbers) receives the number of the
+/// refusal (0 if there is none) and its bit place, then the frame's kind (0
+/// intra, 1 inter, 2 repeat), how many qi it has and three qi, of which the
+/// others are 0; after a refusal these five are 0. An accepted intra frame sets
+/// the reference number of `session` to 1.
 pub fn frame(
     session: &mut [u64],
     packet: &[u8],

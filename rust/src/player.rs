@@ -83,8 +83,8 @@ impl Player {
     ///
     /// # Errors
     ///
-    /// Numbers 4 and 9 to 13, for the first fault of the packet. Everything is
-    /// then as it was, and the next packet can be decoded.
+    /// Numbers 4 and 9 to 13 with the bit place, for the first fault of the
+    /// packet. Everything is then as it was, and the next packet can be decoded.
     pub fn decode(&mut self, packet: &[u8]) -> Result<FrameAnswer, Refusal> {
         let free = self.free();
         let mut new = take(&mut self.buffers[free]);

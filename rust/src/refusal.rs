@@ -1,49 +1,71 @@
-//! The numbers by which calls are refused.
+//! Refusals: their numbers, and where in a packet they were found.
 
 use std::error::Error;
 use std::fmt;
 
-/// The number of a refusal.
+/// A refusal: its number and its bit place. The constants have place 0;
+/// `Refusal::RUN.at(5311)` is a refusal by the same number at another place.
 #[derive(Clone, Copy, Debug, PartialEq, Eq, Hash)]
-pub struct Refusal(pub u32);
+pub struct Refusal {
+    /// The number.
+    pub number: u32,
+    /// The bit place in the packet of the first bit of the field at fault, from
+    /// 0; 0 where no field of a packet is (1, 8, 255).
+    pub place: u64,
+}
 
 impl Refusal {
     /// A lent list has another length than the published one.
-    pub const LENGTH: Refusal = Refusal(1);
+    pub const LENGTH: Refusal = Refusal::by(1);
     /// The type byte or "theora" is not the wanted one.
-    pub const NOT_THIS_HEADER: Refusal = Refusal(2);
+    pub const NOT_THIS_HEADER: Refusal = Refusal::by(2);
     /// VMAJ is not 3, or VMIN is not 2.
-    pub const VERSION: Refusal = Refusal(3);
+    pub const VERSION: Refusal = Refusal::by(3);
     /// A read passes the end of the packet.
-    pub const PACKET_END: Refusal = Refusal(4);
+    pub const PACKET_END: Refusal = Refusal::by(4);
     /// An identification field breaks its range.
-    pub const FIELD_RANGE: Refusal = Refusal(5);
+    pub const FIELD_RANGE: Refusal = Refusal::by(5);
     /// PF is 1, or the 3 last identification bits are not 0.
-    pub const RESERVED: Refusal = Refusal(6);
+    pub const RESERVED: Refusal = Refusal::by(6);
     /// Setup: NBMS above 384, a matrix index not below NBMS, a qi sum above
     /// 63, a code longer than 32, or a 33rd leaf.
-    pub const SETUP_FAULT: Refusal = Refusal(7);
+    pub const SETUP_FAULT: Refusal = Refusal::by(7);
     /// The session's identification fields break 5, 6 or their widths.
-    pub const SESSION: Refusal = Refusal(8);
+    pub const SESSION: Refusal = Refusal::by(8);
     /// No accepted setup packet leaves this table memory.
-    pub const TABLE: Refusal = Refusal(8);
+    pub const TABLE: Refusal = Refusal::by(8);
     /// An inter or empty packet, and no references.
-    pub const NO_REFERENCES: Refusal = Refusal(9);
+    pub const NO_REFERENCES: Refusal = Refusal::by(9);
     /// The first bit of a frame packet is 1: it is a header.
-    pub const NOT_A_FRAME: Refusal = Refusal(10);
+    pub const NOT_A_FRAME: Refusal = Refusal::by(10);
     /// An intra frame's 3 reserved bits are not 0.
-    pub const FRAME_RESERVED: Refusal = Refusal(11);
+    pub const FRAME_RESERVED: Refusal = Refusal::by(11);
     /// A run exceeds the bits still wanted.
-    pub const RUN: Refusal = Refusal(12);
+    pub const RUN: Refusal = Refusal::by(12);
     /// A token moves its block past position 64.
-    pub const TOKEN: Refusal = Refusal(13);
+    pub const TOKEN: Refusal = Refusal::by(13);
     /// The frame has no such block, macro block or sample, or there is no such
     /// type, plane or qi.
-    pub const ABSENT: Refusal = Refusal(255);
+    pub const ABSENT: Refusal = Refusal::by(255);
 
-    /// What this number means, in words.
+    /// By this number, at place 0.
+    pub const fn by(number: u32) -> Refusal {
+        Refusal { number, place: 0 }
+    }
+
+    /// By the same number, at this place.
+    pub const fn at(self, place: u64) -> Refusal {
+        Refusal { place, ..self }
+    }
+
+    /// Whether it is found inside a packet, so that its place says where.
+    pub fn has_place(self) -> bool {
+        matches!(self.number, 2..=7 | 9..=13)
+    }
+
+    /// What its number means, in words.
     pub fn meaning(self) -> &'static str {
-        match self.0 {
+        match self.number {
             1 => "a lent length differs from the published one",
             2 => "a header's type byte or \"theora\" is not the wanted one",
             3 => "VMAJ is not 3, or VMIN is not 2",
@@ -71,19 +93,76 @@ impl Refusal {
         }
     }
 
+    /// All of it in words, for a packet of so many bytes.
+    pub fn in_packet(self, bytes: usize) -> String {
+        match self.has_place() {
+            true => format!("{self} of {}", grouped(8 * bytes as u128)),
+            false => self.to_string(),
+        }
+    }
+
     /// The answer of a call on lists as a result.
-    pub(crate) fn check(answer: u32) -> Result<(), Refusal> {
-        match answer {
+    pub(crate) fn check(number: u32) -> Result<(), Refusal> {
+        Refusal::check_at(number, 0)
+    }
+
+    /// The same of a call that says a place.
+    pub(crate) fn check_at(number: u32, place: u64) -> Result<(), Refusal> {
+        match number {
             0 => Ok(()),
-            number => Err(Refusal(number)),
+            number => Err(Refusal { number, place }),
         }
     }
 }
 
+/// A number with a comma before each three digits.
+fn grouped(number: u128) -> String {
+    let digits = number.to_string();
+    let mut text = String::new();
+    for (i, digit) in digits.chars().enumerate() {
+        if i > 0 && (digits.len() - i) % 3 == 0 {
+            text.push(',');
+        }
+        text.push(digit);
+    }
+    text
+}
+
 impl fmt::Display for Refusal {
     fn fmt(&self, f: &mut fmt::Formatter<'_>) -> fmt::Result {
-        write!(f, "refusal {}: {}", self.0, self.meaning())
+        write!(f, "refused by {}, {}", self.number, self.meaning())?;
+        match self.has_place() {
+            true => write!(f, ", at bit {}", grouped(self.place.into())),
+            false => Ok(()),
+        }
     }
 }
 
 impl Error for Refusal {}
+
+#[cfg(test)]
+mod tests {
+    use super::*;
+
+    #[test]
+    fn digits_in_threes() {
+        let texts = [0, 999, 1000, 12_345, 1_234_567].map(grouped);
+        assert_eq!(texts, ["0", "999", "1,000", "12,345", "1,234,567"]);
+    }
+
+    #[test]
+    fn refusals_in_words() {
+        assert_eq!(
+            Refusal::RUN.at(5311).in_packet(1113),
+            "refused by 12, a run exceeds the bits still wanted, at bit 5,311 of 8,904"
+        );
+        assert_eq!(
+            Refusal::VERSION.at(56).to_string(),
+            "refused by 3, VMAJ is not 3, or VMIN is not 2, at bit 56"
+        );
+        assert_eq!(
+            Refusal::LENGTH.in_packet(9),
+            "refused by 1, a lent length differs from the published one"
+        );
+    }
+}

@@ -1,6 +1,8 @@
 //! The session record and the calls that take it.
 
-use crate::lists::{self, BLOCK_NUMBERS, PLACE_NUMBERS, SESSION_NUMBERS, SIZE_NUMBERS};
+use crate::lists::{
+    self, BLOCK_NUMBERS, FAULT_NUMBERS, PLACE_NUMBERS, SESSION_NUMBERS, SIZE_NUMBERS,
+};
 use crate::{Block, MacroBlock, Plane, Refusal, Sizes};
 
 /// The identification fields of a recording, and whether references exist.
@@ -49,10 +51,11 @@ pub struct Session {
 ///
 /// # Errors
 ///
-/// Numbers 2 to 6, for the first fault in reading order.
+/// Numbers 2 to 6 with the bit place, for the first fault in reading order.
 pub fn identification(packet: &[u8]) -> Result<Session, Refusal> {
-    let mut list = [0; SESSION_NUMBERS];
-    Refusal::check(lists::identification(packet, &mut list))?;
+    let (mut list, mut place) = ([0; SESSION_NUMBERS], [0; FAULT_NUMBERS]);
+    let number = lists::identification(packet, &mut list, &mut place);
+    Refusal::check_at(number, place[0])?;
     Ok(Session::from_list(&list))
 }
 

@@ -1,7 +1,7 @@
 //! Table memory: what a setup header says, and the calls that take it.
 
 use crate::Refusal;
-use crate::lists::{self, MATRIX_NUMBERS, TABLE_BYTES};
+use crate::lists::{self, FAULT_NUMBERS, MATRIX_NUMBERS, TABLE_BYTES};
 
 /// Table memory that an accepted setup packet leaves.
 #[derive(Clone, Debug, PartialEq, Eq)]
@@ -20,10 +20,11 @@ pub enum MatrixType {
 ///
 /// # Errors
 ///
-/// Numbers 2, 4 and 7, for the first fault in reading order.
+/// Numbers 2, 4 and 7 with the bit place, for the first fault in reading order.
 pub fn setup(packet: &[u8]) -> Result<Table, Refusal> {
-    let mut bytes = vec![0; TABLE_BYTES];
-    Refusal::check(lists::setup(packet, &mut bytes))?;
+    let (mut bytes, mut place) = (vec![0; TABLE_BYTES], [0; FAULT_NUMBERS]);
+    let number = lists::setup(packet, &mut bytes, &mut place);
+    Refusal::check_at(number, place[0])?;
     Ok(Table(bytes))
 }
 

@@ -75,19 +75,25 @@ fn tables() {
 #[test]
 fn what_is_no_setup_header_or_table() {
     let packet = setup_packet(|_| 7);
+    // In the token of the last tree; the packet's 1,274 bits fill 160 bytes.
     let cut = setup(&packet[..packet.len() - 1]);
-    assert_eq!(cut, Err(Refusal::PACKET_END));
+    assert_eq!(cut, Err(Refusal::PACKET_END.at(1269)));
     assert_eq!(setup(b"\x80theora"), Err(Refusal::NOT_THIS_HEADER));
+    assert_eq!(setup(b"\x82theorA"), Err(Refusal::NOT_THIS_HEADER.at(48)));
     let mut bytes = setup(&packet).unwrap().bytes().to_vec();
     bytes[lists::TABLE_BYTES - 1] = 1;
     assert_eq!(Table::from_bytes(&bytes), Err(Refusal::TABLE));
     bytes.pop();
     assert_eq!(Table::from_bytes(&bytes), Err(Refusal::LENGTH));
-    assert_eq!(lists::setup(&packet, &mut bytes), 1);
-    assert_eq!(bytes[0], 0x82);
+    let mut place = [7];
+    assert_eq!(lists::setup(&packet, &mut bytes, &mut place), 1);
+    assert_eq!((bytes[0], place), (0x82, [0]));
     bytes.push(7);
-    assert_eq!(lists::setup(&packet[..50], &mut bytes), 4);
-    assert_eq!(bytes, vec![0; lists::TABLE_BYTES]);
+    assert_eq!(lists::setup(&packet[..50], &mut bytes, &mut []), 1);
+    assert_eq!(bytes[0], 0x82);
+    // In a number of the base matrix.
+    assert_eq!(lists::setup(&packet[..50], &mut bytes, &mut place), 4);
+    assert_eq!((bytes, place), (vec![0; lists::TABLE_BYTES], [396]));
 }
 
 #[test]
@@ -98,7 +104,18 @@ fn refusals() {
     assert_eq!(lists::sizes(&[0; 16], &mut []), 1);
     assert_eq!(lists::sizes(&[0; 17], &mut []), 8);
     assert_eq!(lists::sizes(&session(1, 1, 0).to_list(), &mut []), 1);
-    assert_eq!(lists::identification(&[], &mut []), 1);
+    let (mut list, mut place) = ([7; 17], [7; 2]);
+    assert_eq!(
+        lists::identification(&[], &mut list[1..], &mut place[1..]),
+        1
+    );
+    assert_eq!(lists::identification(&[], &mut list, &mut place), 1);
+    assert_eq!((list, place), ([7; 17], [7; 2]));
+    assert_eq!(
+        lists::identification(&[0x80; 2], &mut list, &mut place[1..]),
+        2
+    );
+    assert_eq!((list, place), ([7; 17], [7, 8]));
 }
 
 #[test]
@@ -112,12 +129,10 @@ fn sessions_are_lists() {
 
 #[test]
 fn every_number_has_a_meaning() {
-    let unknown = Refusal(14).meaning();
+    let unknown = Refusal::by(14).meaning();
     for number in (1..=13).chain([255]) {
-        assert_ne!(Refusal(number).meaning(), unknown);
+        assert_ne!(Refusal::by(number).meaning(), unknown);
     }
-    assert_eq!(
-        Refusal::VERSION.to_string(),
-        "refusal 3: VMAJ is not 3, or VMIN is not 2"
-    );
+    let with_place = (0..=255).filter(|number| Refusal::by(*number).has_place());
+    assert!(with_place.eq((2..=7).chain(9..=13)));
 }

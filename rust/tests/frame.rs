@@ -142,7 +142,7 @@ fn refused_packets_leave_all_as_it_was() {
     assert_eq!(player.decode(&[]), Err(Refusal::NO_REFERENCES));
     assert_eq!(
         player.decode(&inter_without_blocks()),
-        Err(Refusal::NO_REFERENCES)
+        Err(Refusal::NO_REFERENCES.at(1))
     );
     assert!(!player.session().references);
     assert!(player.frame().is_none());
@@ -150,9 +150,9 @@ fn refused_packets_leave_all_as_it_was() {
     let before = shown(&player);
     for (bits, refusal) in [
         ("1", Refusal::NOT_A_FRAME),
-        ("0 0 000011 0 001", Refusal::FRAME_RESERVED),
-        ("0 0 000011 0 000 1001", Refusal::PACKET_END),
-        ("0 1 000100 0 0 110 0", Refusal::RUN),
+        ("0 0 000011 0 001", Refusal::FRAME_RESERVED.at(9)),
+        ("0 0 000011 0 000 1001", Refusal::PACKET_END.at(16)),
+        ("0 1 000100 0 0 110 0", Refusal::RUN.at(10)),
     ] {
         assert_eq!(player.decode(&packet(bits)), Err(refusal), "{bits}");
         assert_eq!(shown(&player), before);
@@ -170,7 +170,8 @@ fn a_token_past_position_64_is_refused() {
     let ones = "000000".repeat(6);
     let bits = format!("0 0 000011 0 000 0000 0000 {ones} 0000 0000");
     let past = packet(&format!("{bits} 111111"));
-    assert_eq!(player.decode(&past), Err(Refusal::TOKEN));
+    // The code of a lone leaf has no bits: the token begins at its extra ones.
+    assert_eq!(player.decode(&past), Err(Refusal::TOKEN.at(64)));
     let to_the_end = packet(&format!("{bits} {}", "111110".repeat(6)));
     assert_eq!(player.decode(&to_the_end).unwrap().kind, Kind::Intra);
     assert_eq!(shown(&player), [128; BYTES]);
@@ -275,29 +276,31 @@ fn call(
 fn calls_on_lists() {
     let table = table();
     let table = table.bytes();
-    let untouched = || vec![77; 5];
-    let accepted = |numbers: [u64; 5]| numbers.to_vec();
+    let refused = |number: u64, place: u64| vec![number, place, 0, 0, 0, 0, 0];
+    let accepted = |numbers: [u64; 5]| [&[0, 0], &numbers[..]].concat();
     assert_eq!(
-        call(0, table, &intra(9, 9), 5),
+        call(0, table, &intra(9, 9), 7),
         (0, 1, accepted([0, 1, 3, 0, 0]), true)
     );
     assert_eq!(
-        call(9, table, &inter_without_blocks(), 5),
+        call(9, table, &inter_without_blocks(), 7),
         (0, 9, accepted([1, 1, 4, 0, 0]), true)
     );
     assert_eq!(
-        call(9, table, &inter(0, 0, 0), 5),
+        call(9, table, &inter(0, 0, 0), 7),
         (0, 9, accepted([1, 3, 4, 5, 6]), true)
     );
     assert_eq!(
-        call(7, table, &[], 5),
+        call(7, table, &[], 7),
         (0, 7, accepted([2, 0, 0, 0, 0]), true)
     );
-    assert_eq!(call(0, table, &[], 5), (9, 0, untouched(), true));
-    assert_eq!(call(3, table, &[0x80], 5), (10, 3, untouched(), true));
-    assert_eq!(call(0, &[0; 28_184], &[], 5), (8, 0, untouched(), true));
-    assert_eq!(call(0, &table[1..], &[], 5), (1, 0, untouched(), false));
-    assert_eq!(call(0, table, &intra(9, 9), 4), (1, 0, vec![77; 4], false));
+    assert_eq!(call(0, table, &[], 7), (9, 0, refused(9, 0), true));
+    assert_eq!(call(0, table, &[0x40], 7), (9, 0, refused(9, 1), true));
+    assert_eq!(call(3, table, &[0x80], 7), (10, 3, refused(10, 0), true));
+    assert_eq!(call(3, table, &[0], 7), (4, 3, refused(4, 8), true));
+    assert_eq!(call(0, &[0; 28_184], &[], 7), (8, 0, refused(8, 0), true));
+    assert_eq!(call(0, &table[1..], &[], 7), (1, 0, refused(1, 0), false));
+    assert_eq!(call(0, table, &intra(9, 9), 6), (1, 0, vec![77; 6], false));
 }
 
 #[test]
@@ -315,8 +318,9 @@ fn after_a_restart_only_an_intra_frame_is_accepted() {
     let first = shown(&player);
     player.restart();
     assert!(player.frame().is_none());
-    for packet in [inter(0, 0, 0), Vec::new()] {
-        assert_eq!(player.decode(&packet), Err(Refusal::NO_REFERENCES));
+    for (packet, place) in [(inter(0, 0, 0), 1), (Vec::new(), 0)] {
+        let refusal = Refusal::NO_REFERENCES.at(place);
+        assert_eq!(player.decode(&packet), Err(refusal));
     }
     player.decode(&intra(9, 9)).unwrap();
     assert_eq!(shown(&player), first);

@@ -76,13 +76,14 @@ static void make_setup(void)
 
 static void try_table(void)
 {
-    uint64_t limit[1] = {9}, matrix[WEDGEPETAL_MATRIX_NUMBERS] = {0};
+    uint64_t limit[1] = {9}, place[1] = {9}, matrix[WEDGEPETAL_MATRIX_NUMBERS] = {0};
     const size_t t = WEDGEPETAL_TABLE_BYTES, m = WEDGEPETAL_MATRIX_NUMBERS;
 
     make_setup();
     expect("setup bits", setup.count, 1210);
     expect("no table yet", wedgepetal_table(table, t), WEDGEPETAL_TABLE);
-    expect("setup", wedgepetal_setup(setup.bytes, sizeof setup.bytes, table, t), 0);
+    expect("setup", wedgepetal_setup(setup.bytes, sizeof setup.bytes, table, t, place, 1), 0);
+    expect("no place", place[0], 0);
     expect("type byte", table[0], 0x82);
     expect("table", wedgepetal_table(table, t), 0);
     expect("short table", wedgepetal_table(table, t - 1), WEDGEPETAL_LENGTH);
@@ -95,8 +96,15 @@ static void try_table(void)
     expect("type 2", wedgepetal_matrix(table, t, 2, 0, 0, matrix, m), WEDGEPETAL_ABSENT);
     table[t - 1] = 1;
     expect("a bit behind", wedgepetal_table(table, t), WEDGEPETAL_TABLE);
-    expect("cut", wedgepetal_setup(setup.bytes, 151, table, t), WEDGEPETAL_PACKET_END);
+    expect("no list for the place", wedgepetal_setup(setup.bytes, 151, table, t, place, 0),
+           WEDGEPETAL_LENGTH);
+    expect("kept", table[0], 0x82);
+    expect("cut", wedgepetal_setup(setup.bytes, 151, table, t, place, 1), WEDGEPETAL_PACKET_END);
+    expect("in the last tree's token", place[0], 1205);
     expect("cleared", table[0] + table[t - 1], 0);
+    expect("short table", wedgepetal_setup(setup.bytes, 151, table, t - 1, place, 1),
+           WEDGEPETAL_LENGTH);
+    expect("no place", place[0], 0);
 }
 
 /* Frames of one macro block in 4:2:0: 6 blocks, 3 super blocks. */
@@ -175,44 +183,63 @@ static uint32_t call(struct lent *m, const uint64_t *lengths, uint64_t *session,
                                m->previous, m->new_frame, BUFFER, answer);
 }
 
-/* Refusals leave session, answer and the new frame as they were; work memory
- * is zero once its lengths are right. */
+/* A call that is refused: its number, and an answer of this number and place
+ * and zeros. */
+static void refused(const char *what, uint32_t got, uint64_t *answer, uint32_t number,
+                    uint64_t place)
+{
+    int i;
+    expect(what, got, number);
+    expect(what, answer[WEDGEPETAL_NUMBER], number);
+    expect(what, answer[WEDGEPETAL_PLACE], place);
+    for (i = WEDGEPETAL_PLACE + 1; i < WEDGEPETAL_ANSWER_NUMBERS; i++) {
+        expect(what, answer[i], 0);
+        answer[i] = 7;
+    }
+}
+
+/* Refusals leave session and the new frame as they were; work memory is zero
+ * once its lengths are right. */
 static void try_refusals(struct lent *m, const uint64_t *lengths, uint64_t *session)
 {
     struct bits intra = intra_frame(), inter = inter_frame(), other = {{0x80}, 8};
-    uint64_t answer[5] = {7, 7, 7, 7, 7}, seven[5] = {7, 7, 7, 7, 7}, before[17], wrong[11];
+    uint64_t answer[WEDGEPETAL_ANSWER_NUMBERS] = {7, 7, 7, 7, 7, 7, 7};
+    uint64_t before[WEDGEPETAL_SESSION_NUMBERS], wrong[WEDGEPETAL_LENGTH_NUMBERS];
     struct wedgepetal_work work = wedgepetal_work_in(m->work, lengths);
     int i;
 
     memcpy(before, session, sizeof before);
-    expect("no references", call(m, lengths, session, &inter, 5, answer), WEDGEPETAL_NO_REFERENCES);
-    expect("empty", call(m, lengths, session, &inter, 0, answer), WEDGEPETAL_NO_REFERENCES);
-    expect("a header", call(m, lengths, session, &other, 1, answer), WEDGEPETAL_NOT_A_FRAME);
-    expect("cut", call(m, lengths, session, &intra, 3, answer), WEDGEPETAL_PACKET_END);
+    refused("no references", call(m, lengths, session, &inter, 5, answer), answer,
+            WEDGEPETAL_NO_REFERENCES, 1);
+    refused("empty", call(m, lengths, session, &inter, 0, answer), answer,
+            WEDGEPETAL_NO_REFERENCES, 0);
+    refused("a header", call(m, lengths, session, &other, 1, answer), answer,
+            WEDGEPETAL_NOT_A_FRAME, 0);
+    refused("cut", call(m, lengths, session, &intra, 3, answer), answer, WEDGEPETAL_PACKET_END, 24);
     expect("work is clear", count(m->work, WORK, 0), WORK);
     expect("new is kept", count(m->new_frame, BUFFER, PATTERN), BUFFER);
     intra.bytes[1] |= 0x10;
-    expect("reserved", call(m, lengths, session, &intra, 4, answer), WEDGEPETAL_FRAME_RESERVED);
+    refused("reserved", call(m, lengths, session, &intra, 4, answer), answer,
+            WEDGEPETAL_FRAME_RESERVED, 9);
     table[0] ^= 1;
-    expect("table", call(m, lengths, session, &intra, 4, answer), WEDGEPETAL_TABLE);
+    refused("table", call(m, lengths, session, &intra, 4, answer), answer, WEDGEPETAL_TABLE, 0);
     expect("work is clear", count(m->work, WORK, 0), WORK);
     table[0] ^= 1;
     for (i = 0; i < WEDGEPETAL_WORK_BYTES; i++) {
         memcpy(wrong, lengths, sizeof wrong);
         wrong[i]--;
-        expect("length", call(m, wrong, session, &intra, 4, answer), WEDGEPETAL_LENGTH);
+        refused("length", call(m, wrong, session, &intra, 4, answer), answer, WEDGEPETAL_LENGTH, 0);
     }
     expect("work is kept", count(m->work, WORK, PATTERN), WORK);
-    expect("buffer",
-           wedgepetal_frame_in(&work, session, intra.bytes, 4, table, m->golden, m->previous,
-                               m->new_frame, BUFFER - 1, answer),
-           WEDGEPETAL_LENGTH);
+    refused("buffer",
+            wedgepetal_frame_in(&work, session, intra.bytes, 4, table, m->golden, m->previous,
+                                m->new_frame, BUFFER - 1, answer),
+            answer, WEDGEPETAL_LENGTH, 0);
     session[WEDGEPETAL_PF] = 1;
-    expect("session", call(m, lengths, session, &intra, 4, answer), WEDGEPETAL_SESSION);
+    refused("session", call(m, lengths, session, &intra, 4, answer), answer, WEDGEPETAL_SESSION, 0);
     expect("work is kept", count(m->work, WORK, PATTERN), WORK);
     session[WEDGEPETAL_PF] = 0;
     expect("session is kept", (uint64_t)memcmp(session, before, sizeof before), 0);
-    expect("answer is kept", (uint64_t)memcmp(answer, seven, sizeof seven), 0);
     expect("new is kept", count(m->new_frame, BUFFER, PATTERN), BUFFER);
 }
 
@@ -220,10 +247,11 @@ static void try_refusals(struct lent *m, const uint64_t *lengths, uint64_t *sess
 static void try_accepted(struct lent *m, const uint64_t *lengths, uint64_t *session)
 {
     struct bits intra = intra_frame(), inter = inter_frame();
-    uint64_t answer[5] = {7, 7, 7, 7, 7};
+    uint64_t answer[WEDGEPETAL_ANSWER_NUMBERS] = {7, 7, 7, 7, 7, 7, 7};
     uint8_t *luma = m->new_frame;
 
     expect("intra", call(m, lengths, session, &intra, 4, answer), 0);
+    expect("number and place", answer[WEDGEPETAL_NUMBER] + answer[WEDGEPETAL_PLACE], 0);
     expect("kind", answer[WEDGEPETAL_KIND], WEDGEPETAL_INTRA);
     expect("how many qi", answer[WEDGEPETAL_QI_COUNT], 1);
     expect("qi", answer[WEDGEPETAL_QIS], 3);
@@ -250,7 +278,7 @@ static void try_accepted(struct lent *m, const uint64_t *lengths, uint64_t *sess
 
 static void try_frames(uint64_t *session)
 {
-    uint64_t lengths[WEDGEPETAL_LENGTH_NUMBERS] = {0};
+    uint64_t lengths[WEDGEPETAL_LENGTH_NUMBERS] = {0}, place[1] = {9};
     const size_t s = WEDGEPETAL_SESSION_NUMBERS;
     struct lent m;
 
@@ -262,7 +290,8 @@ static void try_frames(uint64_t *session)
     expect("supers", lengths[WEDGEPETAL_SUPERS], 6);
     expect("modes", lengths[WEDGEPETAL_MODES], 1);
     expect("bytes", lengths[WEDGEPETAL_WORK_BYTES], WORK);
-    expect("setup", wedgepetal_setup(setup.bytes, sizeof setup.bytes, table, sizeof table), 0);
+    expect("setup",
+           wedgepetal_setup(setup.bytes, sizeof setup.bytes, table, sizeof table, place, 1), 0);
     m.work = lend(WORK);
     m.golden = lend(BUFFER);
     m.previous = lend(BUFFER);
@@ -282,11 +311,19 @@ int main(void)
     uint64_t block[3] = {0}, place[2] = {0}, number[1] = {0};
     const size_t s = WEDGEPETAL_SESSION_NUMBERS;
 
-    expect("identification", wedgepetal_identification(packet, 42, session, s), 0);
+    expect("identification", wedgepetal_identification(packet, 42, session, s, number, 1), 0);
+    expect("no place", number[0], 0);
     expect("FMBW", session[WEDGEPETAL_FMBW], 20);
     expect("KFGSHIFT", session[WEDGEPETAL_KFGSHIFT], 6);
     expect("references", session[WEDGEPETAL_REFERENCES], 0);
-    expect("cut", wedgepetal_identification(packet, 41, session, s), WEDGEPETAL_PACKET_END);
+    expect("cut", wedgepetal_identification(packet, 41, session, s, number, 1),
+           WEDGEPETAL_PACKET_END);
+    expect("in KFGSHIFT", number[0], 326);
+    expect("short", wedgepetal_identification(packet, 41, session, s - 1, number, 1),
+           WEDGEPETAL_LENGTH);
+    expect("two places", wedgepetal_identification(packet, 41, session, s, place, 2),
+           WEDGEPETAL_LENGTH);
+    expect("kept", number[0] + place[0], 326);
 
     expect("sizes", wedgepetal_sizes(session, s, sizes, WEDGEPETAL_SIZE_NUMBERS), 0);
     expect("NBS", sizes[WEDGEPETAL_NBS], 1800);

@@ -26,12 +26,13 @@ static uint32_t answered;
 
 static void identification(void)
 {
-    answered = wedgepetal_identification(packet, packet_length, session, WEDGEPETAL_SESSION_NUMBERS);
+    answered = wedgepetal_identification(packet, packet_length, session, WEDGEPETAL_SESSION_NUMBERS,
+                                         number, 1);
 }
 
 static void setup(void)
 {
-    answered = wedgepetal_setup(packet, packet_length, table, sizeof table);
+    answered = wedgepetal_setup(packet, packet_length, table, sizeof table, number, 1);
 }
 
 static void test_table(void)

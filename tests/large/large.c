@@ -243,14 +243,15 @@ int main(int count, char **words)
 {
     uint64_t across = count == 3 ? strtoull(words[1], NULL, 10) : 2897, up = count == 3 ? strtoull(words[2], NULL, 10) : 2897;
     uint64_t session[WEDGEPETAL_SESSION_NUMBERS], sizes[WEDGEPETAL_SIZE_NUMBERS], lengths[WEDGEPETAL_LENGTH_NUMBERS];
-    uint64_t answer[WEDGEPETAL_ANSWER_NUMBERS];
+    uint64_t answer[WEDGEPETAL_ANSWER_NUMBERS], place[1];
     uint8_t *table = memory(WEDGEPETAL_TABLE_BYTES), *frame[2], *minus;
     struct packet id = identification(across, up), tables = setup(), intra, inter;
     struct wedgepetal_work work;
     struct plane planes[3];
     double start;
-    if (wedgepetal_identification(id.bytes, length_of(&id), session, WEDGEPETAL_SESSION_NUMBERS) != 0 ||
-        wedgepetal_setup(tables.bytes, length_of(&tables), table, WEDGEPETAL_TABLE_BYTES) != 0 ||
+    if (wedgepetal_identification(id.bytes, length_of(&id), session, WEDGEPETAL_SESSION_NUMBERS,
+                                  place, 1) != 0 ||
+        wedgepetal_setup(tables.bytes, length_of(&tables), table, WEDGEPETAL_TABLE_BYTES, place, 1) != 0 ||
         wedgepetal_sizes(session, WEDGEPETAL_SESSION_NUMBERS, sizes, WEDGEPETAL_SIZE_NUMBERS) != 0 ||
         wedgepetal_work_lengths(session, WEDGEPETAL_SESSION_NUMBERS, lengths, WEDGEPETAL_LENGTH_NUMBERS) != 0) {
         fail("a header is refused");

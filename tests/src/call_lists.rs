@@ -7,7 +7,7 @@ use crate::generate::frame_packets::{packet, variant};
 use crate::library;
 use crate::random::Random;
 use crate::reference::decode::Decoder;
-use crate::reference::frame_face::{Left, Lists, TableMemory};
+use crate::reference::frame_face::{KIND, Left, Lists, TableMemory};
 use crate::reference::samples::ways::Way;
 use crate::reference::session::SESSION_NUMBERS;
 use std::collections::BTreeMap;
@@ -78,7 +78,7 @@ impl State {
     pub fn hand_on(&mut self, left: Left) {
         self.session = left.session;
         if left.number == 0 {
-            if left.answer[0] == 0 {
+            if left.answer[KIND] == 0 {
                 self.golden.clone_from(&left.new);
             }
             self.previous = left.new;

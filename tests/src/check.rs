@@ -1,6 +1,6 @@
 //! One call to the library, held to the expected answer.
 
-use crate::reference::face::{Answer, Call, KINDS};
+use crate::reference::face::{Answer, Call, IDENTIFICATION, Identified, KINDS};
 use crate::reference::session::NAMES;
 use crate::reference::table_face::TableCall;
 use std::fmt::{self, Write};
@@ -84,6 +84,36 @@ impl Tally {
         Ok(())
     }
 
+    /// The same of the identification call, with lists of these lengths for the
+    /// session and the place.
+    pub fn check_identification(
+        &mut self,
+        packet: &[u8],
+        [session_length, place_length]: [usize; 2],
+        expected: &Identified,
+    ) -> Result<(), Difference> {
+        let mut session = List::new(session_length);
+        let mut place = List::new(place_length);
+        let number = lists::identification(packet, session.lent(), place.lent());
+        let wanted_session = expected.session.as_ref().map(|list| &list[..]);
+        let wanted_place = expected.place.map(|place| [place]);
+        let wanted_place = wanted_place.as_ref().map(|list| &list[..]);
+        let same = session.holds(wanted_session) && place.holds(wanted_place);
+        if number != expected.number || !same {
+            let given = describe_packet("identification", packet);
+            let came = format!(
+                "lent:     session {session_length} numbers, place {place_length}\n\
+                 expected: {expected:?}\n\
+                 got:      {number}, session {}, place {}\n",
+                session.changes(),
+                place.changes()
+            );
+            return Err(Difference::new(&given, &came));
+        }
+        self.count(IDENTIFICATION, number);
+        Ok(())
+    }
+
     /// The same of a call on table memory.
     pub fn check_table(
         &mut self,
@@ -107,17 +137,63 @@ fn hold(
     expected: &Answer,
     run: impl FnOnce(&mut [u64]) -> u32,
 ) -> Result<u32, String> {
-    let mut memory = PATTERN;
-    let lent = GUARD..GUARD + output_length;
-    let number = run(&mut memory[lent.clone()]);
-    let mut wanted = PATTERN;
-    if let Answer::Accepted(numbers) = expected {
-        wanted[lent.clone()].copy_from_slice(numbers);
-    }
-    if number != expected.number() || memory != wanted {
-        return Err(outcome(output_length, expected, number, &memory));
+    let mut list = List::new(output_length);
+    let number = run(list.lent());
+    let wanted = match expected {
+        Answer::Accepted(numbers) => Some(&numbers[..]),
+        Answer::Refused(_) => None,
+    };
+    if number != expected.number() || !list.holds(wanted) {
+        return Err(outcome(expected, number, &list));
     }
     Ok(number)
+}
+
+/// A lent list of numbers and what lies around it.
+pub struct List {
+    memory: [u64; LONGEST + 2 * GUARD],
+    length: usize,
+}
+
+impl List {
+    /// A list of this length that holds the pattern.
+    pub fn new(length: usize) -> List {
+        List {
+            memory: PATTERN,
+            length,
+        }
+    }
+
+    /// The list, to be lent.
+    pub fn lent(&mut self) -> &mut [u64] {
+        &mut self.memory[GUARD..GUARD + self.length]
+    }
+
+    /// Whether just these numbers were written to it, or nothing.
+    pub fn holds(&self, numbers: Option<&[u64]>) -> bool {
+        let mut wanted = PATTERN;
+        if let Some(numbers) = numbers {
+            wanted[GUARD..GUARD + self.length].copy_from_slice(numbers);
+        }
+        self.memory == wanted
+    }
+
+    /// What a call changed in the list and around it.
+    pub fn changes(&self) -> String {
+        let mut text = String::new();
+        for (i, (after, before)) in self.memory.iter().zip(PATTERN).enumerate() {
+            if *after != before {
+                let place = i as i64 - GUARD as i64;
+                let outside = !(GUARD..GUARD + self.length).contains(&i);
+                let note = if outside { " (OUTSIDE)" } else { "" };
+                let _ = write!(text, " [{place}]{note} = {after}");
+            }
+        }
+        match text.is_empty() {
+            true => "writes nothing".to_string(),
+            false => format!("writes{text}"),
+        }
+    }
 }
 
 impl fmt::Display for Tally {
@@ -144,7 +220,6 @@ impl fmt::Display for Tally {
 /// Calls the library.
 fn run(call: Call, session: &[u64], output: &mut [u64]) -> u32 {
     match call {
-        Call::Identification { packet } => lists::identification(packet, output),
         Call::Sizes => lists::sizes(session, output),
         Call::BlockAt { number } => lists::block_at(session, number, output),
         Call::BlockNumber {
@@ -184,18 +259,23 @@ fn table_kind(call: TableCall) -> usize {
     }
 }
 
+/// All that is needed to repeat a call on a packet.
+fn describe_packet(name: &str, packet: &[u8]) -> String {
+    let shown = &packet[..packet.len().min(SHOWN)];
+    format!(
+        "call:     wedgepetal_{name}\npacket:   {} bytes: {}\n",
+        packet.len(),
+        hex(shown)
+    )
+}
+
 /// All that is needed to repeat a call.
 fn describe(call: Call, session: &[u64]) -> String {
     let mut text = format!("call:     wedgepetal_{}\n", KINDS[call.kind()]);
-    if let Call::Identification { packet } = call {
-        let shown = &packet[..packet.len().min(SHOWN)];
-        let _ = writeln!(text, "packet:   {} bytes: {}", packet.len(), hex(shown));
-    } else {
-        let _ = writeln!(text, "given:    {call:?}");
-        let _ = writeln!(text, "session:  {} numbers: {session:?}", session.len());
-        for (name, value) in NAMES.iter().zip(session) {
-            let _ = writeln!(text, "          {name} = {value}");
-        }
+    let _ = writeln!(text, "given:    {call:?}");
+    let _ = writeln!(text, "session:  {} numbers: {session:?}", session.len());
+    for (name, value) in NAMES.iter().zip(session) {
+        let _ = writeln!(text, "          {name} = {value}");
     }
     text
 }
@@ -212,8 +292,8 @@ fn describe_table(call: TableCall, table: &[u8]) -> String {
 }
 
 /// What was lent, what was expected, and what came of a call.
-fn outcome(output_length: usize, expected: &Answer, number: u32, memory: &[u64]) -> String {
-    let mut text = format!("output:   {output_length} numbers lent\n");
+fn outcome(expected: &Answer, number: u32, list: &List) -> String {
+    let mut text = format!("output:   {} numbers lent\n", list.length);
     match expected {
         Answer::Accepted(numbers) => {
             let _ = writeln!(text, "expected: 0, writes {numbers:?}");
@@ -222,30 +302,8 @@ fn outcome(output_length: usize, expected: &Answer, number: u32, memory: &[u64])
             let _ = writeln!(text, "expected: {number}, writes nothing");
         }
     }
-    let _ = writeln!(
-        text,
-        "got:      {number}, {}",
-        changes(memory, output_length)
-    );
+    let _ = writeln!(text, "got:      {number}, {}", list.changes());
     text
-}
-
-/// What a call changed in the lent memory and around it.
-fn changes(memory: &[u64], output_length: usize) -> String {
-    let mut text = String::new();
-    for (i, (after, before)) in memory.iter().zip(PATTERN).enumerate() {
-        if *after != before {
-            let place = i as i64 - GUARD as i64;
-            let outside = !(GUARD..GUARD + output_length).contains(&i);
-            let note = if outside { " (OUTSIDE)" } else { "" };
-            let _ = write!(text, " [{place}]{note} = {after}");
-        }
-    }
-    if text.is_empty() {
-        "writes nothing".to_string()
-    } else {
-        format!("writes{text}")
-    }
 }
 
 /// Bytes in hex.

@@ -14,7 +14,7 @@ use crate::reference::identification::identification;
 use crate::reference::samples::ways::Way;
 use crate::reference::session::SESSION_NUMBERS;
 use crate::reference::setup::setup;
-use recording::hash::hash;
+use crate::said;
 use std::collections::BTreeMap;
 use std::fmt;
 use std::fs::{self, File};
@@ -25,6 +25,12 @@ use std::vec::IntoIter;
 
 /// About how many blocks the damaged variants of a packet have together, at most.
 const BLOCKS_OF_VARIANTS: u64 = 1_000;
+
+/// Of how many frame packets of a recording every cut is tried, and about how
+/// many bits the cuts of a packet have together, at most: of a longer one not
+/// every cut is tried.
+const CUT_PACKETS: u64 = 2;
+const BITS_OF_CUTS: u64 = 2_000_000;
 
 /// With fewer recordings it is no fault if some case of four vectors was not
 /// met.
@@ -116,11 +122,13 @@ impl Run {
         let session = library::session(first)?;
         let mut players = Players::new(&mut self.random, &decoder, &session);
         let mut counts = Counts::default();
+        let cut: Vec<u64> = self.cut_packets(frames.len() as u64);
         for (number, packet) in (3..).zip(frames) {
             let libtheoras = said.libtheora.remove(&number);
             let libtheoras = libtheoras.ok_or("libtheora has fewer frames")?;
+            let cut = cut.contains(&(number as u64));
             let frame = self
-                .damaged(&players.reference, &caller, packet)
+                .damaged(&players.reference, &caller, packet, cut)
                 .and_then(|()| players.feed(&mut self.random, &caller, packet))
                 .and_then(|frame| counts.compare(frame, &libtheoras, &mut said.ffmpeg))
                 .map_err(|text| format!("frame {number}: {text}"))?;
@@ -130,8 +138,22 @@ impl Run {
         Ok(counts)
     }
 
-    /// Tries variants of a packet: the fewer the larger the frame.
-    fn damaged(&mut self, player: &Player, caller: &Caller, packet: &[u8]) -> Result<(), String> {
+    /// The numbers of the packets of which every cut is tried, of a recording
+    /// with so many frames: the first, and any others.
+    fn cut_packets(&mut self, frames: u64) -> Vec<u64> {
+        let others = (1..CUT_PACKETS).map(|_| 3 + self.random.below(frames.max(1)));
+        [3].into_iter().chain(others).collect()
+    }
+
+    /// Tries variants of a packet, the fewer the larger the frame, and its cuts
+    /// if they are wanted.
+    fn damaged(
+        &mut self,
+        player: &Player,
+        caller: &Caller,
+        packet: &[u8],
+        cut: bool,
+    ) -> Result<(), String> {
         let blocks = player.decoder.layout.sizes.nbs;
         let variants = self.random.below(2 + BLOCKS_OF_VARIANTS / blocks);
         let frame = Frame {
@@ -140,8 +162,13 @@ impl Run {
             golden: &player.golden,
             previous: &player.previous,
         };
-        self.damaged
-            .of_recording(&mut self.random, &frame, caller, packet, variants)
+        let (random, damaged) = (&mut self.random, &mut self.damaged);
+        if cut {
+            // The cuts of n bytes have 4n² bits.
+            let step = 1 + 4 * (packet.len() as u64).pow(2) / BITS_OF_CUTS;
+            damaged.cuts(random, &frame, caller, packet, step as usize)?;
+        }
+        damaged.of_recording(random, &frame, caller, packet, variants)
     }
 }
 
@@ -246,26 +273,12 @@ impl<'a> Players<'a> {
         let expected = lists.accepted(&Accepted::of(&read), self.reference.previous.clone());
         let left = library::hold(random, &lists, &expected)?;
         let frame = Decoded {
-            line: line(&left.answer, &left.new),
+            line: said::frame(read.kind, &read.qis, &left.new),
             packet: read,
         };
         self.library.hand_on(left);
         Ok(frame)
     }
-}
-
-/// A frame in libtheora's words, given its answer.
-fn line(answer: &[u64], frame: &[u8]) -> String {
-    let kind = ["intra", "inter", "repeat"][answer[0] as usize];
-    let qis: Vec<String> = answer[2..][..answer[1] as usize]
-        .iter()
-        .map(u64::to_string)
-        .collect();
-    let qis = match qis.is_empty() {
-        true => "-".to_string(),
-        false => qis.join(","),
-    };
-    format!("{kind} {qis} {:016x}", hash(frame))
 }
 
 /// Decodes packet after packet by the independent implementation.

@@ -4,9 +4,10 @@
 //! Each is given to the independent implementation, and what must hold of any
 //! decoder is tried on it: bytes behind the place reached change nothing, a
 //! packet that ends before it is refused by 4, a refusal by another number
-//! stands when bytes are appended, both ways make the same frame. Then it is
-//! given to the library, which must read all that the independent
-//! implementation reads, and answer and leave the same.
+//! stands, number and place, when bytes are appended, both ways make the same
+//! frame. Then it is given to the library, which must read all that the
+//! independent implementation reads, and answer (a refusal by number and place)
+//! and leave the same.
 
 use crate::four_cases::{FORMATS, FourCases};
 use crate::four_streams;
@@ -40,6 +41,8 @@ pub struct Report {
     /// Blocks that are DC-only, and others.
     blocks: [u64; 2],
     tokens: u64,
+    /// Packets of recordings, cut.
+    cuts: u64,
 }
 
 /// What a packet is decoded with.
@@ -165,6 +168,23 @@ impl Report {
         for _ in 0..variants {
             let other = variant(random, packet);
             self.of_packet(random, frame, caller, other.bytes(), &mut new)?;
+        }
+        Ok(())
+    }
+
+    /// Tries a recording's packet cut at each length, or at every so manieth.
+    pub fn cuts(
+        &mut self,
+        random: &mut Random,
+        frame: &Frame,
+        caller: &Caller,
+        packet: &[u8],
+        step: usize,
+    ) -> Result<(), String> {
+        let mut new = vec![random.byte(); frame.previous.len()];
+        for length in (0..=packet.len()).step_by(step) {
+            self.of_packet(random, frame, caller, &packet[..length], &mut new)?;
+            self.cuts += 1;
         }
         Ok(())
     }
@@ -340,7 +360,11 @@ fn possible() -> Vec<(Field, u32)> {
 impl fmt::Display for Report {
     fn fmt(&self, f: &mut fmt::Formatter<'_>) -> fmt::Result {
         let refused: u64 = self.faults.values().sum();
-        writeln!(f, "  accepted {:?}, refused {refused}", self.accepted)?;
+        writeln!(
+            f,
+            "  accepted {:?}, refused {refused}, cuts among them {}",
+            self.accepted, self.cuts
+        )?;
         writeln!(
             f,
             "  modes {:?}, tokens {}, blocks with DC only {}, others {}",

@@ -25,10 +25,10 @@ const SHOWN: usize = 20_000;
 /// The fresh session that the library gives of an identification header that
 /// is accepted.
 pub fn session(header: &[u8]) -> Result<[u64; SESSION_NUMBERS], String> {
-    let mut list = [0xA5; SESSION_NUMBERS];
-    let number = lists::identification(header, &mut list);
+    let (mut list, mut place) = ([0xA5; SESSION_NUMBERS], [0xA5]);
+    let number = lists::identification(header, &mut list, &mut place);
     let expected = identification(header).map(|fields| fields.session(0));
-    match number == 0 && expected == Ok(list) {
+    match number == 0 && place == [0] && expected == Ok(list) {
         true => Ok(list),
         false => Err(format!("{}: {number}, session {list:?}", hex(header))),
     }
@@ -53,9 +53,9 @@ pub fn work_lengths(fields: &Fields) -> Result<[u64; SLICES], String> {
 /// The table memory that the library's setup call leaves of a packet that is
 /// accepted.
 pub fn table(header: &[u8]) -> Result<Vec<u8>, String> {
-    let mut table = vec![0xA5; TABLE_BYTES];
-    let number = lists::setup(header, &mut table);
-    match number == 0 && table == left_by(header, &setup(header)) {
+    let (mut table, mut place) = (vec![0xA5; TABLE_BYTES], [0xA5]);
+    let number = lists::setup(header, &mut table, &mut place);
+    match number == 0 && place == [0] && table == left_by(header, &setup(header)) {
         true => Ok(table),
         false => Err(format!(
             "setup packet {}: {number}, table memory {}",

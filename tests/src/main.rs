@@ -19,6 +19,7 @@ mod packets;
 mod parts;
 mod random;
 mod reference;
+mod said;
 mod sessions;
 mod setup_header;
 mod setups;
@@ -37,7 +38,8 @@ const USAGE: &str = "\
 usage: compare [--packets N] [--sessions N] [--orders MAX] [--setups N]
                [--tables N] [--matrices N] [--frames N] [--calls N]
                [--lists N] [--parts N] [--seed S]
-               [--stream FILE.. | --decode FILE.. | --four FILE.. | --wild FILE.. | --time]
+               [--stream FILE.. | --decode FILE.. | --say FILE.. | --four FILE..
+                | --wild FILE.. | --time]
 
   --packets N   identification headers: valid, faulty, damaged, cut, extended (1000000)
   --sessions N  sessions, sound and not, each with every call on a session (500000)
@@ -59,6 +61,8 @@ usage: compare [--packets N] [--sessions N] [--orders MAX] [--setups N]
                 nothing but recordings, decoded by the independent implementation
                 and the library: every frame must be libtheora's; damaged packets;
                 lists of calls; comes last
+  --say FILE..  compares nothing: prints what the independent implementation says of
+                each packet of recordings; comes last
   --four FILE.. compares nothing: writes Ogg files with every case of four vectors,
                 in the formats 4:2:0, 4:2:2 and 4:4:4 in turn; comes last
   --wild FILE.. compares nothing: writes packet files of random frames, for
@@ -96,6 +100,8 @@ enum Instead {
     Headers(Vec<String>),
     /// They are decoded.
     Decode(Vec<String>),
+    /// What the independent implementation says of them is printed.
+    Say(Vec<String>),
     /// They are written, with every case of four vectors.
     Four(Vec<String>),
     /// They are written, of random frames.
@@ -134,7 +140,9 @@ fn main() -> ExitCode {
     };
     match compare(&options) {
         Ok(()) => {
-            println!("no difference");
+            if !matches!(options.instead, Some(Instead::Say(_))) {
+                println!("no difference");
+            }
             ExitCode::SUCCESS
         }
         Err(text) => {
@@ -152,6 +160,7 @@ fn options(words: &[String]) -> Result<Options, String> {
         let instead = match name.as_str() {
             "--stream" => Some(Instead::Headers as fn(_) -> _),
             "--decode" => Some(Instead::Decode as fn(_) -> _),
+            "--say" => Some(Instead::Say as fn(_) -> _),
             "--four" => Some(Instead::Four as fn(_) -> _),
             "--wild" => Some(Instead::Wild as fn(_) -> _),
             _ => None,
@@ -194,6 +203,7 @@ fn compare(options: &Options) -> Result<(), String> {
     match &options.instead {
         Some(Instead::Headers(files)) => return streams::compare(files),
         Some(Instead::Decode(files)) => return decoded::compare(files),
+        Some(Instead::Say(files)) => return said::say(files),
         Some(Instead::Four(files)) => return four_streams::write(files, options.seed),
         Some(Instead::Wild(files)) => return wild::write(files, options.seed),
         Some(Instead::Time) => {
@@ -334,6 +344,7 @@ mod tests {
         let headers = Instead::Headers(words("a b"));
         assert_eq!(instead("--seed 2 --stream a b"), Some(headers));
         assert_eq!(instead("--decode a"), Some(Instead::Decode(words("a"))));
+        assert_eq!(instead("--say a"), Some(Instead::Say(words("a"))));
         assert_eq!(instead("--four a"), Some(Instead::Four(words("a"))));
         assert_eq!(instead("--wild a"), Some(Instead::Wild(words("a"))));
         assert_eq!(instead("--time --seed 3"), Some(Instead::Time));

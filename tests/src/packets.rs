@@ -5,9 +5,9 @@ use crate::damage::{Packet, cut_anywhere, damage_bit, damage_byte, extend, rando
 use crate::fields;
 use crate::random::Random;
 use crate::reference::bits::Fault;
-use crate::reference::face::{Answer, Call, answer};
-use crate::reference::identification::{LAYOUT, identification};
-use crate::reference::session::{Fields, WIDTHS};
+use crate::reference::face::{Call, Identified, answer, identified};
+use crate::reference::identification::LAYOUT;
+use crate::reference::session::{Fields, SESSION_NUMBERS, WIDTHS};
 use recording::bit_writer::BitWriter;
 use std::fmt;
 
@@ -152,28 +152,34 @@ impl Report {
 
     /// Compares one packet, and for an accepted one the sizes of its session.
     pub fn compare(&mut self, packet: &[u8]) -> Result<(), Difference> {
-        let call = Call::Identification { packet };
-        match identification(packet) {
-            Err(fault) => {
-                self.count(fault);
-                self.tally
-                    .check(call, &[], 17, &Answer::Refused(fault.number))
-            }
-            Ok(fields) => {
-                let session = fields.session(0);
-                self.tally
-                    .check(call, &[], 17, &Answer::accepted(&session))?;
+        let left = self.compare_lengths(packet, SESSION_NUMBERS, 1)?;
+        match (left.session, left.place) {
+            (Some(session), _) => {
                 let sizes = answer(Call::Sizes, &session, 16);
                 self.tally.check(Call::Sizes, &session, 16, &sizes)
+            }
+            (None, place) => {
+                self.count(Fault {
+                    number: left.number,
+                    place: place.expect("both lists have their lengths"),
+                });
+                Ok(())
             }
         }
     }
 
-    /// Compares a packet with a session list of the wrong length.
-    fn compare_lengths(&mut self, packet: &[u8], length: usize) -> Result<(), Difference> {
-        let call = Call::Identification { packet };
+    /// Compares a packet with lists of these lengths for the session and the
+    /// place.
+    fn compare_lengths(
+        &mut self,
+        packet: &[u8],
+        session: usize,
+        place: usize,
+    ) -> Result<Identified, Difference> {
+        let expected = identified(packet, session, place);
         self.tally
-            .check(call, &[], length, &answer(call, &[], length))
+            .check_identification(packet, [session, place], &expected)?;
+        Ok(expected)
     }
 
     /// Counts a fault by its field and number.
@@ -246,18 +252,27 @@ pub fn compare(random: &mut Random, packets: u64) -> Result<Report, Difference> 
         let packet = packet(random);
         report.compare(packet.bytes())?;
         if random.once_in(64) {
-            let length = random.pick(&[0, 1, 16, 18]);
-            report.compare_lengths(packet.bytes(), length)?;
+            let (session, place) = match random.below(3) {
+                0 => (random.pick(&[0, 1, 16, 18]), 1),
+                1 => (SESSION_NUMBERS, random.pick(&[0, 2, 17])),
+                _ => (random.pick(&[0, 1, 16, 18]), random.pick(&[0, 2, 17])),
+            };
+            report.compare_lengths(packet.bytes(), session, place)?;
         }
     }
     Ok(report)
 }
 
+/// A header cut at each length.
+pub fn every_cut(report: &mut Report, header: &[u8]) -> Result<(), Difference> {
+    (0..=header.len()).try_for_each(|length| report.compare(&header[..length]))
+}
+
 /// One header, each of its bits flipped or none, cut at each length.
 fn every_bit_and_cut(random: &mut Random, report: &mut Report) -> Result<(), Difference> {
     let header = Header::valid(random).bytes();
+    every_cut(report, &header)?;
     for length in 0..=HEADER_BYTES {
-        report.compare(&header[..length])?;
         for bit in 0..8 * HEADER_BYTES {
             let mut damaged = header.clone();
             damaged[bit / 8] ^= 0x80 >> (bit % 8);
@@ -280,6 +295,7 @@ fn long_packet(random: &mut Random, report: &mut Report) -> Result<(), Differenc
 #[cfg(test)]
 mod tests {
     use super::*;
+    use crate::reference::identification::identification;
 
     #[test]
     fn valid_headers_read_back() {

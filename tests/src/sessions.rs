@@ -94,7 +94,7 @@ fn lengths(
 }
 
 /// The call with this index in `KINDS`, inside the frame, at its border, or anywhere.
-fn call(random: &mut Random, kind: usize, fields: &Fields, frame: Option<&Sizes>) -> Call<'static> {
+fn call(random: &mut Random, kind: usize, fields: &Fields, frame: Option<&Sizes>) -> Call {
     match kind {
         1 => Call::Sizes,
         2 => Call::BlockAt {

@@ -1,7 +1,7 @@
 //! Setup packets: valid, damaged in a bit, a byte or a field, cut, extended,
 //! with bad trees, random.
 
-use crate::check::{Difference, SETUP, Tally, long_hex};
+use crate::check::{Difference, List, SETUP, Tally, long_hex};
 use crate::damage::overwrite;
 use crate::damage::{
     Packet, cut_anywhere, cut_in_field, damage_bit, damage_byte, extend, random_tail,
@@ -60,8 +60,12 @@ impl Report {
         let read = setup(packet);
         let table = left_by(packet, &read);
         self.count(&read);
-        let number = read.as_ref().map_or_else(|fault| fault.fault.number, |_| 0);
-        self.call(packet, TABLE_BYTES, number, Some(&table))?;
+        let (number, place) = match &read {
+            Ok(_) => (0, 0),
+            Err(SetupFault { fault, .. }) => (fault.number, fault.place),
+        };
+        let lengths = [TABLE_BYTES, 1];
+        self.call(packet, lengths, (number, Some(place)), Some(&table))?;
         Ok(read)
     }
 
@@ -81,37 +85,46 @@ impl Report {
         Ok(())
     }
 
-    /// Compares a packet with table memory of the wrong length.
-    fn compare_length(&mut self, packet: &[u8], length: usize) -> Result<(), Difference> {
-        self.call(packet, length, 1, None)
+    /// Compares a packet with a table memory or a list for the place of the
+    /// wrong length. The place is 0, or not written.
+    fn compare_lengths(&mut self, packet: &[u8], lengths: [usize; 2]) -> Result<(), Difference> {
+        let place = (lengths[1] == 1).then_some(0);
+        self.call(packet, lengths, (1, place), None)
     }
 
-    /// Calls the library and compares its answer, table memory and what lies
-    /// around it with what is expected (none: untouched).
+    /// Calls the library and compares its answer, table memory, the place and
+    /// what lies around them with what is expected (none: untouched). The lengths
+    /// are those of table memory and of the list for the place.
     fn call(
         &mut self,
         packet: &[u8],
-        length: usize,
-        expected: u32,
+        [length, place_length]: [usize; 2],
+        (expected, expected_place): (u32, Option<u64>),
         table: Option<&[u8]>,
     ) -> Result<(), Difference> {
         let shown = length + 2 * GUARD;
         let lent = GUARD..GUARD + length;
         self.memory[..shown].copy_from_slice(&self.pattern[..shown]);
-        let number = lists::setup(packet, &mut self.memory[lent.clone()]);
+        let mut place = List::new(place_length);
+        let number = lists::setup(packet, &mut self.memory[lent.clone()], place.lent());
+        let wanted_place = expected_place.map(|place| [place]);
+        let same_place = place.holds(wanted_place.as_ref().map(|list| &list[..]));
         let wanted = table.unwrap_or(&self.pattern[lent.clone()]);
         let around = self.memory[..GUARD] == self.pattern[..GUARD]
             && self.memory[lent.end..shown] == self.pattern[lent.end..shown];
-        if number != expected || self.memory[lent.clone()] != *wanted || !around {
+        let same = self.memory[lent.clone()] == *wanted && around && same_place;
+        if number != expected || !same {
             let given = format!(
-                "call:     wedgepetal_setup\npacket:   {}\ntable:    {length} bytes lent\n",
+                "call:     wedgepetal_setup\npacket:   {}\n\
+                 table:    {length} bytes lent, place {place_length}\n",
                 long_hex(packet)
             );
             let got = &self.memory[lent];
-            let place = (0..length).find(|i| got[*i] != wanted[*i]);
+            let first = (0..length).find(|i| got[*i] != wanted[*i]);
             let came = format!(
-                "expected: {expected}\ngot:      {number}, first wrong byte {place:?}, \
-                 around it {}\n",
+                "expected: {expected}, place {expected_place:?}\n\
+                 got:      {number}, place {}, first wrong byte {first:?}, around it {}\n",
+                place.changes(),
                 if around { "all well" } else { "MEMORY CHANGED" }
             );
             return Err(Difference::new(&given, &came));
@@ -274,7 +287,12 @@ fn of_one_header(random: &mut Random, report: &mut Report) -> Result<(), Differe
         report.compare_and_cut(packet.bytes())?;
         if random.once_in(64) {
             let length = random.pick(&[0, 1, TABLE_BYTES - 1, TABLE_BYTES + 1, LONGEST]);
-            report.compare_length(packet.bytes(), length)?;
+            let lengths = match random.below(3) {
+                0 => [length, 1],
+                1 => [TABLE_BYTES, random.pick(&[0, 2, 17])],
+                _ => [length, random.pick(&[0, 2, 17])],
+            };
+            report.compare_lengths(packet.bytes(), lengths)?;
         }
     }
     Ok(())

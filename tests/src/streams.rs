@@ -68,7 +68,7 @@ impl Run {
         let [first, _, third, ..] = &packets[..] else {
             return Err(format!("{} packets only", packets.len()));
         };
-        self.packets.compare(first).map_err(text)?;
+        packets::every_cut(&mut self.packets, first).map_err(text)?;
         let fields = identification(first).map_err(|fault| format!("{fault:?}"))?;
         let setup = self.setup(third)?;
         let beside = path.with_extension("txt");

@@ -44,7 +44,7 @@ const FLAGS: [Flag; 10] = [
     flag(
         "--index",
         Some("FILE.csv"),
-        "writes a line for each packet: stream, packet, frame, kind, qi, refusal, its meaning, time",
+        "writes a line for each packet: stream, packet, frame, kind, qi, the refusal's number, bit place and meaning, time",
     ),
     flag(
         "--frame",

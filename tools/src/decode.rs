@@ -231,7 +231,8 @@ impl Decoder<'_> {
         }
         let answer = player.decode(&packet.bytes);
         playing.gap = playing.gap.filter(|_| answer.is_err());
-        let left_out = playing.gap.is_some() && answer == Err(Refusal::NO_REFERENCES);
+        let no_references = |refusal: Refusal| refusal.number == Refusal::NO_REFERENCES.number;
+        let left_out = playing.gap.is_some() && answer.is_err_and(no_references);
         let answer = Answer {
             packet: number,
             number: self.frames,
@@ -246,25 +247,27 @@ impl Decoder<'_> {
             written.map_err(Failure::File)?;
         }
         let answer = answer.answer;
-        self.count(playing, number, answer, left_out);
+        self.count(playing, number, packet.bytes.len(), answer, left_out);
         self.flow()
     }
 
-    /// Counts the answer to a packet, and says a refusal.
+    /// Counts the answer to a packet of so many bytes, and says a refusal.
     fn count(
         &mut self,
         playing: &mut Playing,
         number: u64,
+        bytes: usize,
         answer: Result<FrameAnswer, Refusal>,
         left_out: bool,
     ) {
         match playing.gap {
             Some(gap) if left_out => playing.summary.gaps[gap].left_out += 1,
-            _ => playing.summary.count(&answer),
+            _ => playing.summary.count(number, &answer),
         }
         match answer {
             Ok(_) => self.frames += 1,
             Err(refusal) if !left_out => {
+                let refusal = refusal.in_packet(bytes);
                 let text = format!("{}: packet {number}: {refusal}", self.name);
                 match playing.summary.refused() {
                     0..SAID_MOST => self.progress.say(&text),
@@ -377,10 +380,13 @@ impl Playing {
 /// A player of a stream with these three headers. The second, with its
 /// comments, is not looked at.
 fn player(headers: &[Vec<u8>], limit: &Limit) -> Result<Player, String> {
-    let session = identification(&headers[0])
-        .map_err(|refusal| format!("packet 0, the identification header: {refusal}"))?;
-    let table =
-        setup(&headers[2]).map_err(|refusal| format!("packet 2, the setup header: {refusal}"))?;
+    let said = |number: usize, name: &str, refusal: Refusal| {
+        let refusal = refusal.in_packet(headers[number].len());
+        format!("packet {number}, the {name} header: {refusal}")
+    };
+    let session =
+        identification(&headers[0]).map_err(|refusal| said(0, "identification", refusal))?;
+    let table = setup(&headers[2]).map_err(|refusal| said(2, "setup", refusal))?;
     match limit.excess(&session) {
         Ok(None) => Player::new(session, table).map_err(|why| why.to_string()),
         Ok(Some(text)) => Err(text),

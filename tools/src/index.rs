@@ -4,10 +4,9 @@ use crate::clock::Time;
 use crate::output::{Answer, kind_name, qi_list};
 use crate::target::Target;
 use std::path::Path;
-use wedgepetal::Refusal;
 
 /// The names of the columns.
-const COLUMNS: &str = "stream,packet,frame,kind,qi,refusal,meaning,time_s\n";
+const COLUMNS: &str = "stream,packet,frame,kind,qi,refusal,bit,meaning,time_s\n";
 
 /// A line for each packet and each gap.
 pub struct Index(Target);
@@ -44,12 +43,13 @@ impl Index {
             Ok(accepted) => {
                 let (number, kind) = (answer.number, kind_name(accepted.kind));
                 let qis = qi_list(&accepted, " ");
-                format!("{stream},{packet},{number},{kind},{qis},,,{time}\n")
+                format!("{stream},{packet},{number},{kind},{qis},,,,{time}\n")
             }
-            Err(refusal @ Refusal(number)) => {
+            Err(refusal) => {
                 let kind = if left_out { "left out" } else { "refused" };
+                let (number, bit) = (refusal.number, refusal.place);
                 let meaning = quoted(refusal.meaning());
-                format!("{stream},{packet},,{kind},,{number},{meaning},{time}\n")
+                format!("{stream},{packet},,{kind},,{number},{bit},{meaning},{time}\n")
             }
         };
         self.0.write(|out| out.write_all(line.as_bytes()))
@@ -57,7 +57,7 @@ impl Index {
 
     /// The line of a gap, between two packets.
     pub fn gap(&mut self, stream: u64, what: &str, time: Time) -> Result<(), String> {
-        let line = format!("{stream},,,gap,,,{},{time}\n", quoted(what));
+        let line = format!("{stream},,,gap,,,,{},{time}\n", quoted(what));
         self.0.write(|out| out.write_all(line.as_bytes()))
     }
 

@@ -27,10 +27,10 @@ pub struct Info {
 /// What a Theora stream is.
 struct StreamInfo {
     stream: Stream,
-    /// Its fields, sizes and memory, or why the header is refused.
-    header: Result<Header, Refusal>,
-    /// Why the setup header is refused.
-    setup: Option<Refusal>,
+    /// Its fields, sizes and memory, or why and where the header is refused.
+    header: Result<Header, String>,
+    /// Why and where the setup header is refused.
+    setup: Option<String>,
     /// How many packets there are, headers included.
     packets: u64,
     gaps: Vec<Gap>,
@@ -192,7 +192,7 @@ impl StreamInfo {
     fn new(stream: Stream) -> StreamInfo {
         StreamInfo {
             stream,
-            header: Err(Refusal::PACKET_END),
+            header: Err(Refusal::PACKET_END.in_packet(0)),
             setup: None,
             packets: 0,
             gaps: Vec::new(),
@@ -206,12 +206,16 @@ impl StreamInfo {
     fn packet(&mut self, packet: &Packet) {
         match self.packets {
             0 => {
-                self.header = Header::read(&packet.bytes);
+                let header = Header::read(&packet.bytes);
+                self.header = header.map_err(|refusal| refusal.in_packet(packet.bytes.len()));
                 let header = self.header.as_ref().ok();
                 self.clock = header.map(|header| Clock::of(&header.session));
             }
             1 => {}
-            2 => self.setup = setup(&packet.bytes).err(),
+            2 => {
+                let refusal = setup(&packet.bytes).err();
+                self.setup = refusal.map(|refusal| refusal.in_packet(packet.bytes.len()));
+            }
             _ => {
                 if let Some(clock) = &mut self.clock {
                     let position = clock.tick(packet.granule);
@@ -233,7 +237,7 @@ impl StreamInfo {
         if let Err(refusal) = &self.header {
             faults.push(format!("identification header: {refusal}"));
         }
-        if let Some(refusal) = self.setup {
+        if let Some(refusal) = &self.setup {
             faults.push(format!("setup header: {refusal}"));
         }
         if self.packets < 3 && kind != Kind::Header {
@@ -403,10 +407,13 @@ mod tests {
         for length in 7..42 {
             let info = info(header[..length].to_vec()).unwrap_or_else(|_| panic!("{length}"));
             assert!(!info.is_clean());
+            let faults = info.faults("x");
             assert!(
-                info.faults("x")
-                    .contains("identification header: refusal 4")
+                faults.contains("identification header: refused by 4, "),
+                "{faults}"
             );
+            let end = format!(" of {}\n", 8 * length);
+            assert!(faults.ends_with(&end), "{faults}");
         }
     }
 

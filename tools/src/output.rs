@@ -181,7 +181,8 @@ fn begin_film(
     }
 }
 
-/// The line of a packet, as the texts of test streams have it.
+/// The line of a packet, as the texts of test streams have it; a refusal with
+/// its number and bit place.
 fn hash_line(answer: &Answer<'_>) -> String {
     let packet = answer.packet;
     match (answer.answer, answer.frame()) {
@@ -193,7 +194,9 @@ fn hash_line(answer: &Answer<'_>) -> String {
             let kind = kind_name(accepted.kind);
             format!("frame {packet} {kind} {qis} {:016x}\n", hash(frame.bytes()))
         }
-        (Err(Refusal(number)), _) => format!("frame {packet} refused {number}\n"),
+        (Err(Refusal { number, place }), _) => {
+            format!("frame {packet} refused {number} at {place}\n")
+        }
         (Ok(_), None) => unreachable!("an accepted packet gives a frame"),
     }
 }

@@ -25,14 +25,22 @@ pub struct StreamSummary {
     intra: u64,
     inter: u64,
     repeat: u64,
-    /// How many packets were refused by each number.
-    refused: BTreeMap<u32, u64>,
+    /// What was refused by each number.
+    refused: BTreeMap<u32, Refused>,
     /// Where it does not go on as it should.
     pub gaps: Vec<GapSummary>,
     /// Why it was not read, or not to its end.
     pub stop: Option<String>,
     /// How it ends, if it was read so far.
     pub end: Option<End>,
+}
+
+/// What was refused by a number.
+struct Refused {
+    /// How many packets.
+    packets: u64,
+    /// The first of them, and where in it.
+    first: (u64, Refusal),
 }
 
 /// What became of a gap.
@@ -62,15 +70,21 @@ impl StreamSummary {
         }
     }
 
-    /// Counts the answer to a packet.
-    pub fn count(&mut self, answer: &Result<FrameAnswer, Refusal>) {
+    /// Counts the answer to the packet of this number.
+    pub fn count(&mut self, packet: u64, answer: &Result<FrameAnswer, Refusal>) {
         match answer {
             Ok(FrameAnswer { kind, .. }) => match kind {
                 Kind::Intra => self.intra += 1,
                 Kind::Inter => self.inter += 1,
                 Kind::Repeat => self.repeat += 1,
             },
-            Err(Refusal(number)) => *self.refused.entry(*number).or_default() += 1,
+            Err(refusal) => {
+                let first = Refused {
+                    packets: 0,
+                    first: (packet, *refusal),
+                };
+                self.refused.entry(refusal.number).or_insert(first).packets += 1;
+            }
         }
     }
 
@@ -81,7 +95,7 @@ impl StreamSummary {
 
     /// How many packets were refused.
     pub fn refused(&self) -> u64 {
-        self.refused.values().sum()
+        self.refused.values().map(|refused| refused.packets).sum()
     }
 
     /// Whether all of it was read and accepted.
@@ -93,11 +107,14 @@ impl StreamSummary {
     }
 
     fn json(&self) -> Json {
-        let refused = self.refused.iter().map(|(number, times)| {
+        let refused = self.refused.values().map(|refused| {
+            let (packet, refusal) = refused.first;
             Json::Object(vec![
-                ("refusal", Json::Number(u64::from(*number))),
-                ("meaning", Json::text(Refusal(*number).meaning())),
-                ("packets", Json::Number(*times)),
+                ("refusal", Json::Number(u64::from(refusal.number))),
+                ("meaning", Json::text(refusal.meaning())),
+                ("packets", Json::Number(refused.packets)),
+                ("first_packet", Json::Number(packet)),
+                ("first_bit", Json::Number(refusal.place)),
             ])
         });
         Json::Object(vec![
@@ -132,8 +149,13 @@ impl fmt::Display for StreamSummary {
             0 => writeln!(f, ", no packet refused")?,
             refused => writeln!(f, ", packets refused: {refused}")?,
         }
-        for (number, times) in &self.refused {
-            writeln!(f, "  {times} by {}", Refusal(*number))?;
+        for Refused { packets, first } in self.refused.values() {
+            let (packet, refusal) = first;
+            let (number, meaning) = (refusal.number, refusal.meaning());
+            writeln!(
+                f,
+                "  {packets} by {number}, {meaning}; the first is packet {packet}"
+            )?;
         }
         for gap in &self.gaps {
             writeln!(f, "  {gap}")?;

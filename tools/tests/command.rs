@@ -40,11 +40,11 @@ fn the_sample_in_every_form() {
     let rows: Vec<&str> = index.lines().collect();
     assert_eq!(
         rows[0],
-        "stream,packet,frame,kind,qi,refusal,meaning,time_s"
+        "stream,packet,frame,kind,qi,refusal,bit,meaning,time_s"
     );
     assert_eq!(
         (rows[1], rows[5]),
-        ("1,3,0,intra,20,,,0.000000", "1,7,4,repeat,,,,0.160000")
+        ("1,3,0,intra,20,,,,0.000000", "1,7,4,repeat,,,,,0.160000")
     );
     assert_eq!(rows.len(), 8);
 }
@@ -249,19 +249,48 @@ fn refusals_are_said_and_passed_over() {
     fs::write(folder.join("longer"), longer).unwrap();
     let (status, out, err) = run(&folder, "hashes longer h --index i");
     assert_eq!(status, 1);
-    let meaning = "refusal 10: the first bit of a frame packet is 1";
-    assert_eq!(err, format!("wedgepetal: longer: packet 10: {meaning}\n"));
+    let meaning = "10, the first bit of a frame packet is 1";
+    assert_eq!(
+        err,
+        format!("wedgepetal: longer: packet 10: refused by {meaning}, at bit 0 of 8\n")
+    );
     assert_eq!(
         out,
         format!(
-            "longer: 8 frames (1 intra, 5 inter, 2 repeat), packets refused: 1\n  1 by {meaning}\n"
+            "longer: 8 frames (1 intra, 5 inter, 2 repeat), packets refused: 1\n  1 by {meaning}; the first is packet 10\n"
         )
     );
     let hashes = fs::read_to_string(folder.join("h")).unwrap();
-    assert!(hashes.contains("frame 10 refused 10\nframe 11 repeat - "));
+    assert!(hashes.contains("frame 10 refused 10 at 0\nframe 11 repeat - "));
     let index = fs::read_to_string(folder.join("i")).unwrap();
-    let row = "1,10,,refused,,10,\"the first bit of a frame packet is 1\",0.280000\n1,11,7,repeat,,,,0.320000\n";
+    let row = "1,10,,refused,,10,0,\"the first bit of a frame packet is 1\",0.280000\n1,11,7,repeat,,,,,0.320000\n";
     assert!(index.ends_with(row), "{index}");
+}
+
+#[test]
+fn a_cut_packet_is_refused_where_it_ends() {
+    let folder = folder("cut_packet");
+    let mut packets = sample_packets(&folder);
+    packets[3].truncate(1113);
+    let bits = 8 * packets[3].len();
+    fs::write(folder.join("c"), recording::packet_file::write(&packets)).unwrap();
+    let (status, _, err) = run(&folder, "hashes c h --index i");
+    assert_eq!(status, 1);
+    let first = err.lines().next().unwrap_or_default();
+    let said =
+        "wedgepetal: c: packet 3: refused by 4, a read passes the end of the packet, at bit ";
+    let place = first.strip_prefix(said).unwrap_or_else(|| panic!("{err}"));
+    let (place, all) = place.split_once(" of ").unwrap();
+    let number = |text: &str| text.replace(',', "").parse::<usize>().unwrap();
+    assert_eq!(number(all), bits);
+    assert!((bits - 31..=bits).contains(&number(place)), "{err}");
+    assert!(place.contains(','), "{err}");
+    let hashes = fs::read_to_string(folder.join("h")).unwrap();
+    let line = format!("stream 1\nframe 3 refused 4 at {}\n", number(place));
+    assert!(hashes.starts_with(&line), "{hashes}");
+    let index = fs::read_to_string(folder.join("i")).unwrap();
+    let row = format!("\n1,3,,refused,,4,{},\"a read passes", number(place));
+    assert!(index.contains(&row), "{index}");
 }
 
 #[test]

@@ -64,7 +64,7 @@ fn joined_ogg_files_are_read_one_after_the_other() {
     assert_eq!(film.len(), 43 + 21 * (6 + 320 * 232 * 3 / 2));
     let index = fs::read_to_string(folder.join("j.csv")).unwrap();
     assert!(
-        index.contains("\n1,9,6,inter,20,,,0.240000\n2,3,7,intra,20,,,0.000000\n"),
+        index.contains("\n1,9,6,inter,20,,,,0.240000\n2,3,7,intra,20,,,,0.000000\n"),
         "{index}"
     );
     good(&folder, "frames j.ogv frames");
@@ -176,7 +176,7 @@ fn a_flipped_bit_in_an_ogg_file_stops_reading() {
     );
     let index = fs::read_to_string(folder.join("i")).unwrap();
     assert!(
-        index.contains(",gap,,,\"page 12 is damaged or missing, before byte "),
+        index.contains(",gap,,,,\"page 12 is damaged or missing, before byte "),
         "{index}"
     );
     let (status, text, _) = run(&folder, "info d.ogv");
@@ -205,13 +205,13 @@ fn behind_a_flipped_bit_an_ogg_file_goes_on_at_a_key_frame() {
     );
     let index = fs::read_to_string(folder.join("i")).unwrap();
     let rows: Vec<&str> = index.lines().collect();
-    assert_eq!(rows[9], "1,11,8,inter,20,,,0.320000");
+    assert_eq!(rows[9], "1,11,8,inter,20,,,,0.320000");
     assert!(rows[10].starts_with("1,,,gap,") && rows[10].ends_with(",0.360000"));
     assert_eq!(
         rows[11],
-        "1,12,,left out,,9,\"an inter or empty packet and no references\",0.400000"
+        "1,12,,left out,,9,1,\"an inter or empty packet and no references\",0.400000"
     );
-    assert_eq!(rows[15], "1,16,9,intra,20,,,0.560000");
+    assert_eq!(rows[15], "1,16,9,intra,20,,,,0.560000");
     // Every frame that is there is one of the whole recording.
     damaged(&folder, |_| ());
     good(&folder, "frames d.ogv whole");

@@ -61,7 +61,7 @@ unfolding unary
 unary-inside zero r = pure-inside r
 unary-inside (suc n) r = bind-inside (field-inside 1) (λ b. pick-inside (eqb b 0) (pure-inside r) (unary-inside n (r + 1)))
 
-pub unary-refuses : {ks : List ℕ} (n r : ℕ) → among ks 4 ≡ true → Refuses ks (unary n r)
+pub unary-refuses : {ks : List ℕ} → among ks 4 ≡ true → (n r : ℕ) → Refuses ks (unary n r)
 unfolding unary
-unary-refuses zero r h = pure-refuses r
-unary-refuses (suc n) r h = bind-refuses (field-refuses 1 h) (λ b. pick-refuses (eqb b 0) (pure-refuses r) (unary-refuses n (r + 1) h))
+unary-refuses h zero r = pure-refuses r
+unary-refuses h (suc n) r = bind-refuses (field-refuses 1 h) (λ b. pick-refuses (eqb b 0) (pure-refuses r) (unary-refuses h n (r + 1)))

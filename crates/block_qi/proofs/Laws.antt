@@ -7,14 +7,16 @@ use mathlib.Core.List.{List, [], _∷_}
 use mathlib.Core.Bool.{Bool, true, false}
 use lib.Dec.{eqb}
 use lib.ListN.{length, getD, drop, set, length-set}
+use Rattle.bitstream.specs.Lists.{among}
 use Rattle.bitstream.specs.Reading.{got, pure, choose}
 use Rattle.bitstream.proofs.Laws.{Lawful, pure-lawful, bind-lawful, bind-got}
+use Rattle.bitstream.proofs.Inside.{Inside, pure-inside, bind-inside, Refuses, pure-refuses, bind-refuses}
 use Rattle.bitstream.proofs.Spends.{Spends, spends-more, pure-spends, bind-spends}
 use Rattle.bitstream.specs.Lists.{AllBelow, one, none}
 use Rattle.bitstream.proofs.ListLaws.{set-cases}
 use Rattle.runs.specs.Runs.{bitString}
 use Rattle.runs.specs.declared.RunCode.the-variants.{Long}
-use Rattle.runs.proofs.Laws.{bitString-lawful, bitString-spends}
+use Rattle.runs.proofs.Laws.{bitString-lawful, bitString-inside, bitString-refuses, bitString-spends}
 use Rattle.runs.proofs.Strings.{string-bits}
 use Rattle.block_record.specs.declared.BlockRecord.{BlockRecord}
 use Rattle.block_record.specs.Record.{uncoded, withQiIndex}
@@ -33,6 +35,35 @@ steps-lawful (suc n) q coded rs = bind-lawful (step-lawful q coded rs) (steps-la
 pub qi-lawful : (n : ℕ) (coded : List ℕ) (rs : List BlockRecord) → Lawful (blockQi n coded rs)
 unfolding blockQi
 qi-lawful n coded rs = steps-lawful (n - 1) 0 coded rs
+
+-- ---- what is refused lies in the packet
+step-inside : {d : ℕ} (q : ℕ) (coded : List ℕ) (rs : List BlockRecord) → Inside d (oneStep q coded rs)
+unfolding oneStep
+step-inside q coded rs = bind-inside (bitString-inside Long (atStep q coded rs)) (λ bits. pure-inside _)
+
+steps-inside : {d : ℕ} (n q : ℕ) (coded : List ℕ) (rs : List BlockRecord) → Inside d (steps n q coded rs)
+unfolding steps
+steps-inside zero q coded rs = pure-inside rs
+steps-inside (suc n) q coded rs = bind-inside (step-inside q coded rs) (steps-inside n (q + 1) coded)
+
+pub qi-inside : {d : ℕ} (n : ℕ) (coded : List ℕ) (rs : List BlockRecord) → Inside d (blockQi n coded rs)
+unfolding blockQi
+qi-inside n coded rs = steps-inside (n - 1) 0 coded rs
+
+-- ---- and is refused by 4 or 12
+module _ {ks : List ℕ} (four : among ks 4 ≡ true) (twelve : among ks 12 ≡ true) where
+  step-refuses : (q : ℕ) (coded : List ℕ) (rs : List BlockRecord) → Refuses ks (oneStep q coded rs)
+  unfolding oneStep
+  step-refuses q coded rs = bind-refuses (bitString-refuses four twelve Long (atStep q coded rs)) (λ bits. pure-refuses _)
+
+  steps-refuses : (n q : ℕ) (coded : List ℕ) (rs : List BlockRecord) → Refuses ks (steps n q coded rs)
+  unfolding steps
+  steps-refuses zero q coded rs = pure-refuses rs
+  steps-refuses (suc n) q coded rs = bind-refuses (step-refuses q coded rs) (steps-refuses n (q + 1) coded)
+
+  pub qi-refuses : (n : ℕ) (coded : List ℕ) (rs : List BlockRecord) → Refuses ks (blockQi n coded rs)
+  unfolding blockQi
+  qi-refuses n coded rs = steps-refuses (n - 1) 0 coded rs
 
 -- ---- bits that are spent: a step has at most a bit for each coded block, and 19 for each of these
 at-most : (q : ℕ) (coded : List ℕ) (rs : List BlockRecord) → atStep q coded rs ≤ length coded

@@ -8,12 +8,14 @@ use mathlib.Core.Bool.{Bool, true, false}
 use lib.Dec.{eqb}
 use lib.ListN.{length, getD, take, drop, replicate, length-append, length-drop, length-replicate}
 use lib.Seq.{length-take-le}
+use Rattle.bitstream.specs.Lists.{among}
 use Rattle.bitstream.specs.Reading.{got, pure, bind, choose}
 use Rattle.bitstream.proofs.Laws.{Lawful, pure-lawful, bind-lawful, bind-got}
+use Rattle.bitstream.proofs.Inside.{Inside, pure-inside, bind-inside, Refuses, pure-refuses, bind-refuses}
 use Rattle.bitstream.proofs.Spends.{Spends, spends-more, pure-spends, bind-spends, bind-spends-got}
 use Rattle.runs.specs.Runs.{bitString}
 use Rattle.runs.specs.declared.RunCode.the-variants.{Long, Short}
-use Rattle.runs.proofs.Laws.{bitString-lawful, bitString-spends}
+use Rattle.runs.proofs.Laws.{bitString-lawful, bitString-inside, bitString-refuses, bitString-spends}
 use Rattle.runs.proofs.Strings.{string-length}
 use Rattle.geometry.specs.declared.PixelFormat.{PixelFormat}
 use Rattle.geometry.specs.Sizes.{blocksOf, superBlocksOf}
@@ -29,6 +31,26 @@ supers-lawful n = bind-lawful (bitString-lawful Long n) (λ partly. bind-lawful 
 pub flags-lawful : (f : PixelFormat) (w h : ℕ) → Lawful (interFlags f w h)
 unfolding interFlags
 flags-lawful f w h = bind-lawful (supers-lawful (superBlocksOf f w h)) (λ s. bind-lawful (bitString-lawful Short (partlyBlocks (superSizes f w h) (s .partly))) (λ bits. pure-lawful _))
+
+-- ---- what is refused lies in the packet
+supers-inside : {d : ℕ} (n : ℕ) → Inside d (superFlags n)
+unfolding superFlags
+supers-inside n = bind-inside (bitString-inside Long n) (λ partly. bind-inside (bitString-inside Long (rest partly)) (λ full. pure-inside _))
+
+pub flags-inside : {d : ℕ} (f : PixelFormat) (w h : ℕ) → Inside d (interFlags f w h)
+unfolding interFlags
+flags-inside f w h = bind-inside (supers-inside (superBlocksOf f w h)) (λ s. bind-inside (bitString-inside Short (partlyBlocks (superSizes f w h) (s .partly))) (λ bits. pure-inside _))
+
+-- ---- and is refused by 4 or 12
+module _ {ks : List ℕ} (four : among ks 4 ≡ true) (twelve : among ks 12 ≡ true) where
+  supers-refuses : (n : ℕ) → Refuses ks (superFlags n)
+  unfolding superFlags
+  supers-refuses n = bind-refuses (bitString-refuses four twelve Long n) (λ partly. bind-refuses (bitString-refuses four twelve Long (rest partly)) (λ full. pure-refuses _))
+
+  pub flags-refuses : (f : PixelFormat) (w h : ℕ) → Refuses ks (interFlags f w h)
+  unfolding interFlags
+  flags-refuses f w h =
+      bind-refuses (supers-refuses (superBlocksOf f w h)) (λ s. bind-refuses (bitString-refuses four twelve Short (partlyBlocks (superSizes f w h) (s .partly))) (λ bits. pure-refuses _))
 
 -- ---- bits that are spent: 19 for each bit of the three strings, of which two have at most a bit for each super block and one a bit for each block
 supers-spends : (n : ℕ) → Spends (n * 38) (superFlags n)

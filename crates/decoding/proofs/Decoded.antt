@@ -185,7 +185,7 @@ module _ (s : Session) (setup : Setup) (packet nodes : List ℕ) (et : treesOf n
   work-is = em ∙ (λ i. workAfter (ef i) (s .fields .fmbw) (s .fields .fmbh) (same i))
 
   module _ (golden previous new : List ℕ) where
-    pub on-refused : {k e : ℕ} → r .read ≡ Refused k e → (a : FrameAnswer) → a ≡ answerFor s (refused k 0) → (dc : List ℤ) → dc ≡ replicate (blocks s) (pos 0)
+    pub on-refused : {k e : ℕ} → r .read ≡ Refused k e → (a : FrameAnswer) → a ≡ answerFor s (refused k e) → (dc : List ℤ) → dc ≡ replicate (blocks s) (pos 0)
         → done a new (record { work = m; dc = dc }) ≡ decoded firstWay (state s golden previous) new (readBy s setup packet)
     on-refused {k} {e} h a ea dc ed =
         let g = read-refused o answer-is h in

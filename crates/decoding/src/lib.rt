@@ -156,7 +156,7 @@ fn decode_packet(
     );
     let read = got.read;
     match read {
-        Read::Refused(k, _) => reading::refusal(k, s),
+        Read::Refused(k, e) => reading::refusal(k, e, s),
         Read::Whole(count, _, _) => {
             let header = got.header;
             let kind = header.kind;
@@ -215,7 +215,7 @@ pub fn decode(
     let held = setup::load_table(table);
     let place = held.place;
     match place {
-        Place::Refused(_, _) => reading::refusal(8, s),
+        Place::Refused(_, _) => reading::refusal(8, 0, s),
         Place::At(_) => decode_packet(
             s,
             packet,

@@ -7,8 +7,10 @@ use mathlib.Core.Bool.{Bool, true, false}
 use mathlib.Core.Logic.{_⊎_, inl, inr}
 use lib.Dec.{eqb}
 use lib.ListN.{length, length-append}
+use Rattle.bitstream.specs.Lists.{among}
 use Rattle.bitstream.specs.Reading.{got, bind, pure, pick, choose, guard, field, judged}
 use Rattle.bitstream.proofs.Laws.{Lawful, pure-lawful, field-lawful, judged-lawful, pick-lawful, bind-lawful, bind-got}
+use Rattle.bitstream.proofs.Inside.{Inside, pure-inside, field-inside, judged-inside, pick-inside, bind-inside, Refuses, pure-refuses, field-refuses, judged-refuses, pick-refuses, bind-refuses}
 use Rattle.bitstream.proofs.Spends.{Spends, spends-more, pure-spends, field-spends, judged-spends, pick-spends, bind-spends}
 use Rattle.bitstream.proofs.Fields.{no-mix, field-lt}
 use Rattle.bitstream.specs.Lists.{AllBelow, one, none}
@@ -36,6 +38,53 @@ reserved-lawful t = pick-lawful (eqb t 0) (judged-lawful 3 isZero 11) (pure-lawf
 pub header-lawful : (references : Bool) → Lawful (frameHeader references)
 unfolding frameHeader
 header-lawful references = bind-lawful (type-lawful references) (λ t. bind-lawful list-lawful (λ qis. bind-lawful (reserved-lawful t) (λ _. pure-lawful _)))
+
+-- ---- what is refused lies in the packet
+type-inside : {d : ℕ} (references : Bool) → Inside d (frameType references)
+unfolding frameType
+type-inside references = bind-inside (judged-inside 1 isZero 10) (λ _. judged-inside 1 (allowed references) 9)
+
+more-inside : {d : ℕ} (n : ℕ) (qis : List ℕ) → Inside d (moreQis n qis)
+unfolding moreQis
+more-inside zero qis = pure-inside qis
+more-inside (suc n) qis = bind-inside (field-inside 1) (λ b. pick-inside (eqb b 0) (pure-inside qis) (bind-inside (field-inside 6) (λ q. more-inside n (qis ++ q ∷ []))))
+
+list-inside : {d : ℕ} → Inside d qiList
+unfolding qiList
+list-inside = bind-inside (field-inside 6) (λ q. more-inside 2 (q ∷ []))
+
+reserved-inside : {d : ℕ} (t : ℕ) → Inside d (reserved t)
+unfolding reserved
+reserved-inside t = pick-inside (eqb t 0) (judged-inside 3 isZero 11) (pure-inside 0)
+
+pub header-inside : {d : ℕ} (references : Bool) → Inside d (frameHeader references)
+unfolding frameHeader
+header-inside references = bind-inside (type-inside references) (λ t. bind-inside list-inside (λ qis. bind-inside (reserved-inside t) (λ _. pure-inside _)))
+
+-- ---- and is refused by 4, 9, 10 or 11
+module _ {ks : List ℕ} (four : among ks 4 ≡ true) where
+  type-refuses : among ks 9 ≡ true → among ks 10 ≡ true → (references : Bool) → Refuses ks (frameType references)
+  unfolding frameType
+  type-refuses nine ten references = bind-refuses (judged-refuses 1 isZero 10 four ten) (λ _. judged-refuses 1 (allowed references) 9 four nine)
+
+  more-refuses : (n : ℕ) (qis : List ℕ) → Refuses ks (moreQis n qis)
+  unfolding moreQis
+  more-refuses zero qis = pure-refuses qis
+  more-refuses (suc n) qis =
+      bind-refuses (field-refuses 1 four) (λ b. pick-refuses (eqb b 0) (pure-refuses qis) (bind-refuses (field-refuses 6 four) (λ q. more-refuses n (qis ++ q ∷ []))))
+
+  list-refuses : Refuses ks qiList
+  unfolding qiList
+  list-refuses = bind-refuses (field-refuses 6 four) (λ q. more-refuses 2 (q ∷ []))
+
+  reserved-refuses : among ks 11 ≡ true → (t : ℕ) → Refuses ks (reserved t)
+  unfolding reserved
+  reserved-refuses eleven t = pick-refuses (eqb t 0) (judged-refuses 3 isZero 11 four eleven) (pure-refuses 0)
+
+  pub header-refuses : among ks 9 ≡ true → among ks 10 ≡ true → among ks 11 ≡ true → (references : Bool) → Refuses ks (frameHeader references)
+  unfolding frameHeader
+  header-refuses nine ten eleven references =
+      bind-refuses (type-refuses nine ten references) (λ t. bind-refuses list-refuses (λ qis. bind-refuses (reserved-refuses eleven t) (λ _. pure-refuses _)))
 
 -- ---- bits that are spent: 2, and 6 for a qi with 7 for each of two more, and 3
 type-spends : (references : Bool) → Spends 2 (frameType references)

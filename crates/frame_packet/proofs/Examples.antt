@@ -74,6 +74,19 @@ unfolding framePacket frame frameHeader frameType moreQis qiList reserved kindOf
     blockQi steps readTokens positionsFrom atPosition choices table group ranks start pass visit readFor act runOf unfinished token tokenCode code extra meaning withSign rowOf whole field number bitAt
 ones-all = refl
 
+-- places of refusals inside a packet. 12: a run of 4 where 3 bits are wanted, at its prefix, behind the explicit bit
+run-past : framePacket Chroma420 1 1 [] true (0x41 ∷ 0x30 ∷ []) ≡ refused 12 10
+unfolding framePacket frame frameHeader frameType moreQis qiList reserved kindOf judged body flagsOf
+    interFlags superFlags superBlocksOf bitString sent until oneRun nextBit run runLength rank most runExtra leastRun blocksOf total whole field number bitAt
+run-past = refl
+
+-- 13: lone leaves of the token 8 (a run of zeros, 6 extra bits), each block with one zero at position 0; then 64 zeros from position 1 on, at that token's code, which is empty
+token-past : framePacket Chroma420 1 1 (replicate 80 (leaf 8)) false (0x10 ∷ 0x00 ∷ 0x00 ∷ 0x00 ∷ 0x00 ∷ 0x00 ∷ 0x00 ∷ 0x00 ∷ 0xFC ∷ []) ≡ refused 13 64
+unfolding framePacket frame frameHeader frameType moreQis qiList reserved kindOf judged body flagsOf predictions
+    intraFlags ones order flagged codedBlocks codedLuma setAt codedRecords rasterNumber frameOrder planeOrder inPlane inTurn ordered rowOfTiles tile present moved blocksOf blocksBefore total
+    blockQi steps readTokens positionsFrom atPosition choices table group ranks start pass visit readFor act runOf unfinished token tokenCode code extra meaning withSign rowOf whole field number bitAt
+token-past = refl
+
 -- a block that is coded and predicted from previous by the vector (x, y)
 abbrev moved-by : ℤ → ℤ → BlockRecord
 moved-by x y = record { coded = true; «qi_index» = 0; prediction = Previous (record { x = x; y = y }) }
@@ -91,3 +104,13 @@ unfolding framePacket frame frameHeader frameType moreQis qiList reserved kindOf
     vectors macroBlocks macroBlock motion still movingFour lastRead row ifCoded vector component byCode variable added shortest width least predictedFrom predictedAt codedIn numberIn predictionOf fourVector lumaVector blocksOfMacro fourOf chromaOf
     blockQi steps readTokens positionsFrom atPosition choices table group ranks start pass visit readFor act runOf unfinished token tokenCode code extra meaning withSign rowOf whole field number bitAt
 four-then-last = refl
+
+-- 4 within a vector: the same packet cut behind its sixth byte, in the first component of B, which is refused at its first bit
+component-cut : framePacket Chroma420 2 1 (replicate 80 (leaf 0)) true (0x41 ∷ 0x51 ∷ 0x28 ∷ 0x21 ∷ 0xFB ∷ 0x10 ∷ []) ≡ refused 4 47
+unfolding framePacket frame frameHeader frameType moreQis qiList reserved kindOf judged body flagsOf predictions
+    interFlags superFlags sizesFrom partlyBlocks spread ones superBlockOf superBlockIn superBlocksBefore superBlocksOf bitString sent until oneRun nextBit run runLength rank most runExtra leastRun
+    order flagged codedBlocks codedLuma setAt codedRecords rasterNumber frameOrder planeOrder inPlane inTurn ordered rowOfTiles tile present moved blocksOf blocksBefore total
+    macroModes sentAlphabet modesFrom modeOf mode lumaCoded
+    vectors macroBlocks macroBlock motion still movingFour lastRead row ifCoded vector component byCode variable added shortest width least predictedFrom predictedAt codedIn numberIn predictionOf fourVector lumaVector blocksOfMacro fourOf chromaOf
+    blockQi steps readTokens positionsFrom atPosition choices table group ranks start pass visit readFor act runOf unfinished token tokenCode code extra meaning withSign rowOf whole field number bitAt
+component-cut = refl

@@ -6,9 +6,13 @@ use mathlib.Core.Path.{_≡_, refl, sym, ap, _∙_}
 use mathlib.Core.List.{List, [], _∷_}
 use mathlib.Core.Bool.{Bool, true, false}
 use lib.ListN.{length, take, length-take}
-use Rattle.bitstream.specs.Reading.{got, Parse, pure, bind, pick}
+use Rattle.bitstream.specs.Bits.{bits}
+use Rattle.bitstream.specs.Lists.{among}
+use Rattle.bitstream.specs.Reading.{got, refused, Parse, pure, bind, pick}
 use Rattle.bitstream.specs.Answer.{readable}
+use Rattle.bitstream.proofs.Fields.{no-mix}
 use Rattle.bitstream.proofs.Laws.{Lawful, pure-lawful, pick-lawful, bind-lawful}
+use Rattle.bitstream.proofs.Inside.{Inside, pure-inside, pick-inside, bind-inside, place-inside, Refuses, pure-refuses, pick-refuses, bind-refuses}
 use Rattle.bitstream.proofs.Spends.{Spends, spends-more, pure-spends, pick-spends, bind-spends, bind-spends-got, readable-same}
 use Rattle.geometry.specs.declared.PixelFormat.{PixelFormat}
 use Rattle.geometry.specs.Sizes.{blocksOf, superBlocksOf, macroBlocksOf}
@@ -16,19 +20,23 @@ use Rattle.geometry.proofs.SizeLaws.{sizes-small}
 use Rattle.huffman.specs.Tree.{Tree}
 use Rattle.block_record.specs.declared.BlockRecord.{BlockRecord}
 use Rattle.frame_header.specs.declared.Kind.{Kind}
-use Rattle.frame_header.proofs.Laws.{header-lawful, header-spends, header-fits}
+use Rattle.frame_header.proofs.Laws.{header-lawful, header-inside, header-refuses, header-spends, header-fits}
 use Rattle.coded_flags.specs.Flags.{interFlags, intraFlags}
 use Rattle.coded_flags.specs.Coded.{codedBlocks, codedLuma, codedRecords}
-use Rattle.coded_flags.proofs.Laws.{flags-lawful, flags-spends, flags-length, intra-length}
+use Rattle.coded_flags.proofs.Laws.{flags-lawful, flags-inside, flags-refuses, flags-spends, flags-length, intra-length}
 use Rattle.coded_flags.proofs.CodedLaws.{coded-most, luma-most}
-use Rattle.modes.proofs.Laws.{macroModes-lawful, macroModes-spends, macroModes-length}
-use Rattle.vectors.proofs.Laws.{vectors-lawful, vectors-spends}
+use Rattle.modes.proofs.Laws.{macroModes-lawful, macroModes-inside, macroModes-refuses, macroModes-spends, macroModes-length}
+use Rattle.vectors.proofs.Laws.{vectors-lawful, vectors-inside, vectors-refuses, vectors-spends}
 use Rattle.block_qi.specs.BlockQi.{blockQi}
-use Rattle.block_qi.proofs.Laws.{qi-lawful, qi-spends}
+use Rattle.block_qi.proofs.Laws.{qi-lawful, qi-inside, qi-refuses, qi-spends}
 use Rattle.tokens.specs.Tokens.{Tokens, readTokens}
 use Rattle.tokens.specs.Answer.{AllProper}
-use Rattle.tokens.proofs.Laws.{tokens-lawful, tokens-spends}
+use Rattle.tokens.proofs.Laws.{tokens-lawful, tokens-inside, tokens-refuses, tokens-spends}
 use Rattle.frame_packet.specs.Frame.{Body, isIntra, flagsOf, predictions, body, frame, framePacket}
+
+-- the numbers by which a frame packet is refused
+abbrev pub packetNumbers : List ℕ
+packetNumbers = 4 ∷ 9 ∷ 10 ∷ 11 ∷ 12 ∷ 13 ∷ []
 
 module _ (f : PixelFormat) (w h : ℕ) where
   -- ---- the parts of `body` behind its predictions
@@ -63,6 +71,65 @@ module _ (f : PixelFormat) (w h : ℕ) where
   frame-lawful trees references =
       bind-lawful (header-lawful references) (λ head.
       bind-lawful (body-lawful trees (head .kind) (length (head .qis))) (λ b. pure-lawful _))
+
+  -- ---- what is refused lies in the packet
+  flags-of-inside : {d : ℕ} (kind : Kind) → Inside d (flagsOf f w h kind)
+  unfolding flagsOf
+  flags-of-inside kind = pick-inside (isIntra kind) (pure-inside _) (flags-inside f w h)
+
+  predictions-inside : {d : ℕ} (kind : Kind) (flags : List ℕ) (rs : List BlockRecord) → Inside d (predictions f w h kind flags rs)
+  unfolding predictions
+  predictions-inside kind flags rs = pick-inside (isIntra kind) (pure-inside rs) (bind-inside (macroModes-inside flags (macroBlocksOf w h)) (λ modes. vectors-inside f w h modes rs))
+
+  body-inside : {d : ℕ} (trees : List Tree) (kind : Kind) (qis : ℕ) → Inside d (body f w h trees kind qis)
+  unfolding body
+  body-inside trees kind qis =
+      bind-inside (flags-of-inside kind) (λ flags.
+      bind-inside (predictions-inside kind flags (codedRecords f w h flags)) (λ predicted.
+      bind-inside (qi-inside qis (codedBlocks f w h flags) predicted) (λ records.
+      bind-inside (tokens-inside trees (codedLuma f w h flags) (length (codedBlocks f w h flags))) (λ t. pure-inside _))))
+
+  pub frame-inside : {d : ℕ} (trees : List Tree) (references : Bool) → Inside d (frame f w h trees references)
+  unfolding frame
+  frame-inside trees references =
+      bind-inside (header-inside references) (λ head.
+      bind-inside (body-inside trees (head .kind) (length (head .qis))) (λ b. pure-inside _))
+
+  pub packet-inside : (trees : List Tree) (references : Bool) (p : List ℕ) (k e : ℕ) → framePacket f w h trees references p ≡ refused k e → e ≤ bits p
+  unfolding framePacket
+  packet-inside trees true [] k e r = no-mix r
+  packet-inside trees false [] k e r = let z : 0 ≡ e = cc in omega arith
+  packet-inside trees references (b ∷ p) k e r = place-inside (frame-inside trees references) (b ∷ p) k e r
+
+  -- ---- and is refused by the numbers of a packet
+  flags-of-refuses : (kind : Kind) → Refuses packetNumbers (flagsOf f w h kind)
+  unfolding flagsOf among
+  flags-of-refuses kind = pick-refuses (isIntra kind) (pure-refuses _) (flags-refuses refl refl f w h)
+
+  predictions-refuses : (kind : Kind) (flags : List ℕ) (rs : List BlockRecord) → Refuses packetNumbers (predictions f w h kind flags rs)
+  unfolding predictions among
+  predictions-refuses kind flags rs =
+      pick-refuses (isIntra kind) (pure-refuses rs) (bind-refuses (macroModes-refuses refl flags (macroBlocksOf w h)) (λ modes. vectors-refuses refl f w h modes rs))
+
+  body-refuses : (trees : List Tree) (kind : Kind) (qis : ℕ) → Refuses packetNumbers (body f w h trees kind qis)
+  unfolding body among
+  body-refuses trees kind qis =
+      bind-refuses (flags-of-refuses kind) (λ flags.
+      bind-refuses (predictions-refuses kind flags (codedRecords f w h flags)) (λ predicted.
+      bind-refuses (qi-refuses refl refl qis (codedBlocks f w h flags) predicted) (λ records.
+      bind-refuses (tokens-refuses refl refl trees (codedLuma f w h flags) (length (codedBlocks f w h flags))) (λ t. pure-refuses _))))
+
+  pub frame-refuses : (trees : List Tree) (references : Bool) → Refuses packetNumbers (frame f w h trees references)
+  unfolding frame among
+  frame-refuses trees references =
+      bind-refuses (header-refuses refl refl refl refl references) (λ head.
+      bind-refuses (body-refuses trees (head .kind) (length (head .qis))) (λ b. pure-refuses _))
+
+  pub packet-refuses : (trees : List Tree) (references : Bool) (p : List ℕ) (k e : ℕ) → framePacket f w h trees references p ≡ refused k e → among packetNumbers k ≡ true
+  unfolding framePacket among
+  packet-refuses trees true [] k e r = no-mix r
+  packet-refuses trees false [] k e r = let z : 9 ≡ k = cc in rw (← z) refl
+  packet-refuses trees references (b ∷ p) k e r = frame-refuses trees references .by (b ∷ p) 0 k e r
 
   -- a flag for each block
   pub flags-of-length : (kind : Kind) (p : List ℕ) (i : ℕ) {flags : List ℕ} {e : ℕ} → flagsOf f w h kind p i ≡ got flags e → length flags ≡ blocksOf f w h

@@ -3,6 +3,7 @@ use Prim.Native.Nat.{ℕ}
 use mathlib.Core.Path.{_≡_, refl}
 use mathlib.Core.Bool.{false}
 use mathlib.Core.List.{List, [], _∷_, _++_}
+use lib.ListN.{take}
 use Rattle.bitstream.specs.Bits.{bitAt, number}
 use Rattle.bitstream.specs.Reading.{got, refused, field, judged}
 use Rattle.headers.specs.declared.Session.{Session}
@@ -54,3 +55,18 @@ cut = refl
 newer : identification (0x80 ∷ (theora ++ (3 ∷ 3 ∷ []))) 0 ≡ refused 3 64
 unfolding identification commonHeader spelled version judged field number bitAt
 newer = refl
+
+-- each letter of "theora" is a field of its own: the first one is wrong, at bit 8
+misspelled : identification (0x80 ∷ 0x54 ∷ []) 0 ≡ refused 2 8
+unfolding identification commonHeader spelled judged field number bitAt
+misspelled = refl
+
+-- PICX is 3, and 3 + 30 is more than the 32 columns: refused at PICX, not where its group begins
+outside : identification (0x80 ∷ (theora ++ (3 ∷ 2 ∷ 1 ∷ 0 ∷ 2 ∷ 0 ∷ 1 ∷ 0 ∷ 0 ∷ 30 ∷ 0 ∷ 0 ∷ 16 ∷ 3 ∷ []))) 0 ≡ refused 5 160
+unfolding identification commonHeader spelled version frameSize judged field number bitAt
+outside = refl
+
+-- the header above with its last bit set: PF and the 3 bits behind it are two fields
+last-bits : identification (take 41 header ++ 0xC1 ∷ []) 0 ≡ refused 6 333
+unfolding header identification commonHeader spelled version frameSize rates coding judged field number bitAt
+last-bits = refl

@@ -2,10 +2,12 @@
 use Prim.Native.Nat.{ℕ, _*_, _-_, _<_}
 use native.Mathlib.Omega.{arith}
 use mathlib.Core.Path.{_≡_}
-use mathlib.Core.List.{List}
+use mathlib.Core.List.{List, [], _∷_}
 use lib.ListN.{length}
+use Rattle.bitstream.specs.Lists.{among}
 use Rattle.bitstream.specs.Reading.{Outcome, got, refused}
 use Rattle.bitstream.proofs.Laws.{Lawful, lawful}
+use Rattle.bitstream.proofs.Inside.{Inside, inside, Refuses, refuses}
 use Rattle.bitstream.proofs.Spends.{Spends, pure-spends, bind-spends, field-spends, judged-spends}
 use Rattle.headers.specs.declared.FrameSize.{FrameSize}
 use Rattle.headers.specs.declared.FrameSizeAnswer.{FrameSizeAnswer}
@@ -15,7 +17,7 @@ use Rattle.headers.specs.declared.Coding.{Coding}
 use Rattle.headers.specs.declared.CodingAnswer.{CodingAnswer}
 use Rattle.headers.specs.Judgement.{isExactly, isPositive, isAtMost, isFormat}
 use Rattle.headers.specs.Identification.{version, frameSize, rates, coding, identification, asFrameSize, asRates, asCoding}
-use Rattle.headers.proofs.Judged.{commonHeader-lawful, commonHeader-spends}
+use Rattle.headers.proofs.Judged.{commonHeader-lawful, commonHeader-inside, commonHeader-refuses, commonHeader-spends}
 
 -- ---- what an answer says of the outcome o, by its arm
 pub frame-size-is : (o : Outcome FrameSize) {r : FrameSizeAnswer} {f : FrameSize} {e : ℕ} → r ≡ asFrameSize o → r ≡ FrameSizeAnswer.Is f e → o ≡ got f e
@@ -62,6 +64,51 @@ coding-lawful = search lawful depth 20
 pub identification-lawful : Lawful identification
 unfolding identification
 identification-lawful = search (lawful, commonHeader-lawful, version-lawful, frameSize-lawful, rates-lawful, coding-lawful) depth 16
+
+-- ---- Inside: every place lies in the packet
+version-inside : {d : ℕ} → Inside d version
+unfolding version
+version-inside = search inside depth 12
+
+frameSize-inside : {d : ℕ} → Inside d frameSize
+unfolding frameSize
+frameSize-inside = search inside depth 20
+
+rates-inside : {d : ℕ} → Inside d rates
+unfolding rates
+rates-inside = search inside depth 20
+
+coding-inside : {d : ℕ} → Inside d coding
+unfolding coding
+coding-inside = search inside depth 20
+
+pub identification-inside : Inside 0 identification
+unfolding identification
+identification-inside = search (inside, commonHeader-inside, version-inside, frameSize-inside, rates-inside, coding-inside) depth 16
+
+-- ---- Refuses: by the numbers 2 to 6
+abbrev numbers : List ℕ
+numbers = 2 ∷ 3 ∷ 4 ∷ 5 ∷ 6 ∷ []
+
+version-refuses : Refuses numbers version
+unfolding version among
+version-refuses = search refuses depth 12
+
+frameSize-refuses : Refuses numbers frameSize
+unfolding frameSize among
+frameSize-refuses = search refuses depth 20
+
+rates-refuses : Refuses numbers rates
+unfolding rates among
+rates-refuses = search refuses depth 20
+
+coding-refuses : Refuses numbers coding
+unfolding coding among
+coding-refuses = search refuses depth 20
+
+pub identification-refuses : Refuses (2 ∷ 3 ∷ 4 ∷ 5 ∷ 6 ∷ []) identification
+unfolding identification among
+identification-refuses = search (refuses, commonHeader-refuses, version-refuses, frameSize-refuses, rates-refuses, coding-refuses) depth 16
 
 -- ---- Spends: the bits of each group, and "42 bytes" in all
 pub version-spends : Spends 24 version

@@ -8,11 +8,13 @@ use mathlib.Core.List.{List, [], _∷_}
 use mathlib.Core.Bool.{Bool, true, false}
 use lib.ListN.{length, drop, getD}
 use lib.Seq.{drop-cons}
+use Rattle.bitstream.specs.Lists.{among}
 use Rattle.bitstream.specs.Reading.{Outcome, got, refused, field, judged}
 use Rattle.bitstream.specs.Answer.{asField}
 use Rattle.bitstream.specs.declared.Field.{Field}
 use Rattle.bitstream.proofs.Fields.{no-mix, field-lt, read-got, read-refused, judged-end, judged-fails, judged-passes}
 use Rattle.bitstream.proofs.Laws.{Lawful, pure-lawful, bind-lawful, judged-lawful}
+use Rattle.bitstream.proofs.Inside.{Inside, pure-inside, bind-inside, judged-inside, Refuses, pure-refuses, bind-refuses, judged-refuses}
 use Rattle.bitstream.proofs.Spends.{Spends, spends-more, pure-spends, bind-spends, judged-spends}
 use Rattle.headers.specs.Judgement.{isExactly, exactly, spelled, theora, commonHeader}
 
@@ -57,6 +59,25 @@ spelled-lawful (b ∷ bs) = bind-lawful (judged-lawful 8 (isExactly b) 2) (λ _.
 pub commonHeader-lawful : (kind : ℕ) → Lawful (commonHeader kind)
 unfolding commonHeader
 commonHeader-lawful kind = spelled-lawful (kind ∷ theora)
+
+pub spelled-inside : {d : ℕ} (bs : List ℕ) → Inside d (spelled bs)
+unfolding spelled
+spelled-inside [] = pure-inside tt
+spelled-inside (b ∷ bs) = bind-inside (judged-inside 8 (isExactly b) 2) (λ _. spelled-inside bs)
+
+pub commonHeader-inside : {d : ℕ} (kind : ℕ) → Inside d (commonHeader kind)
+unfolding commonHeader
+commonHeader-inside kind = spelled-inside (kind ∷ theora)
+
+module _ {ks : List ℕ} (two : among ks 2 ≡ true) (four : among ks 4 ≡ true) where
+  pub spelled-refuses : (bs : List ℕ) → Refuses ks (spelled bs)
+  unfolding spelled
+  spelled-refuses [] = pure-refuses tt
+  spelled-refuses (b ∷ bs) = bind-refuses (judged-refuses 8 (isExactly b) 2 four two) (λ _. spelled-refuses bs)
+
+  pub commonHeader-refuses : (kind : ℕ) → Refuses ks (commonHeader kind)
+  unfolding commonHeader
+  commonHeader-refuses kind = spelled-refuses (kind ∷ theora)
 
 pub spelled-spends : (bs : List ℕ) → Spends (length bs * 8) (spelled bs)
 unfolding spelled

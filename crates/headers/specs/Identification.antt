@@ -97,7 +97,7 @@ abbrev pub asCoding : Outcome Coding → CodingAnswer
 asCoding (got c e) = CodingAnswer.Is c e
 asCoding (refused k e) = CodingAnswer.Refused k e
 
--- "Every refusal returns its number alone"; "Later bytes are ignored"
+-- "the bit place of the first bit of the field at fault" beside the number; "Later bytes are ignored"
 abbrev pub asIdentification : Outcome Session → IdentificationAnswer
 asIdentification (got s e) = IdentificationAnswer.Accepted s
-asIdentification (refused k e) = IdentificationAnswer.Refused k
+asIdentification (refused k e) = IdentificationAnswer.Refused k e

@@ -37,10 +37,10 @@ pub struct Session {
     pub references: bool,
 }
 
-// The fresh session, or the number of the refusal.
+// The fresh session, or the number of the refusal and its bit place.
 pub enum IdentificationAnswer {
     Accepted(Session),
-    Refused(u32),
+    Refused(u32, usize),
 }
 
 // A value that was read, and the place behind it.
@@ -302,45 +302,48 @@ fn read_session(packet: &[u8]) -> IdentificationAnswer
 {
     let start = match read_common_header(packet, 0, 0x80) {
         End::At(next) => next,
-        End::Refused(k, _) => return IdentificationAnswer::Refused(k),
+        End::Refused(k, e) => return IdentificationAnswer::Refused(k, e),
     };
     let vrev = match read_version(packet, start) {
         Field::Got(is, next) => Value { is, next },
-        Field::Refused(k, _) => return IdentificationAnswer::Refused(k),
+        Field::Refused(k, e) => return IdentificationAnswer::Refused(k, e),
     };
     match read_frame_size(packet, vrev.next) {
-        FrameSizeAnswer::Refused(k, _) => IdentificationAnswer::Refused(k),
+        FrameSizeAnswer::Refused(k, e) => IdentificationAnswer::Refused(k, e),
         FrameSizeAnswer::Is(f, rates_at) => match read_rates(packet, rates_at) {
-            RatesAnswer::Refused(k, _) => IdentificationAnswer::Refused(k),
+            RatesAnswer::Refused(k, e) => IdentificationAnswer::Refused(k, e),
             RatesAnswer::Is(r, coding_at) => match read_coding(packet, coding_at) {
-                CodingAnswer::Refused(k, _) => IdentificationAnswer::Refused(k),
-                CodingAnswer::Is(c, _) => IdentificationAnswer::Accepted(Session {
-                    fields: Fields {
-                        vrev: vrev.is as u64,
-                        fmbw: f.fmbw,
-                        fmbh: f.fmbh,
-                        picw: f.picw,
-                        pich: f.pich,
-                        picx: f.picx,
-                        picy: f.picy,
-                        frn: r.frn,
-                        frd: r.frd,
-                        parn: r.parn,
-                        pard: r.pard,
-                        cs: r.cs,
-                        nombr: c.nombr,
-                        qual: c.qual,
-                        kfgshift: c.kfgshift,
-                        pf: c.pf,
-                    },
-                    references: false,
-                }),
+                CodingAnswer::Refused(k, e) => IdentificationAnswer::Refused(k, e),
+                CodingAnswer::Is(c, _) => {
+                    let revision = vrev.is as u64;
+                    IdentificationAnswer::Accepted(Session {
+                        fields: Fields {
+                            vrev: revision,
+                            fmbw: f.fmbw,
+                            fmbh: f.fmbh,
+                            picw: f.picw,
+                            pich: f.pich,
+                            picx: f.picx,
+                            picy: f.picy,
+                            frn: r.frn,
+                            frd: r.frd,
+                            parn: r.parn,
+                            pard: r.pard,
+                            cs: r.cs,
+                            nombr: c.nombr,
+                            qual: c.qual,
+                            kfgshift: c.kfgshift,
+                            pf: c.pf,
+                        },
+                        references: false,
+                    })
+                }
             },
         },
     }
 }
 
-// Reads an identification header: the fresh session, or the number of the refusal.
+// Reads an identification header: the fresh session, or the number of the refusal and its bit place.
 pub fn identification(packet: &[u8]) -> IdentificationAnswer
     ensures { λ r. ⌜ r ≡ asIdentification (identification (now (packet .entry)) 0) ⌝ }
 {

@@ -9,9 +9,11 @@ use lib.Dec.{eqb}
 use lib.ListN.{length, getD}
 use borrow.Author.Tests.{eq-eqb, ne-eqb}
 use Rattle.bitstream.specs.Bits.{bits, bitAt, number}
+use Rattle.bitstream.specs.Lists.{among}
 use Rattle.bitstream.specs.Reading.{got, refused, after, pick, choose, field}
 use Rattle.bitstream.proofs.Fields.{no-mix, field-got, field-end, field-cases}
 use Rattle.bitstream.proofs.Laws.{Lawful, pure-lawful, pick-lawful, bind-lawful, field-lawful, whole-lawful, whole-got, whole-refused, whole-cases, bind-got}
+use Rattle.bitstream.proofs.Inside.{Inside, pure-inside, field-inside, pick-inside, bind-inside, whole-inside, Refuses}
 use Rattle.bitstream.proofs.Spends.{Spends, spends-more, pure-spends, field-spends, bind-spends, pick-spends, whole-spends}
 use Rattle.huffman.specs.Tree.{Tree, leaf, fork, size, Tokens, Proper}
 use Rattle.huffman.specs.Code.{code, tokenCode, Formed, treeOf}
@@ -19,7 +21,7 @@ use Rattle.huffman.specs.Answer.{branch}
 use Rattle.huffman.proofs.Trees.{longest, proper-longest}
 use Rattle.huffman.proofs.Nodes.{Nodes, nodes-in, formed-nodes, formed-tree}
 
--- ---- Local, Firm and Spends
+-- ---- Local, Firm, Inside and Spends
 code-lawful : (t : Tree) → Lawful (code t)
 unfolding code
 code-lawful (leaf t) = pure-lawful t
@@ -28,6 +30,15 @@ code-lawful (fork l r) = bind-lawful (field-lawful 1) (λ b. pick-lawful (eqb b 
 pub token-code-lawful : (t : Tree) → Lawful (tokenCode t)
 unfolding tokenCode
 token-code-lawful t = whole-lawful (code-lawful t)
+
+code-inside : {d : ℕ} (t : Tree) → Inside d (code t)
+unfolding code
+code-inside (leaf t) = pure-inside t
+code-inside (fork l r) = bind-inside (field-inside 1) (λ b. pick-inside (eqb b 0) (code-inside l) (code-inside r))
+
+pub token-code-inside : {d : ℕ} (t : Tree) → Inside d (tokenCode t)
+unfolding tokenCode
+token-code-inside t = whole-inside (code-inside t)
 
 code-spends : (t : Tree) → Spends (longest t) (code t)
 unfolding code
@@ -64,6 +75,9 @@ pub token-code-refused : (t : Tree) (p : List ℕ) (i : ℕ) {k e : ℕ} → tok
 unfolding tokenCode
 token-code-refused t p i h =
     whole-cases (code t) p i (λ a d _ w. no-mix (sym w ∙ h)) (λ j d s w. let z = sym w ∙ h in let f = code-refused t p i s in (cc, cc))
+
+pub token-code-refuses : {ks : List ℕ} → among ks 4 ≡ true → (t : Tree) → Refuses ks (tokenCode t)
+token-code-refuses four t = record { by = λ p i k e r. rw (token-code-refused t p i r .0) four }
 
 -- ---- a code that was got is a token
 code-token : (t : Tree) (p : List ℕ) (i : ℕ) {v e : ℕ} → Tokens t → code t p i ≡ got v e → v < 32

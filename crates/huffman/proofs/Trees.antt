@@ -7,9 +7,11 @@ use mathlib.Core.Bool.{Bool, true, false}
 use lib.Dec.{eqb}
 use borrow.Author.Tests.{ltb-true}
 use Rattle.bitstream.specs.Bits.{number}
+use Rattle.bitstream.specs.Lists.{among}
 use Rattle.bitstream.specs.Reading.{got, Parse, pure, bind, pick, field, judged}
 use Rattle.bitstream.proofs.Fields.{no-mix, field-cases, field-value, field-lt, judged-end, judged-fails, judged-passes}
 use Rattle.bitstream.proofs.Laws.{Lawful, pure-lawful, pick-lawful, bind-lawful, field-lawful, judged-lawful, bind-got}
+use Rattle.bitstream.proofs.Inside.{Inside, inside, pure-inside, pick-inside, bind-inside, judged-inside, Refuses, refuses, pure-refuses, pick-refuses, bind-refuses, judged-refuses}
 use Rattle.bitstream.proofs.Spends.{Spends, spends-more, pure-spends, field-spends, judged-spends, bind-spends, bind-spends-got, bind-spends-by, pick-spends}
 use Rattle.huffman.specs.Tree.{Tree, leaf, fork, leaves, size, allowed, leafBit, leafToken, tree, huffmanTree, Tokens, Proper}
 
@@ -123,6 +125,46 @@ tree-lawful (suc d) seen =
 pub huffman-lawful : Lawful huffmanTree
 unfolding huffmanTree
 huffman-lawful = tree-lawful 32 0
+
+-- ---- Inside and Refuses: by 4 and 7
+leaf-bit-inside : {d : ℕ} (depth seen : ℕ) → Inside d (leafBit depth seen)
+unfolding leafBit
+leaf-bit-inside depth seen = judged-inside 1 (allowed depth seen) 7
+
+leaf-token-inside : {d : ℕ} → Inside d leafToken
+unfolding leafToken
+leaf-token-inside = search inside
+
+pub tree-inside : {d : ℕ} (depth seen : ℕ) → Inside d (tree depth seen)
+unfolding tree
+tree-inside zero seen = bind-inside (leaf-bit-inside zero seen) (λ _. leaf-token-inside)
+tree-inside (suc n) seen =
+    bind-inside (leaf-bit-inside (suc n) seen) (λ b. pick-inside (eqb b 1) leaf-token-inside
+    (bind-inside (tree-inside n seen) (λ l. bind-inside (tree-inside n (seen + leaves l)) (λ r. pure-inside (fork l r)))))
+
+pub huffman-inside : {d : ℕ} → Inside d huffmanTree
+unfolding huffmanTree
+huffman-inside = tree-inside 32 0
+
+module _ {ks : List ℕ} (four : among ks 4 ≡ true) (seven : among ks 7 ≡ true) where
+  leaf-bit-refuses : (depth seen : ℕ) → Refuses ks (leafBit depth seen)
+  unfolding leafBit
+  leaf-bit-refuses depth seen = judged-refuses 1 (allowed depth seen) 7 four seven
+
+  leaf-token-refuses : Refuses ks leafToken
+  unfolding leafToken
+  leaf-token-refuses = search (refuses, four)
+
+  pub tree-refuses : (depth seen : ℕ) → Refuses ks (tree depth seen)
+  unfolding tree
+  tree-refuses zero seen = bind-refuses (leaf-bit-refuses zero seen) (λ _. leaf-token-refuses)
+  tree-refuses (suc n) seen =
+      bind-refuses (leaf-bit-refuses (suc n) seen) (λ b. pick-refuses (eqb b 1) leaf-token-refuses
+      (bind-refuses (tree-refuses n seen) (λ l. bind-refuses (tree-refuses n (seen + leaves l)) (λ r. pure-refuses (fork l r)))))
+
+  pub huffman-refuses : Refuses ks huffmanTree
+  unfolding huffmanTree
+  huffman-refuses = tree-refuses 32 0
 
 -- ---- Spends: at most 32 leaves of 7 bits, the forks that are not closed yet, and the bit at fault
 leaf-bit-spends : (d seen : ℕ) → Spends 1 (leafBit d seen)

@@ -4,12 +4,15 @@ use native.Mathlib.Omega.{arith}
 use native.Mathlib.Nat.{zero-mul, suc-mul}
 use mathlib.Core.Path.{_≡_, ap}
 use mathlib.Core.List.{List, [], _∷_, _++_}
+use mathlib.Core.Bool.{true}
 use lib.Dec.{eqb}
 use lib.ListN.{length, set, replicate, length-append}
+use Rattle.bitstream.specs.Lists.{among}
 use Rattle.bitstream.specs.Reading.{got, bind, field}
 use Rattle.bitstream.proofs.Laws.{Lawful, pure-lawful, pick-lawful, bind-lawful, field-lawful, whole-lawful, bind-got}
+use Rattle.bitstream.proofs.Inside.{Inside, pure-inside, pick-inside, bind-inside, field-inside, whole-inside, Refuses, pure-refuses, pick-refuses, bind-refuses, field-refuses, whole-refuses}
 use Rattle.bitstream.proofs.Spends.{Spends, spends-more, pure-spends, field-spends, bind-spends, pick-spends, whole-spends}
-use Rattle.bitstream.proofs.Unary.{unary-spends, unary-lawful}
+use Rattle.bitstream.proofs.Unary.{unary-lawful, unary-inside, unary-refuses, unary-spends}
 use Rattle.modes.specs.Modes.{ranksFrom, sentAlphabet, mode, lumaCoded, modeOf, modesFrom, macroModes}
 
 ranks-lawful : (n m : ℕ) (alphabet : List ℕ) → Lawful (ranksFrom n m alphabet)
@@ -34,6 +37,55 @@ modes-lawful scheme alphabet flags (suc n) m done = bind-lawful (mode-lawful sch
 pub macroModes-lawful : (flags : List ℕ) (n : ℕ) → Lawful (macroModes flags n)
 unfolding macroModes
 macroModes-lawful flags n = bind-lawful (field-lawful 3) (λ s. bind-lawful (sent-lawful s) (λ alphabet. modes-lawful s alphabet flags n 0 []))
+
+-- ---- what is refused lies in the packet
+ranks-inside : {d : ℕ} (n m : ℕ) (alphabet : List ℕ) → Inside d (ranksFrom n m alphabet)
+unfolding ranksFrom
+ranks-inside zero m alphabet = pure-inside alphabet
+ranks-inside (suc n) m alphabet = bind-inside (field-inside 3) (λ r. ranks-inside n (m + 1) (set alphabet r m))
+
+sent-inside : {d : ℕ} (scheme : ℕ) → Inside d (sentAlphabet scheme)
+unfolding sentAlphabet
+sent-inside scheme = pick-inside (eqb scheme 0) (ranks-inside 8 0 (replicate 8 0)) (pure-inside (replicate 8 0))
+
+mode-inside : {d : ℕ} (scheme : ℕ) (alphabet flags : List ℕ) (m : ℕ) → Inside d (modeOf scheme alphabet flags m)
+unfolding modeOf mode
+mode-inside scheme alphabet flags m =
+    pick-inside (lumaCoded flags m) (pick-inside (eqb scheme 7) (field-inside 3) (bind-inside (whole-inside (unary-inside 7 0)) (λ r. pure-inside _))) (pure-inside 0)
+
+modes-inside : {d : ℕ} (scheme : ℕ) (alphabet flags : List ℕ) (n m : ℕ) (done : List ℕ) → Inside d (modesFrom scheme alphabet flags n m done)
+unfolding modesFrom
+modes-inside scheme alphabet flags zero m done = pure-inside done
+modes-inside scheme alphabet flags (suc n) m done = bind-inside (mode-inside scheme alphabet flags m) (λ v. modes-inside scheme alphabet flags n (m + 1) (done ++ v ∷ []))
+
+pub macroModes-inside : {d : ℕ} (flags : List ℕ) (n : ℕ) → Inside d (macroModes flags n)
+unfolding macroModes
+macroModes-inside flags n = bind-inside (field-inside 3) (λ s. bind-inside (sent-inside s) (λ alphabet. modes-inside s alphabet flags n 0 []))
+
+-- ---- and is refused by 4
+module _ {ks : List ℕ} (four : among ks 4 ≡ true) where
+  ranks-refuses : (n m : ℕ) (alphabet : List ℕ) → Refuses ks (ranksFrom n m alphabet)
+  unfolding ranksFrom
+  ranks-refuses zero m alphabet = pure-refuses alphabet
+  ranks-refuses (suc n) m alphabet = bind-refuses (field-refuses 3 four) (λ r. ranks-refuses n (m + 1) (set alphabet r m))
+
+  sent-refuses : (scheme : ℕ) → Refuses ks (sentAlphabet scheme)
+  unfolding sentAlphabet
+  sent-refuses scheme = pick-refuses (eqb scheme 0) (ranks-refuses 8 0 (replicate 8 0)) (pure-refuses (replicate 8 0))
+
+  mode-refuses : (scheme : ℕ) (alphabet flags : List ℕ) (m : ℕ) → Refuses ks (modeOf scheme alphabet flags m)
+  unfolding modeOf mode
+  mode-refuses scheme alphabet flags m =
+      pick-refuses (lumaCoded flags m) (pick-refuses (eqb scheme 7) (field-refuses 3 four) (bind-refuses (whole-refuses (unary-refuses four 7 0)) (λ r. pure-refuses _))) (pure-refuses 0)
+
+  modes-refuses : (scheme : ℕ) (alphabet flags : List ℕ) (n m : ℕ) (done : List ℕ) → Refuses ks (modesFrom scheme alphabet flags n m done)
+  unfolding modesFrom
+  modes-refuses scheme alphabet flags zero m done = pure-refuses done
+  modes-refuses scheme alphabet flags (suc n) m done = bind-refuses (mode-refuses scheme alphabet flags m) (λ v. modes-refuses scheme alphabet flags n (m + 1) (done ++ v ∷ []))
+
+  pub macroModes-refuses : (flags : List ℕ) (n : ℕ) → Refuses ks (macroModes flags n)
+  unfolding macroModes
+  macroModes-refuses flags n = bind-refuses (field-refuses 3 four) (λ s. bind-refuses (sent-refuses s) (λ alphabet. modes-refuses s alphabet flags n 0 []))
 
 -- ---- bits that are spent: 3 for the scheme, 24 for the ranks that scheme 0 sends, 7 at most for each mode
 ranks-spends : (n m : ℕ) (alphabet : List ℕ) → Spends (n * 3) (ranksFrom n m alphabet)

@@ -151,8 +151,8 @@ fn play_packet(
     let header = answer.header;
     let next = answer.session;
     match verdict {
-        Verdict::Refused(k) => {
-            print_refused(k);
+        Verdict::Refused(k, place) => {
+            print_refused(k, place);
             next
         }
         Verdict::Accepted => {
@@ -200,7 +200,7 @@ fn play_setup(fd: i32, buffer: &mut [u8], table: &mut [u8]) {
     print(b"header 2 ");
     match theora::setup(&buffer[..end], table) {
         SetupAnswer::Accepted => print(b"accepted\n"),
-        SetupAnswer::Refused(k) => print_refused(k),
+        SetupAnswer::Refused(k, place) => print_refused(k, place),
     }
 }
 
@@ -218,7 +218,7 @@ fn play(fd: i32, buffer: &mut [u8]) {
     let end = packet.length;
     print(b"header 0 ");
     match theora::identification(&buffer[..end]) {
-        IdentificationAnswer::Refused(k) => print_refused(k),
+        IdentificationAnswer::Refused(k, place) => print_refused(k, place),
         IdentificationAnswer::Accepted(s) => {
             print(b"accepted\n");
             play_stream(fd, s, buffer);

@@ -16,11 +16,14 @@ fn print_number(n: u64) {
     io::print_decimal(STDOUT_FILENO, n);
 }
 
-pub fn print_refused(k: u32)
+// A refusal's number and its bit place.
+pub fn print_refused(k: u32, place: usize)
     ensures { λ _. ⊤ₛ }
 {
     print(b"refused ");
     print_number(k as u64);
+    print(b" at ");
+    print_number(place as u64);
     print(b"\n");
 }
 

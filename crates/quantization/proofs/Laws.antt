@@ -1,4 +1,4 @@
--- The quantization parameters have the three laws of the reading algebra. Assumes nothing.
+-- The quantization parameters have the laws of the reading algebra. Assumes nothing.
 use Prim.Native.Nat.{ℕ, zero, suc, _+_, _-_, _*_, _≤_}
 use native.Mathlib.Omega.{arith}
 use mathlib.Core.Path.{_≡_, refl, _∙_}
@@ -7,8 +7,10 @@ use borrow.Author.Tests.{eqb-true}
 use mathlib.Core.List.{List, [], _∷_, _++_}
 use lib.Dec.{eqb, ltb, leb}
 use lib.ListN.{length, getD}
+use Rattle.bitstream.specs.Lists.{among}
 use Rattle.bitstream.specs.Reading.{Outcome, got, refused, Parse, after, pure, bind, pick, choose, many}
 use Rattle.bitstream.proofs.Laws.{Lawful, lawful, pure-lawful, bind-lawful, until-lawful}
+use Rattle.bitstream.proofs.Inside.{Inside, inside, pure-inside, bind-inside, until-inside, Refuses, refuses, pure-refuses, bind-refuses, until-refuses}
 use Rattle.bitstream.proofs.Spends.{Spends, spends-more, pure-spends, here-then, field-then, field-spends, judged-spends, bind-spends, bind-spends-got, bind-spends-by, pick-spends, many-spends, until-spends}
 use Rattle.quantization.specs.Parameters.{Ranges, Begun, withRange, ilog, scales, matrixCount, baseMatrix, index, rangeSize, range, newSet, origin, none, setFrom, moreSets, quantization}
 use Rattle.quantization.proofs.Steps.{ilog-le, count-range}
@@ -60,6 +62,102 @@ sets-lawful (suc k) n done =
 pub quantization-lawful : Lawful quantization
 unfolding quantization
 quantization-lawful = search (lawful, scales-lawful, count-lawful, base-lawful, sets-lawful) depth 16
+
+-- ---- what is refused lies in the packet
+scales-inside : {d : ℕ} → Inside d scales
+unfolding scales
+scales-inside = search inside depth 10
+
+count-inside : {d : ℕ} → Inside d matrixCount
+unfolding matrixCount
+count-inside = search inside depth 10
+
+base-inside : {d : ℕ} → Inside d baseMatrix
+unfolding baseMatrix
+base-inside = search inside depth 10
+
+index-inside : {d : ℕ} (n : ℕ) → Inside d (index n)
+unfolding index
+index-inside n = search inside depth 10
+
+size-inside : {d : ℕ} (qi : ℕ) → Inside d (rangeSize qi)
+unfolding rangeSize
+size-inside qi = search inside depth 10
+
+range-inside : {d : ℕ} (n : ℕ) (s : Begun) → Inside d (range n s)
+unfolding range
+range-inside n s = search (inside, size-inside, index-inside) depth 14
+
+new-inside : {d : ℕ} (n : ℕ) → Inside d (newSet n)
+unfolding newSet
+new-inside n = search (inside, index-inside, range-inside, until-inside) depth 14
+
+origin-inside : {d : ℕ} (k : ℕ) → Inside d (origin k)
+unfolding origin
+origin-inside k = search inside depth 14
+
+from-inside : {d : ℕ} (n : ℕ) (done : List Ranges) (back : ℕ) → Inside d (setFrom n done back)
+unfolding setFrom
+from-inside n done back = search (inside, new-inside) depth 14
+
+sets-inside : {d : ℕ} (k n : ℕ) (done : List Ranges) → Inside d (moreSets k n done)
+unfolding moreSets
+sets-inside zero n done = pure-inside done
+sets-inside (suc k) n done =
+    bind-inside (origin-inside (length done)) (λ back. bind-inside (from-inside n done back) (λ r. sets-inside k n (done ++ r ∷ [])))
+
+pub quantization-inside : {d : ℕ} → Inside d quantization
+unfolding quantization
+quantization-inside = search (inside, scales-inside, count-inside, base-inside, sets-inside) depth 16
+
+-- ---- and is refused by 4 or 7
+module _ {ks : List ℕ} (four : among ks 4 ≡ true) where
+  scales-refuses : Refuses ks scales
+  unfolding scales
+  scales-refuses = search (refuses, four) depth 10
+
+  base-refuses : Refuses ks baseMatrix
+  unfolding baseMatrix
+  base-refuses = search (refuses, four) depth 10
+
+  origin-refuses : (k : ℕ) → Refuses ks (origin k)
+  unfolding origin
+  origin-refuses k = search (refuses, four) depth 14
+
+  module _ (seven : among ks 7 ≡ true) where
+    count-refuses : Refuses ks matrixCount
+    unfolding matrixCount
+    count-refuses = search (refuses, four, seven) depth 10
+
+    index-refuses : (n : ℕ) → Refuses ks (index n)
+    unfolding index
+    index-refuses n = search (refuses, four, seven) depth 10
+
+    size-refuses : (qi : ℕ) → Refuses ks (rangeSize qi)
+    unfolding rangeSize
+    size-refuses qi = search (refuses, four, seven) depth 10
+
+    range-refuses : (n : ℕ) (s : Begun) → Refuses ks (range n s)
+    unfolding range
+    range-refuses n s = search (refuses, size-refuses, index-refuses) depth 14
+
+    new-refuses : (n : ℕ) → Refuses ks (newSet n)
+    unfolding newSet
+    new-refuses n = search (refuses, index-refuses, range-refuses, until-refuses, seven) depth 14
+
+    from-refuses : (n : ℕ) (done : List Ranges) (back : ℕ) → Refuses ks (setFrom n done back)
+    unfolding setFrom
+    from-refuses n done back = search (refuses, new-refuses) depth 14
+
+    sets-refuses : (k n : ℕ) (done : List Ranges) → Refuses ks (moreSets k n done)
+    unfolding moreSets
+    sets-refuses zero n done = pure-refuses done
+    sets-refuses (suc k) n done =
+        bind-refuses (origin-refuses (length done)) (λ back. bind-refuses (from-refuses n done back) (λ r. sets-refuses k n (done ++ r ∷ [])))
+
+    pub quantization-refuses : Refuses ks quantization
+    unfolding quantization
+    quantization-refuses = search (refuses, scales-refuses, count-refuses, base-refuses, sets-refuses) depth 16
 
 -- ---- how many bits
 after-after : {A B C : Type 0} (o : Outcome A) (f : A → ℕ → Outcome B) (g : B → ℕ → Outcome C) → after (after o f) g ≡ after o (λ a e. after (f a e) g)

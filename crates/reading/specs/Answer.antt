@@ -1,17 +1,20 @@
 -- What a packet asks for, what is answered for it, and what the session becomes.
 use Prim.Native.Nat.{ℕ}
 use mathlib.Core.Bool.{true}
-use mathlib.Core.List.{List}
+use mathlib.Core.List.{List, [], _∷_}
+use lib.ListN.{getD}
 use Rattle.bitstream.specs.Reading.{Outcome, got, refused, after}
 use Rattle.headers.specs.declared.Session.{Session}
 use Rattle.headers.specs.Sizes.{format}
 use Rattle.setup.specs.Header.{Setup}
 use Rattle.setup.specs.Table.{heldSetup}
+use Rattle.frame_header.specs.declared.Header.{Header}
 use Rattle.frame_header.specs.declared.Kind.{Kind}
 use Rattle.frame_header.specs.declared.Kind.the-variants.{Intra, Inter, Repeat}
 use Rattle.frame_header.specs.Answer.{asHeader, repeated}
 use Rattle.frame_packet.specs.Frame.{Frame, framePacket}
 use Rattle.reading.specs.declared.FrameAnswer.{FrameAnswer}
+use Rattle.reading.specs.declared.Verdict.{Verdict}
 use Rattle.reading.specs.declared.Verdict.the-variants.{Accepted, Refused}
 
 -- what an accepted packet asks for: what it says, and the setup
@@ -33,8 +36,20 @@ sessionAfter Intra s = record { fields = s .fields; references = true }
 sessionAfter Inter s = s
 sessionAfter Repeat s = s
 
--- "Every refusal returns its number alone": the header beside it says nothing, and the session is as it was.
+-- a refusal answers its number and "the bit place of the first bit of the field at fault": the header beside them says nothing, and the session is as it was.
 -- "An accepted frame answers with its kind (intra, inter, repeat) and the qi list (empty for repeat)"
 abbrev pub answerFor : Session → Outcome Asked → FrameAnswer
-answerFor s (refused k e) = record { verdict = Refused k; header = repeated; session = s }
+answerFor s (refused k e) = record { verdict = Refused k e; header = repeated; session = s }
 answerFor s (got a e) = record { verdict = Accepted; header = asHeader (a .frame .header); session = sessionAfter (a .frame .header .kind) s }
+
+-- ---- an answer as numbers
+-- "its kind (intra, inter, repeat)" as a number
+abbrev pub kindNumber : Kind → ℕ
+kindNumber Intra = 0
+kindNumber Inter = 1
+kindNumber Repeat = 2
+
+-- 7 numbers: the number of the refusal (0 if there is none), its place, the kind, how many qi there are, and three qi, of which the others are 0. After a refusal all but the first two are 0
+unfoldable pub answerNumbers : Verdict → Header → List ℕ
+answerNumbers Accepted h = 0 ∷ 0 ∷ kindNumber (h .kind) ∷ h .count ∷ getD (h .qis) 0 0 ∷ getD (h .qis) 1 0 ∷ getD (h .qis) 2 0 ∷ []
+answerNumbers (Refused k e) h = k ∷ e ∷ 0 ∷ 0 ∷ 0 ∷ 0 ∷ 0 ∷ []

@@ -3,13 +3,15 @@ use frame_header::Header;
 use frame_header::Kind;
 use headers::Session;
 ghost use mathlib.Core.Path.{_≡_};
+ghost use lib.ListN.{length};
 ghost use Rattle.bitstream.specs.Reading.{refused};
-ghost use Rattle.reading.specs.Answer.{sessionAfter, answerFor};
+ghost use Rattle.reading.specs.declared.Verdict.the-variants.{Accepted};
+ghost use Rattle.reading.specs.Answer.{sessionAfter, answerFor, kindNumber, answerNumbers};
 
-// An accepted frame, or the number of the refusal.
+// An accepted frame, or the number of the refusal and its bit place.
 pub enum Verdict {
     Accepted,
-    Refused(u32),
+    Refused(u32, usize),
 }
 
 // A frame call's answer: beside a refusal the header is that of a repeat, and says nothing. The session is that for the next call.
@@ -19,12 +21,12 @@ pub struct FrameAnswer {
     pub session: Session,
 }
 
-// The number of a refusal alone: nothing else of the answer says anything, and the session stays.
-pub fn refusal(k: u32, s: Session) -> FrameAnswer
-    ensures { λ r. ⌜ r ≡ answerFor s (refused k 0) ⌝ }
+// A refusal by its number and its bit place: nothing else of the answer says anything, and the session stays.
+pub fn refusal(k: u32, place: usize, s: Session) -> FrameAnswer
+    ensures { λ r. ⌜ r ≡ answerFor s (refused k place) ⌝ }
 {
     FrameAnswer {
-        verdict: Verdict::Refused(k),
+        verdict: Verdict::Refused(k, place),
         header: Header {
             kind: Kind::Repeat,
             qis: [0, 0, 0],
@@ -46,5 +48,48 @@ pub fn session_after(kind: Kind, s: Session) -> Session
         }
         Kind::Inter => s,
         Kind::Repeat => s,
+    }
+}
+
+// ---- an answer as numbers
+
+fn kind_number(kind: Kind) -> u64
+    ensures { λ r. ⌜ r ≡ kindNumber kind ⌝ }
+{
+    match kind {
+        Kind::Intra => 0,
+        Kind::Inter => 1,
+        Kind::Repeat => 2,
+    }
+}
+
+fn store_header(h: Header, list: &mut [u64])
+    requires { ⌜ length (now list) ≡ 7 ⌝ }
+    ensures { λ _. ⌜ now (list .exit) ≡ answerNumbers Accepted h ⌝ }
+{
+    let kind = h.kind;
+    let qis = h.qis;
+    let number = kind_number(kind);
+    let count = h.count as u64;
+    let first = qis[0] as u64;
+    let second = qis[1] as u64;
+    let third = qis[2] as u64;
+    let numbers = [0, 0, number, count, first, second, third];
+    buffer::copy_longs(list, &numbers);
+}
+
+// Stores the numbers of a frame's answer.
+pub fn store_answer(verdict: Verdict, header: Header, list: &mut [u64])
+    requires { ⌜ length (now list) ≡ 7 ⌝ }
+    ensures { λ _. ⌜ now (list .exit) ≡ answerNumbers verdict header ⌝ }
+{
+    match verdict {
+        Verdict::Accepted => store_header(header, list),
+        Verdict::Refused(k, place) => {
+            let number = k as u64;
+            let bit = place as u64;
+            let numbers = [number, bit, 0, 0, 0, 0, 0];
+            buffer::copy_longs(list, &numbers);
+        }
     }
 }

@@ -38,12 +38,12 @@ header-end p h = setup-lawful .moves p 0 _ _ (omega arith) h .1
 
 -- ---- the setup call, by the length of what is lent and by the packet
 module _ (old p : List ℕ) where
-  pub call-length : (length old ≡ tableBytes → ⊥) → (Refused 1 ≡ asSetupAnswer (setupOutcome (length old) p)) × (old ≡ tableAfter old p)
+  pub call-length : (length old ≡ tableBytes → ⊥) → (Refused 1 0 ≡ asSetupAnswer (setupOutcome (length old) p)) × (old ≡ tableAfter old p)
   unfolding setupOutcome tableAfter
   call-length h = rw (ne-eqb _ _ h) (refl, refl)
 
   pub call-refused : length old ≡ tableBytes → {k e : ℕ} (new : List ℕ) → setupHeader p 0 ≡ refused k e → new ≡ replicate (length old) 0
-      → (Refused k ≡ asSetupAnswer (setupOutcome (length old) p)) × (new ≡ tableAfter old p)
+      → (Refused k e ≡ asSetupAnswer (setupOutcome (length old) p)) × (new ≡ tableAfter old p)
   unfolding setupOutcome tableAfter
   call-refused h new f s = rw (eq-eqb _ _ h, f) (refl, s ∙ ap (λ (n : ℕ). replicate n 0) h)
 

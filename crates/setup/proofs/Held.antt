@@ -125,6 +125,20 @@ held-reads t {s} {e} h = go (isTable t) h
     go true r = r
     go false r = no-mix (sym r)
 
+-- a memory that holds no setup is refused by 8, which has no place
+pub held-refused : (t : List ℕ) {k e : ℕ} → heldSetup t ≡ refused k e → (8 ≡ k) × (0 ≡ e)
+unfolding heldSetup genuine
+held-refused t {k} {e} h = go (eqb (length t) tableBytes) (setupHeader t 0) h
+  where
+    ends : (b : Bool) (s : Setup) (d : ℕ) → choose b (got s d) (refused 8 0) ≡ refused k e → (8 ≡ k) × (0 ≡ e)
+    ends true s d r = no-mix r
+    ends false s d r = (cc, cc)
+
+    go : (b : Bool) (o : Outcome Setup) → choose (b && endsClear t o) o (refused 8 0) ≡ refused k e → (8 ≡ k) × (0 ≡ e)
+    go false o r = (cc, cc)
+    go true (got s d) r = ends (clearFrom t d) s d r
+    go true (refused j d) r = (cc, cc)
+
 -- ---- what the loader of a table memory answers
 pub record HeldIn (o : Outcome Setup) (l : LoadedSetup) : Type 0 where
   pub setup : Setup

@@ -1,23 +1,25 @@
--- The setup header has the three laws of the reading algebra; so table memory is exact. Assumes nothing.
+-- The setup header has the laws of the reading algebra; so table memory is exact. Assumes nothing.
 use Prim.Native.Nat.{ℕ, _*_}
 use native.Mathlib.Omega.{arith}
 use mathlib.Core.Path.{_≡_, refl, sym, _∙_}
-use mathlib.Core.List.{List, _∷_}
+use mathlib.Core.List.{List, [], _∷_}
 use mathlib.Core.Bool.{Bool, true, false}
 use lib.Dec.{eqb}
 use lib.ListN.{length, replicate}
 use borrow.Author.Tests.{eqb-true, eq-eqb}
 use Rattle.bitstream.specs.Bits.{number}
+use Rattle.bitstream.specs.Lists.{among}
 use Rattle.bitstream.specs.Reading.{got, pure, bind, guard, field, judged, many}
 use Rattle.bitstream.proofs.Fields.{no-mix, field-value}
 use Rattle.bitstream.proofs.Laws.{Lawful, lawful, bind-got}
+use Rattle.bitstream.proofs.Inside.{Inside, inside, Refuses, refuses}
 use Rattle.bitstream.proofs.Spends.{Spends, spends-more, pure-spends, field-then, field-spends, bind-spends, many-spends}
 use Rattle.headers.specs.Judgement.{exactly, spelled, theora, commonHeader}
-use Rattle.headers.proofs.Judged.{commonHeader-lawful, commonHeader-spends}
+use Rattle.headers.proofs.Judged.{commonHeader-lawful, commonHeader-inside, commonHeader-refuses, commonHeader-spends}
 use Rattle.huffman.specs.Tree.{huffmanTree}
-use Rattle.huffman.proofs.Trees.{huffman-lawful, huffman-spends}
+use Rattle.huffman.proofs.Trees.{huffman-lawful, huffman-inside, huffman-refuses, huffman-spends}
 use Rattle.quantization.specs.Parameters.{quantization}
-use Rattle.quantization.proofs.Laws.{quantization-lawful, quantization-spends}
+use Rattle.quantization.proofs.Laws.{quantization-lawful, quantization-inside, quantization-refuses, quantization-spends}
 use Rattle.table_memory.specs.Genuine.{Bytes, Leaves}
 use Rattle.table_memory.proofs.GenuineLaws.{genuine-iff, zeros-not, kept-read}
 use Rattle.setup.specs.Header.{Setup, loopLimits, setupHeader}
@@ -30,6 +32,23 @@ limits-lawful = search lawful depth 10
 pub setup-lawful : Lawful setupHeader
 unfolding setupHeader
 setup-lawful = search (lawful, commonHeader-lawful, limits-lawful, quantization-lawful, huffman-lawful) depth 14
+
+-- what is refused lies in the packet, and is refused by 2, 4 or 7
+limits-inside : {d : ℕ} → Inside d loopLimits
+unfolding loopLimits
+limits-inside = search inside depth 10
+
+pub setup-inside : Inside 0 setupHeader
+unfolding setupHeader
+setup-inside = search (inside, commonHeader-inside, limits-inside, quantization-inside, huffman-inside) depth 14
+
+limits-refuses : Refuses (2 ∷ 4 ∷ 7 ∷ []) loopLimits
+unfolding loopLimits among
+limits-refuses = search refuses depth 10
+
+pub setup-refuses : Refuses (2 ∷ 4 ∷ 7 ∷ []) setupHeader
+unfolding setupHeader among
+setup-refuses = search (refuses, commonHeader-refuses, limits-refuses, quantization-refuses, huffman-refuses) depth 14
 
 pub limits-spends : Spends 451 loopLimits
 unfolding loopLimits

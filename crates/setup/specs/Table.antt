@@ -19,10 +19,10 @@ tableBytes = 28184
 unfoldable pub setupOutcome : ℕ → List ℕ → Outcome Setup
 setupOutcome room p = choose (eqb room tableBytes) (setupHeader p 0) (refused 1 0)
 
--- "Every refusal returns its number alone"
+-- a refusal with "the bit place of the first bit of the field at fault"
 abbrev pub asSetupAnswer : Outcome Setup → SetupAnswer
 asSetupAnswer (got s e) = Accepted
-asSetupAnswer (refused k e) = Refused k
+asSetupAnswer (refused k e) = Refused k e
 
 -- what a packet leaves: the bits that were read, then zeros; "refused: all zero"
 abbrev pub leftBy : List ℕ → Outcome Setup → List ℕ

@@ -29,10 +29,10 @@ pub struct SetupRead {
     pub setup: LoadedSetup,
 }
 
-// The answer of the setup call.
+// The answer of the setup call: a refusal has its number and its bit place.
 pub enum SetupAnswer {
     Accepted,
-    Refused(u32),
+    Refused(u32, usize),
 }
 
 // The length of table memory, in bytes.
@@ -179,13 +179,13 @@ pub fn setup(packet: &[u8], table: &mut [u8]) -> SetupAnswer
     ensures { λ r. ⌜ now (table .exit) ≡ tableAfter (now (table .entry)) (now (packet .entry)) ⌝ }
 {
     if table.len() != TABLE_BYTES {
-        return SetupAnswer::Refused(1);
+        return SetupAnswer::Refused(1, 0);
     }
     let answer = scan(bitstream::readable(packet));
     match answer {
-        Place::Refused(number, _) => {
+        Place::Refused(number, fault) => {
             table_memory::clear(table);
-            SetupAnswer::Refused(number)
+            SetupAnswer::Refused(number, fault)
         }
         Place::At(end) => {
             table_memory::keep(packet, end, table);

@@ -57,7 +57,7 @@ module _ (memory : Memory) where
       (choose (eqb n 3) (answered Accepted Inter (st .session) (30 ∷ []))
       (choose (eqb n 5) (answered Accepted Repeat (st .session) (st .previous))
       (choose (eqb n 6) (answered Accepted Intra (sessionAfter Intra (st .session)) (60 ∷ []))
-      (answered (Refused 4) Repeat (st .session) (c .new)))))
+      (answered (Refused 4 7) Repeat (st .session) (c .new)))))
 
   -- golden, previous and new after each call
   after-each : Turn → List (List ℕ)

@@ -7,4 +7,5 @@ pub mod Lengths
 pub mod Call
 pub mod LeftBySetup
 pub mod Demand
+pub mod Places
 pub mod Table

@@ -22,7 +22,7 @@ pub enum WorkAnswer {
     Refused(u32),
 }
 
-// An identification packet: the fresh session, or the number of the refusal.
+// An identification packet: the fresh session, or the number of the refusal and its bit place.
 pub fn identification(packet: &[u8]) -> IdentificationAnswer
     ensures { λ r. ⌜ r ≡ asIdentification (identification (now (packet .entry)) 0) ⌝ }
 {
@@ -138,7 +138,7 @@ pub fn frame(
                 new,
             );
         }
-        return reading::refusal(1, s);
+        return reading::refusal(1, 0, s);
     }
-    reading::refusal(8, s)
+    reading::refusal(8, 0, s)
 }

@@ -8,9 +8,10 @@ use lib.Dec.{eqb}
 use lib.ListN.{length, getD, set}
 use lib.Seq.{getD-set-same, getD-set-other, set-getD}
 use borrow.Author.Tests.{eqb-true, eq-eqb, ne-eqb}
-use Rattle.bitstream.specs.Reading.{Outcome, got, refused, choose}
+use Rattle.bitstream.specs.Reading.{choose}
 use Rattle.headers.specs.Fits.{sessionFits}
 use Rattle.headers.specs.declared.Session.{Session}
+use Rattle.headers.specs.declared.IdentificationAnswer.{IdentificationAnswer}
 use Rattle.setup.specs.declared.SetupAnswer.{SetupAnswer}
 use Rattle.setup.specs.Table.{tableBytes, setupOutcome, asSetupAnswer, tableAfter, isTable}
 use Rattle.queries.specs.declared.MatrixAnswer.{MatrixAnswer}
@@ -21,10 +22,10 @@ use Rattle.frame_header.specs.declared.Kind.{Kind}
 use Rattle.frame_header.specs.declared.Kind.the-variants.{Intra, Inter, Repeat}
 use Rattle.ways.specs.Ways.{firstWay}
 use Rattle.reading.specs.declared.Verdict.{Verdict}
-use Rattle.reading.specs.Answer.{Asked, sessionAfter, answerFor}
+use Rattle.reading.specs.Answer.{sessionAfter, answerNumbers}
 use Rattle.decoding.specs.Answer.{Done, state}
 use Rattle.theora.specs.Call.{Call, byRules}
-use Rattle.theora_c.specs.Face.{Returned, gives, flag, numbersOf, sessionOf, listsNumber, onList, setupNumber, setupCall, tableCall, matrixReturned, matrixFound, matrixCall, headerNumbers, referenceNumber, sessionNumbers, Answered, answers, verdictReturned, frameGives, frameCall}
+use Rattle.theora_c.specs.Face.{Returned, gives, flag, numbersOf, sessionOf, sessionReturned, listsNumber, onList, setupReturned, setupCall, tableCall, matrixReturned, matrixFound, matrixCall, referenceNumber, sessionNumbers, Answered, answers, verdictReturned, frameGives, frameCall}
 
 -- the numbers of a session, with the last one found by `flag_number`
 pub with-flag : (s : Session) (n : ℕ) → n ≡ flag (s .references)
@@ -39,28 +40,28 @@ module _ (n : ℕ) (session : List ℕ) (room : ℕ) where
   unfolding listsNumber
   lists-length h = rw (ne-eqb _ _ h)
 
-  module _ (h : length session ≡ 17) {s : Session} (e : s ≡ sessionOf session) where
-    pub lists-none : sessionFits s ≡ true → room ≡ n → 0 ≡ listsNumber n session room
-    unfolding listsNumber
-    lists-none f r = rw (eq-eqb _ _ h, ← e, f, eq-eqb _ _ r)
+  pub lists-none : length session ≡ 17 → room ≡ n → 0 ≡ listsNumber n session room
+  unfolding listsNumber
+  lists-none h r = rw (eq-eqb _ _ h, eq-eqb _ _ r)
 
+  module _ (h : length session ≡ 17) {s : Session} (e : s ≡ sessionOf session) where
     pub lists-room : sessionFits s ≡ true → (room ≡ n → ⊥) → 1 ≡ listsNumber n session room
     unfolding listsNumber
     lists-room f r = rw (eq-eqb _ _ h, ← e, f, ne-eqb _ _ r)
 
-    pub lists-fields : sessionFits s ≡ false → 8 ≡ listsNumber n session room
+    pub lists-fields : sessionFits s ≡ false → (room ≡ n → ⊥) → 8 ≡ listsNumber n session room
     unfolding listsNumber
-    lists-fields f = rw (eq-eqb _ _ h, ← e, f)
+    lists-fields f r = rw (eq-eqb _ _ h, ← e, f, ne-eqb _ _ r)
 
   -- lists that are not refused have their lengths
   pub lengths : listsNumber n session room ≡ 0 → (length session ≡ 17) × (room ≡ n)
   unfolding listsNumber
-  lengths t = go (eqb (length session) 17) (sessionFits (sessionOf session)) (eqb room n) refl refl t
+  lengths t = go (eqb (length session) 17) (eqb room n) (sessionFits (sessionOf session)) refl refl t
     where
-      go : (a b c : Bool) → eqb (length session) 17 ≡ a → eqb room n ≡ c → _≡_ {A = ℕ} (choose a (choose b (choose c 0 1) 8) 1) 0 → (length session ≡ 17) × (room ≡ n)
-      go true true true h r z = (eqb-true _ _ h, eqb-true _ _ r)
-      go true true false h r z = absurd (omega arith)
-      go true false c h r z = absurd (omega arith)
+      go : (a b c : Bool) → eqb (length session) 17 ≡ a → eqb room n ≡ b → _≡_ {A = ℕ} (choose a (choose b 0 (choose c 1 8)) 1) 0 → (length session ≡ 17) × (room ≡ n)
+      go true true c h r z = (eqb-true _ _ h, eqb-true _ _ r)
+      go true false true h r z = absurd (omega arith)
+      go true false false h r z = absurd (omega arith)
       go false b c h r z = absurd (omega arith)
 
 module _ (n : ℕ) (session old : List ℕ) {k : ℕ} (e : k ≡ listsNumber n session (length old)) where
@@ -73,10 +74,31 @@ module _ (n : ℕ) (session old : List ℕ) {k : ℕ} (e : k ≡ listsNumber n s
   unfolding onList
   unmade call z = rw (ne-eqb _ 0 (λ w. z (e ∙ w))) (ap (λ (m : ℕ). gives m old) e)
 
+-- a list of one number, after it was stored
+only : (l : List ℕ) (n : ℕ) → length l ≡ 1 → set l 0 n ≡ n ∷ []
+only [] n h = absurd (omega arith)
+only (x ∷ []) n h = refl
+only (x ∷ y ∷ l) n h = absurd (omega arith)
+
+-- the identification call, from what the call below answers
+module _ (session place : List ℕ) (l : length place ≡ 1) {a : IdentificationAnswer} where
+  pub session-accepted : {s : Session} {k : ℕ} {list : List ℕ} → a ≡ IdentificationAnswer.Accepted s → gives k list ≡ gives 0 (numbersOf s) → answers k list (set place 0 0) ≡ sessionReturned session a
+  session-accepted e g = rw (e, only place 0 l, ap (λ (x : Returned). x .number) g, ap (λ (x : Returned). x .left) g)
+
+  pub session-refused : {k e : ℕ} → a ≡ IdentificationAnswer.Refused k e → answers k session (set place 0 e) ≡ sessionReturned session a
+  session-refused {k} {e} h = rw (h, only place e l)
+
 -- the setup call, from what `setup` answers and leaves
-pub setup-returned : (packet old new : List ℕ) {a b : SetupAnswer} → (a ≡ asSetupAnswer (setupOutcome (length old) packet)) × (new ≡ tableAfter old packet) → a ≡ b → gives (setupNumber b) new ≡ setupCall packet old
-unfolding setupCall
-setup-returned packet old new h e = ap₂ gives (ap setupNumber (sym e ∙ h .0)) (h .1)
+module _ (packet old new place : List ℕ) (l : length place ≡ 1) {a : SetupAnswer} (h : (a ≡ asSetupAnswer (setupOutcome (length old) packet)) × (new ≡ tableAfter old packet)) where
+  setup-made : setupReturned new a ≡ setupCall packet old place
+  unfolding setupCall
+  setup-made = rw (eq-eqb _ _ l) (ap₂ setupReturned (h .1) (h .0))
+
+  pub setup-accepted : a ≡ SetupAnswer.Accepted → answers 0 new (set place 0 0) ≡ setupCall packet old place
+  setup-accepted e = ap (answers 0 new) (only place 0 l) ∙ sym (ap (setupReturned new) e) ∙ setup-made
+
+  pub setup-refused : {k e : ℕ} → a ≡ SetupAnswer.Refused k e → answers k new (set place 0 e) ≡ setupCall packet old place
+  setup-refused {k} {e} f = ap (answers k new) (only place e l) ∙ sym (ap (setupReturned new) f) ∙ setup-made
 
 -- the test of a table memory, by its length
 module _ (t : List ℕ) where
@@ -104,19 +126,18 @@ module _ (t fresh new old : List ℕ) (type plane qi : ℕ) where
   unfolding matrixCall
   matrix-made z h l e = rw (eq-eqb _ _ l) (e ∙ matrix-found old fresh new (matrixInto fresh t type plane qi) h ∙ ap (matrixFound old) (into z))
 
--- the numbers of a frame's answer, from what `reference_number` and `return_header` answer; or as they were
-module _ (session old : List ℕ) (h : Header) {v : Verdict} where
-  pub frame-accepted : {k n : ℕ} {l : List ℕ} → v ≡ Verdict.Accepted → n ≡ referenceNumber (h .kind) (getD session 16 0) → gives k l ≡ gives 0 (headerNumbers h)
-      → answers k (set session 16 n) l ≡ verdictReturned session old h v
-  frame-accepted e m g = rw (e, m, ap (λ (x : Returned). x .number) g, ap (λ (x : Returned). x .left) g)
+-- the lists after a frame, from what `reading::store_answer` and `reference_number` leave and answer
+module _ (session : List ℕ) (h : Header) {v : Verdict} {l : List ℕ} (s : l ≡ answerNumbers v h) where
+  pub frame-accepted : {n : ℕ} → v ≡ Verdict.Accepted → n ≡ referenceNumber (h .kind) (getD session 16 0) → answers 0 (set session 16 n) l ≡ verdictReturned session h v
+  frame-accepted e m = rw (s, e, m)
 
-  pub frame-refused : {k : ℕ} → v ≡ Verdict.Refused k → answers k session old ≡ verdictReturned session old h v
-  frame-refused e = rw e
+  pub frame-refused : {k e : ℕ} → v ≡ Verdict.Refused k e → answers k session l ≡ verdictReturned session h v
+  frame-refused e = rw (s, e)
 
 -- a frame call that is made on the session s of the list, and one whose lists are refused
-module _ (session old golden previous : List ℕ) (c : Call) {k : ℕ} (e : k ≡ listsNumber 5 session (length old)) where
+module _ (session old golden previous : List ℕ) (c : Call) {k : ℕ} (e : k ≡ listsNumber 7 session (length old)) where
   pub frame-made : k ≡ 0 → {s : Session} {d : Done} {a : Answered} → s ≡ sessionOf session
-      → d ≡ byRules firstWay (state s golden previous) c → a ≡ verdictReturned session old (d .answer .header) (d .answer .verdict)
+      → d ≡ byRules firstWay (state s golden previous) c → a ≡ verdictReturned session (d .answer .header) (d .answer .verdict)
       → frameGives a (d .new) (d .memory) ≡ frameCall session old golden previous c
   unfolding frameCall
   frame-made z f h g = rw (eq-eqb _ 0 (sym e ∙ z), g, h, f)
@@ -154,7 +175,3 @@ module _ (l : List ℕ) (h : length l ≡ 17) where
       )
   session-handed Inter = rw (set-getD l 16 0)
   session-handed Repeat = rw (set-getD l 16 0)
-
-  answer-handed : (old : List ℕ) (o : Outcome Asked) → let a = answerFor (sessionOf l) o in sessionOf (verdictReturned l old (a .header) (a .verdict) .session) ≡ a .session
-  answer-handed old (refused k e) = refl
-  answer-handed old (got a e) = session-handed (a .frame .header .kind)

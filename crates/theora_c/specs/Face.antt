@@ -1,6 +1,6 @@
 -- The face for C: sessions and answers as lists of numbers, and what each call returns and leaves.
 use Prim.Native.Nat.{ℕ}
-use mathlib.Core.Bool.{Bool, true, false, not}
+use mathlib.Core.Bool.{Bool, true, false, not, _&&_}
 use mathlib.Core.List.{List, [], _∷_}
 use lib.Dec.{eqb}
 use lib.ListN.{length, getD, set}
@@ -27,6 +27,7 @@ use Rattle.frame_header.specs.declared.Kind.{Kind}
 use Rattle.frame_header.specs.declared.Kind.the-variants.{Intra, Inter, Repeat}
 use Rattle.ways.specs.Ways.{firstWay}
 use Rattle.reading.specs.declared.Verdict.{Verdict}
+use Rattle.reading.specs.Answer.{answerNumbers}
 use Rattle.theora.specs.declared.WorkAnswer.{WorkAnswer}
 use Rattle.work_memory.specs.declared.WorkLengths.{WorkLengths}
 use Rattle.work_memory.specs.Memory.{Memory}
@@ -85,10 +86,19 @@ sizeNumbers n =
     ∷ n .cb .across ∷ n .cb .up ∷ n .cb .offset ∷ n .cb .length
     ∷ n .cr .across ∷ n .cr .up ∷ n .cr .offset ∷ n .cr .length ∷ []
 
--- what each case of an answer returns and leaves; 255 says that the frame has no such thing
-abbrev pub sessionReturned : List ℕ → IdentificationAnswer → Returned
-sessionReturned old (IdentificationAnswer.Accepted s) = gives 0 (numbersOf s)
-sessionReturned old (IdentificationAnswer.Refused k) = gives k old
+-- what a call returns, and what the two lists hold afterwards that are lent to it to be written: what it is about (a session, table memory) and the numbers of its answer
+pub record Answered : Type 0 where
+  pub number : ℕ
+  pub lent : List ℕ
+  pub left : List ℕ
+
+abbrev pub answers : ℕ → (lent left : List ℕ) → Answered
+answers k lent left = record { number = k; lent = lent; left = left }
+
+-- what each case of an answer returns and leaves; 255 says that the frame has no such thing. A header's place is 0 where it is accepted
+abbrev pub sessionReturned : List ℕ → IdentificationAnswer → Answered
+sessionReturned old (IdentificationAnswer.Accepted s) = answers 0 (numbersOf s) (0 ∷ [])
+sessionReturned old (IdentificationAnswer.Refused k e) = answers k old (e ∷ [])
 
 abbrev pub sizesReturned : List ℕ → SizesAnswer → Returned
 sizesReturned old (SizesAnswer.Is n) = gives 0 (sizeNumbers n)
@@ -114,14 +124,14 @@ numberReturned old (NumberAnswer.Refused k) = gives k old
 abbrev pub sized : Bool → List ℕ → Returned → Returned
 sized lengths old x = choose lengths x (gives 1 old)
 
--- the identification call: a packet, and the list of the session
-unfoldable pub identificationCall : List ℕ → List ℕ → Returned
-identificationCall packet old = sized (eqb (length old) 17) old (sessionReturned old (asIdentification (identification packet 0)))
+-- the identification call: a packet, and the lists of the session and of the place. "a lent length differs from the published one" is 1, and then nothing is written
+unfoldable pub identificationCall : (packet session place : List ℕ) → Answered
+identificationCall packet session place = choose (eqb (length session) 17 && eqb (length place) 1) (sessionReturned session (asIdentification (identification packet 0))) (answers 1 session place)
 
--- by what the lists of a call on a session are refused, 0 if by nothing. A session's list of another length than 17 is 1: there is no session to
--- judge. Then "that" (the identification part of 8), "then 1": a list for the answer that has not the n numbers wanted
+-- by what the lists of a call on a session are refused before it is made, 0 if by nothing. A session's list of another length than 17 is 1: there is no
+-- session to judge. A list for the answer that has not the n numbers wanted is 1 behind "that" (the identification part of 8); where it has them, the call itself says 8
 unfoldable pub listsNumber : (n : ℕ) → (session : List ℕ) → (room : ℕ) → ℕ
-listsNumber n session room = choose (eqb (length session) 17) (choose (sessionFits (sessionOf session)) (choose (eqb room n) 0 1) 8) 1
+listsNumber n session room = choose (eqb (length session) 17) (choose (eqb room n) 0 (choose (sessionFits (sessionOf session)) 1 8)) 1
 
 -- the calls on a session, whose answer has n numbers
 unfoldable pub onList : ℕ → List ℕ → List ℕ → (Session → Returned) → Returned
@@ -157,13 +167,13 @@ macroBlockOfCall session p x y old = onList 2 session old (λ s. placeReturned o
 abbrev pub sampleOffsetCall : List ℕ → ℕ → ℕ → ℕ → ℕ → ℕ → List ℕ → Returned
 sampleOffsetCall session p x y c r old = onList 1 session old (λ s. numberReturned old (asNumber (sampleOffset s (block p x y) c r)))
 
--- the setup call: its number, and every byte of table memory afterwards
-abbrev pub setupNumber : SetupAnswer → ℕ
-setupNumber SetupAnswer.Accepted = 0
-setupNumber (SetupAnswer.Refused k) = k
+-- the setup call: its number and place, and every byte of table memory afterwards
+abbrev pub setupReturned : (after : List ℕ) → SetupAnswer → Answered
+setupReturned after SetupAnswer.Accepted = answers 0 after (0 ∷ [])
+setupReturned after (SetupAnswer.Refused k e) = answers k after (e ∷ [])
 
-unfoldable pub setupCall : List ℕ → List ℕ → Returned
-setupCall packet old = gives (setupNumber (asSetupAnswer (setupOutcome (length old) packet))) (tableAfter old packet)
+unfoldable pub setupCall : (packet table place : List ℕ) → Answered
+setupCall packet table place = choose (eqb (length place) 1) (setupReturned (tableAfter table packet) (asSetupAnswer (setupOutcome (length table) packet))) (answers 1 table place)
 
 -- "no accepted setup packet leaves this table memory" is 8, after 1
 unfoldable pub tableCall : List ℕ → ℕ
@@ -203,16 +213,6 @@ lengthsReturned old (WorkAnswer.Refused k) = gives k old
 abbrev pub workLengthsCall : List ℕ → List ℕ → Returned
 workLengthsCall session old = onList 11 session old (λ s. lengthsReturned old (workLengths s))
 
--- "its kind (intra, inter, repeat)" as a number
-abbrev pub kindNumber : Kind → ℕ
-kindNumber Intra = 0
-kindNumber Inter = 1
-kindNumber Repeat = 2
-
--- what an accepted frame answers, as 5 numbers: its kind, how many qi there are, and three qi, of which the others are 0
-unfoldable pub headerNumbers : Header → List ℕ
-headerNumbers h = kindNumber (h .kind) ∷ h .count ∷ getD (h .qis) 0 0 ∷ getD (h .qis) 1 0 ∷ getD (h .qis) 2 0 ∷ []
-
 -- "Accepted inter and empty packets leave the session as it was; an intra one sets its reference flag": the flag's number, from what it was
 abbrev pub referenceNumber : Kind → ℕ → ℕ
 referenceNumber Intra old = 1
@@ -222,19 +222,10 @@ referenceNumber Repeat old = old
 abbrev pub sessionNumbers : Kind → List ℕ → List ℕ
 sessionNumbers kind session = set session 16 (referenceNumber kind (getD session 16 0))
 
--- what a frame call returns, and what the lists of the session and of the answer hold afterwards
-pub record Answered : Type 0 where
-  pub number : ℕ
-  pub session : List ℕ
-  pub left : List ℕ
-
-abbrev pub answers : ℕ → (session left : List ℕ) → Answered
-answers k session left = record { number = k; session = session; left = left }
-
--- accepted: 0, the session with its flag set anew, and the header; refused: the number, and both lists as they were
-abbrev pub verdictReturned : (session old : List ℕ) → Header → Verdict → Answered
-verdictReturned session old h Verdict.Accepted = answers 0 (sessionNumbers (h .kind) session) (headerNumbers h)
-verdictReturned session old h (Verdict.Refused k) = answers k session old
+-- the numbers of the answer, also of a refusal; the session with its flag set anew, or as it was
+abbrev pub verdictReturned : (session : List ℕ) → Header → Verdict → Answered
+verdictReturned session h Verdict.Accepted = answers 0 (sessionNumbers (h .kind) session) (answerNumbers Verdict.Accepted h)
+verdictReturned session h (Verdict.Refused k e) = answers k session (answerNumbers (Verdict.Refused k e) h)
 
 -- the same, and all else that is lent to be written: new and work memory
 pub record FrameReturned : Type 0 where
@@ -250,13 +241,13 @@ abbrev pub stateOf : (session golden previous : List ℕ) → State
 stateOf session golden previous = state (sessionOf session) golden previous
 
 -- what the rules leave, as a frame call returns it
-abbrev pub doneReturned : (session old : List ℕ) → Done → FrameReturned
-doneReturned session old d = frameGives (verdictReturned session old (d .answer .header) (d .answer .verdict)) (d .new) (d .memory)
+abbrev pub doneReturned : (session : List ℕ) → Done → FrameReturned
+doneReturned session d = frameGives (verdictReturned session (d .answer .header) (d .answer .verdict)) (d .new) (d .memory)
 
 -- a frame call: the lists of the session and of the answer, then the rules
 unfoldable pub frameCall : (session old golden previous : List ℕ) → Call → FrameReturned
 frameCall session old golden previous c =
-    let k = listsNumber 5 session (length old) in
+    let k = listsNumber 7 session (length old) in
     choose (eqb k 0)
-    (doneReturned session old (byRules firstWay (stateOf session golden previous) c))
+    (doneReturned session (byRules firstWay (stateOf session golden previous) c))
     (frameGives (answers k session old) (c .new) (c .memory))

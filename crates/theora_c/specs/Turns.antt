@@ -14,10 +14,10 @@ pub record FaceCall : Type 0 where
   pub rules : Call
   pub answer : List ℕ
 
--- every list for an answer has its 5 numbers
+-- every list for an answer has its 7 numbers
 unfoldable pub AnswersFit : List FaceCall → Type 0
 AnswersFit [] = Unit {0}
-AnswersFit (c ∷ cs) = (length (c .answer) ≡ 5) × AnswersFit cs
+AnswersFit (c ∷ cs) = (length (c .answer) ≡ 7) × AnswersFit cs
 
 -- each call gets the session's list as the call before left it, and golden and previous as the rules hand them on. It returns and leaves what the
 -- turn left, and its list says the session that the turn hands on
@@ -27,7 +27,7 @@ SameTurns session [] (t ∷ ts) = ⊥
 SameTurns session (c ∷ cs) [] = ⊥
 SameTurns session (c ∷ cs) (t ∷ ts) =
     let r = frameCall session (c .answer) (t .before .golden) (t .before .previous) (c .rules) in
-    (r ≡ doneReturned session (c .answer) (t .done)) × (sessionOf (r .answered .session) ≡ t .after .session) × SameTurns (r .answered .session) cs ts
+    (r ≡ doneReturned session (t .done)) × (sessionOf (r .answered .lent) ≡ t .after .session) × SameTurns (r .answered .lent) cs ts
 
 -- from any list of 17 numbers, golden and previous: the calls of the face are the turns of demand 3
 abbrev pub FaceTurns : Type 0

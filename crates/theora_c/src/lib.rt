@@ -1,5 +1,4 @@
 // The face for C and other languages: include/wedgepetal.h says what each call is for.
-use frame_header::Header;
 use frame_header::Kind;
 use headers::Fields;
 use headers::IdentificationAnswer;
@@ -15,7 +14,7 @@ use setup::SetupAnswer;
 use theora::WorkAnswer;
 ghost use mathlib.Core.Path.{_≡_};
 ghost use lib.ListN.{length};
-ghost use Rattle.theora_c.specs.Face.{gives, flag, sessionOf, listsNumber, sessionReturned, sizesReturned, blockReturned, placeReturned, numberReturned, identificationCall, sizesCall, blockAtCall, blockNumberCall, macroBlockAtCall, macroBlockNumberCall, macroBlockOfCall, sampleOffsetCall, setupCall, tableCall, limitCall, matrixReturned, matrixCall, lengthsReturned, workLengthsCall, kindNumber, headerNumbers, referenceNumber, answers, verdictReturned, frameGives, frameCall};
+ghost use Rattle.theora_c.specs.Face.{gives, flag, sessionOf, listsNumber, sessionReturned, sizesReturned, blockReturned, placeReturned, numberReturned, identificationCall, sizesCall, blockAtCall, blockNumberCall, macroBlockAtCall, macroBlockNumberCall, macroBlockOfCall, sampleOffsetCall, setupCall, tableCall, limitCall, matrixReturned, matrixCall, lengthsReturned, workLengthsCall, referenceNumber, answers, verdictReturned, frameGives, frameCall};
 ghost use Rattle.work_memory.specs.Memory.{memory};
 ghost use Rattle.theora.specs.Call.{call};
 
@@ -55,19 +54,19 @@ fn session_of(list: &[u64]) -> Session
     }
 }
 
-// By what the lists of a call on a session are refused, 0 if by nothing: 1 for a session's list of another length, 8 for its fields, then 1
-// for a list for the answer that has another length than the one wanted.
+// By what the lists of a call on a session are refused before it is made, 0 if by nothing: 1 for a session's list of another length; where the list
+// for the answer has another length than the one wanted, 8 for the session's fields, then 1. Where it has that length the call itself finds 8.
 fn lists_refusal(session: &[u64], room: usize, wanted: usize) -> u32
     ensures { λ r. ⌜ r ≡ listsNumber wanted (now (session .entry)) room ⌝ }
 {
     if session.len() != 17 {
         return 1;
     }
+    if room == wanted {
+        return 0;
+    }
     let s = session_of(session);
     if headers::session_fits(s) {
-        if room == wanted {
-            return 0;
-        }
         return 1;
     }
     8
@@ -97,9 +96,9 @@ fn widen(list: &mut [u64], numbers: &[u16]) -> u32
 
 // ---- what an answer returns and leaves
 
-fn return_session(answer: IdentificationAnswer, list: &mut [u64]) -> u32
-    requires { ⌜ length (now list) ≡ 17 ⌝ }
-    ensures { λ r. ⌜ gives r (now (list .exit)) ≡ sessionReturned (now (list .entry)) answer ⌝ }
+fn return_session(answer: IdentificationAnswer, list: &mut [u64], place: &mut [u64]) -> u32
+    requires { ⌜ (length (now list) ≡ 17) × (length (now place) ≡ 1) ⌝ }
+    ensures { λ r. ⌜ answers r (now (list .exit)) (now (place .exit)) ≡ sessionReturned (now (list .entry)) answer ⌝ }
 {
     match answer {
         IdentificationAnswer::Accepted(s) => {
@@ -123,9 +122,13 @@ fn return_session(answer: IdentificationAnswer, list: &mut [u64]) -> u32
                 s.fields.pf,
                 references,
             ];
+            place[0] = 0;
             store(list, &numbers)
         }
-        IdentificationAnswer::Refused(k) => k,
+        IdentificationAnswer::Refused(k, e) => {
+            place[0] = e as u64;
+            k
+        }
     }
 }
 
@@ -242,16 +245,6 @@ fn return_lengths(answer: WorkAnswer, list: &mut [u64]) -> u32
 
 // ---- the answer of a frame
 
-fn kind_number(kind: Kind) -> u64
-    ensures { λ r. ⌜ r ≡ kindNumber kind ⌝ }
-{
-    match kind {
-        Kind::Intra => 0,
-        Kind::Inter => 1,
-        Kind::Repeat => 2,
-    }
-}
-
 // The reference number of a session after an accepted frame.
 fn reference_number(kind: Kind, before: u64) -> u64
     ensures { λ r. ⌜ r ≡ referenceNumber kind before ⌝ }
@@ -263,47 +256,37 @@ fn reference_number(kind: Kind, before: u64) -> u64
     }
 }
 
-fn return_header(h: Header, list: &mut [u64]) -> u32
-    requires { ⌜ length (now list) ≡ 5 ⌝ }
-    ensures { λ r. ⌜ gives r (now (list .exit)) ≡ gives 0 (headerNumbers h) ⌝ }
-{
-    let kind = h.kind;
-    let qis = h.qis;
-    let number = kind_number(kind);
-    let count = h.count as u64;
-    let first = qis[0] as u64;
-    let second = qis[1] as u64;
-    let third = qis[2] as u64;
-    let numbers = [number, count, first, second, third];
-    store(list, &numbers)
-}
-
 fn return_frame(answer: FrameAnswer, session: &mut [u64], list: &mut [u64]) -> u32
-    requires { ⌜ (length (now session) ≡ 17) × (length (now list) ≡ 5) ⌝ }
-    ensures { λ r. ⌜ answers r (now (session .exit)) (now (list .exit)) ≡ verdictReturned (now (session .entry)) (now (list .entry)) (answer .header) (answer .verdict) ⌝ }
+    requires { ⌜ (length (now session) ≡ 17) × (length (now list) ≡ 7) ⌝ }
+    ensures { λ r. ⌜ answers r (now (session .exit)) (now (list .exit)) ≡ verdictReturned (now (session .entry)) (answer .header) (answer .verdict) ⌝ }
 {
     let header = answer.header;
     let kind = header.kind;
     let verdict = answer.verdict;
+    reading::store_answer(verdict, header, list);
     match verdict {
         Verdict::Accepted => {
             let before = session[16];
             session[16] = reference_number(kind, before);
-            return_header(header, list)
+            0
         }
-        Verdict::Refused(k) => k,
+        Verdict::Refused(k, _) => k,
     }
 }
 
 // ---- the calls
 
-// Reads an identification header; session receives the fresh session.
+// Reads an identification header; session receives the fresh session, place the bit place of a refusal.
 #[no_mangle]
-pub extern "C" fn wedgepetal_identification(packet: &[u8], session: &mut [u64]) -> u32
-    ensures { λ r. ⌜ gives r (now (session .exit)) ≡ identificationCall (now (packet .entry)) (now (session .entry)) ⌝ }
+pub extern "C" fn wedgepetal_identification(
+    packet: &[u8],
+    session: &mut [u64],
+    place: &mut [u64],
+) -> u32
+    ensures { λ r. ⌜ answers r (now (session .exit)) (now (place .exit)) ≡ identificationCall (now (packet .entry)) (now (session .entry)) (now (place .entry)) ⌝ }
 {
-    if session.len() == 17 {
-        return return_session(theora::identification(packet), session);
+    if (session.len() == 17) & (place.len() == 1) {
+        return return_session(theora::identification(packet), session, place);
     }
     1
 }
@@ -429,14 +412,23 @@ pub extern "C" fn wedgepetal_sample_offset(
     k
 }
 
-// Reads a setup header into table memory.
+// Reads a setup header into table memory; place receives the bit place of a refusal.
 #[no_mangle]
-pub extern "C" fn wedgepetal_setup(packet: &[u8], table: &mut [u8]) -> u32
-    ensures { λ r. ⌜ gives r (now (table .exit)) ≡ setupCall (now (packet .entry)) (now (table .entry)) ⌝ }
+pub extern "C" fn wedgepetal_setup(packet: &[u8], table: &mut [u8], place: &mut [u64]) -> u32
+    ensures { λ r. ⌜ answers r (now (table .exit)) (now (place .exit)) ≡ setupCall (now (packet .entry)) (now (table .entry)) (now (place .entry)) ⌝ }
 {
+    if place.len() != 1 {
+        return 1;
+    }
     match theora::setup(packet, table) {
-        SetupAnswer::Accepted => 0,
-        SetupAnswer::Refused(k) => k,
+        SetupAnswer::Accepted => {
+            place[0] = 0;
+            0
+        }
+        SetupAnswer::Refused(k, e) => {
+            place[0] = e as u64;
+            k
+        }
     }
 }
 
@@ -521,7 +513,7 @@ pub extern "C" fn wedgepetal_frame(
         ≡ frameCall (now (session .entry)) (now (answer .entry)) (now (golden .entry)) (now (previous .entry))
         (call (now (packet .entry)) (now (table .entry)) (memory (now (records .entry)) (now (coded .entry)) (now (coefs .entry)) (now (dc .entry)) (now (lasts .entry)) (now (flags .entry)) (now (bits .entry)) (now (supers .entry)) (now (modes .entry)) (now (active .entry))) (now (new .entry))) ⌝ }
 {
-    let k = lists_refusal(session, answer.len(), 5);
+    let k = lists_refusal(session, answer.len(), 7);
     if k == 0 {
         let s = session_of(session);
         let done = theora::frame(

@@ -9,9 +9,11 @@ use lib.IntN.{natAbs}
 use lib.ListN.{getD, drop}
 use lib.Seq.{getD-drop}
 use borrow.Author.Tests.{ltb-true, ltb-false, eqb-true, eqb-false}
+use Rattle.bitstream.specs.Lists.{among}
 use Rattle.bitstream.specs.Reading.{got, bind, pure, field, choose}
 use Rattle.bitstream.proofs.Fields.{field-lt}
 use Rattle.bitstream.proofs.Laws.{Lawful, lawful, bind-got}
+use Rattle.bitstream.proofs.Inside.{Inside, inside, Refuses, refuses}
 use Rattle.bitstream.proofs.Spends.{Spends, spends-more, field-spends, bind-spends, pure-spends}
 use Rattle.numeric.specs.Sign.{withSign}
 use Rattle.numeric.proofs.SignLaws.{sign-size}
@@ -21,6 +23,14 @@ use Rattle.token.proofs.Rows.{every-at, bits-most}
 pub extra-lawful : (t : ℕ) → Lawful (extra t)
 unfolding extra
 extra-lawful t = search lawful depth 10
+
+pub extra-inside : {d : ℕ} (t : ℕ) → Inside d (extra t)
+unfolding extra
+extra-inside t = search inside depth 10
+
+pub extra-refuses : {ks : List ℕ} → among ks 4 ≡ true → (t : ℕ) → Refuses ks (extra t)
+unfolding extra
+extra-refuses four t = search (refuses, four) depth 10
 
 -- at most 12 bits
 pub extra-spends : (t : ℕ) → Spends 12 (extra t)

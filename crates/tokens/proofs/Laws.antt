@@ -1,19 +1,22 @@
 -- The laws of reading tokens, and what holds of all that they give. Assumes nothing.
 use Prim.Native.Nat.{ℕ, zero, suc, _+_, _-_, _*_, _≤_}
 use native.Mathlib.Omega.{arith}
-use native.Mathlib.Nat.{suc-mul, zero-mul}
+use native.Mathlib.Nat.{suc-mul, zero-mul, le-refl}
 use mathlib.Core.Path.{_≡_, _∙_}
 use mathlib.Core.List.{List, [], _∷_}
+use mathlib.Core.Bool.{true}
 use lib.Dec.{eqb, ltb, leb}
 use lib.ListN.{length, getD, length-replicate}
 use lib.IntN.{pos}
+use Rattle.bitstream.specs.Lists.{among}
 use Rattle.bitstream.specs.Reading.{got, pure}
 use Rattle.bitstream.proofs.Laws.{Lawful, lawful, pure-lawful, here-lawful, guard-lawful, pick-lawful, bind-lawful, whole-lawful, bind-got}
+use Rattle.bitstream.proofs.Inside.{Inside, inside, pure-inside, here-inside, guard-inside, pick-inside, bind-inside, whole-inside, Refuses, refuses, pure-refuses, here-refuses, guard-refuses, pick-refuses, bind-refuses, whole-refuses}
 use Rattle.bitstream.proofs.Spends.{Spends, spends-more, pure-spends, here-then, guard-spends, pick-spends, bind-spends, whole-spends, field-spends}
 use Rattle.huffman.specs.Tree.{Tree, Proper}
-use Rattle.huffman.proofs.Codes.{token-code-lawful, token-code-spends}
+use Rattle.huffman.proofs.Codes.{token-code-lawful, token-code-inside, token-code-refuses, token-code-spends}
 use Rattle.token.specs.Token.{Meaning, endOfBlock, zeroRun, coefficient}
-use Rattle.token.proofs.Laws.{extra-lawful, extra-spends}
+use Rattle.token.proofs.Laws.{extra-lawful, extra-inside, extra-refuses, extra-spends}
 use Rattle.tokens.specs.Tokens.{State, token, act, readFor, visit, pass, group, table, Choices, choicesOf, choices, atPosition, positionsFrom, ranks, start, Tokens, tokensOf, readTokens}
 use Rattle.tokens.specs.Answer.{AllProper}
 use Rattle.tokens.proofs.Goes.{Visits, Bounded, positions-go, room-most}
@@ -61,6 +64,90 @@ positions-lawful trees lumas chromas (suc n) k ch s =
 pub tokens-lawful : (trees : List Tree) (luma count : ℕ) → Lawful (readTokens trees luma count)
 unfolding readTokens
 tokens-lawful trees luma count = bind-lawful (positions-lawful trees _ _ 64 0 _ _) (λ s. pure-lawful (tokensOf s))
+
+-- ---- what is refused lies in the packet; `act` reports at the code's first bit, so it has the law from there on
+token-inside : {d : ℕ} (tree : Tree) → Inside d (token tree)
+unfolding token
+token-inside tree = whole-inside (bind-inside (token-code-inside tree) extra-inside)
+
+act-inside : (k b at : ℕ) (m : Meaning) (s : State) → Inside at (act k b at m s)
+unfolding act
+act-inside k b at (endOfBlock n) s = pure-inside _
+act-inside k b at (zeroRun n) s = bind-inside (guard-inside (leb (k + n) 64) 13 at (le-refl at)) (λ _. pure-inside _)
+act-inside k b at (coefficient n v) s = bind-inside (guard-inside (leb (k + n + 1) 64) 13 at (le-refl at)) (λ _. pure-inside _)
+
+visit-inside : {d : ℕ} (tree : Tree) (k b : ℕ) (s : State) → Inside d (visit tree k b s)
+unfolding visit readFor
+visit-inside tree k b s =
+    pick-inside (eqb (getD (s .positions) b 0) k)
+    (pick-inside (ltb 0 (s .run)) (pure-inside _) (here-inside (λ at _. bind-inside (token-inside tree) (λ m. act-inside k b at m s))))
+    (pure-inside s)
+
+pass-inside : {d : ℕ} (tree : Tree) (k : ℕ) (bs : List ℕ) (s : State) → Inside d (pass tree k bs s)
+unfolding pass
+pass-inside tree k [] s = pure-inside s
+pass-inside tree k (b ∷ bs) s = bind-inside (visit-inside tree k b s) (pass-inside tree k bs)
+
+choices-inside : {d : ℕ} (k : ℕ) (ch : Choices) → Inside d (choices k ch)
+unfolding choices
+choices-inside k ch = search inside depth 10
+
+position-inside : {d : ℕ} (trees : List Tree) (lumas chromas : List ℕ) (k : ℕ) (ch : Choices) (s : State) → Inside d (atPosition trees lumas chromas k ch s)
+unfolding atPosition
+position-inside trees lumas chromas k ch s = bind-inside (pass-inside (table trees k (ch .luma)) k lumas s) (pass-inside (table trees k (ch .chroma)) k chromas)
+
+positions-inside : {d : ℕ} (trees : List Tree) (lumas chromas : List ℕ) (n k : ℕ) (ch : Choices) (s : State) → Inside d (positionsFrom trees lumas chromas n k ch s)
+unfolding positionsFrom
+positions-inside trees lumas chromas zero k ch s = pure-inside s
+positions-inside trees lumas chromas (suc n) k ch s =
+    bind-inside (choices-inside k ch) (λ ch. bind-inside (position-inside trees lumas chromas k ch s) (λ s. positions-inside trees lumas chromas n (k + 1) ch s))
+
+pub tokens-inside : {d : ℕ} (trees : List Tree) (luma count : ℕ) → Inside d (readTokens trees luma count)
+unfolding readTokens
+tokens-inside trees luma count = bind-inside (positions-inside trees _ _ 64 0 _ _) (λ s. pure-inside (tokensOf s))
+
+-- ---- and is refused by 4 or 13
+module _ {ks : List ℕ} (four : among ks 4 ≡ true) where
+  token-refuses : (tree : Tree) → Refuses ks (token tree)
+  unfolding token
+  token-refuses tree = whole-refuses (bind-refuses (token-code-refuses four tree) (extra-refuses four))
+
+  choices-refuses : (k : ℕ) (ch : Choices) → Refuses ks (choices k ch)
+  unfolding choices
+  choices-refuses k ch = search (refuses, four) depth 10
+
+  module _ (thirteen : among ks 13 ≡ true) where
+    act-refuses : (k b at : ℕ) (m : Meaning) (s : State) → Refuses ks (act k b at m s)
+    unfolding act
+    act-refuses k b at (endOfBlock n) s = pure-refuses _
+    act-refuses k b at (zeroRun n) s = bind-refuses (guard-refuses (leb (k + n) 64) 13 at thirteen) (λ _. pure-refuses _)
+    act-refuses k b at (coefficient n v) s = bind-refuses (guard-refuses (leb (k + n + 1) 64) 13 at thirteen) (λ _. pure-refuses _)
+
+    visit-refuses : (tree : Tree) (k b : ℕ) (s : State) → Refuses ks (visit tree k b s)
+    unfolding visit readFor
+    visit-refuses tree k b s =
+        pick-refuses (eqb (getD (s .positions) b 0) k)
+        (pick-refuses (ltb 0 (s .run)) (pure-refuses _) (bind-refuses here-refuses (λ at. bind-refuses (token-refuses tree) (λ m. act-refuses k b at m s))))
+        (pure-refuses s)
+
+    pass-refuses : (tree : Tree) (k : ℕ) (bs : List ℕ) (s : State) → Refuses ks (pass tree k bs s)
+    unfolding pass
+    pass-refuses tree k [] s = pure-refuses s
+    pass-refuses tree k (b ∷ bs) s = bind-refuses (visit-refuses tree k b s) (pass-refuses tree k bs)
+
+    position-refuses : (trees : List Tree) (lumas chromas : List ℕ) (k : ℕ) (ch : Choices) (s : State) → Refuses ks (atPosition trees lumas chromas k ch s)
+    unfolding atPosition
+    position-refuses trees lumas chromas k ch s = bind-refuses (pass-refuses (table trees k (ch .luma)) k lumas s) (pass-refuses (table trees k (ch .chroma)) k chromas)
+
+    positions-refuses : (trees : List Tree) (lumas chromas : List ℕ) (n k : ℕ) (ch : Choices) (s : State) → Refuses ks (positionsFrom trees lumas chromas n k ch s)
+    unfolding positionsFrom
+    positions-refuses trees lumas chromas zero k ch s = pure-refuses s
+    positions-refuses trees lumas chromas (suc n) k ch s =
+        bind-refuses (choices-refuses k ch) (λ ch. bind-refuses (position-refuses trees lumas chromas k ch s) (λ s. positions-refuses trees lumas chromas n (k + 1) ch s))
+
+    pub tokens-refuses : (trees : List Tree) (luma count : ℕ) → Refuses ks (readTokens trees luma count)
+    unfolding readTokens
+    tokens-refuses trees luma count = bind-refuses (positions-refuses trees _ _ 64 0 _ _) (λ s. pure-refuses (tokensOf s))
 
 -- ---- bits: a token takes at most 32 + 12, and there are at most 64 for each block
 token-spends : {tree : Tree} → Proper tree → Spends 44 (token tree)

@@ -8,8 +8,10 @@ use mathlib.Core.Bool.{Bool, true, false}
 use lib.Dec.{eqb, ltb}
 use lib.ListN.{length, getD, length-set}
 use borrow.Author.Tests.{ltb-false}
+use Rattle.bitstream.specs.Lists.{among}
 use Rattle.bitstream.specs.Reading.{got, bind, pure, choose, field}
 use Rattle.bitstream.proofs.Laws.{Lawful, pure-lawful, pick-lawful, bind-lawful, field-lawful, whole-lawful, bind-got}
+use Rattle.bitstream.proofs.Inside.{Inside, pure-inside, pick-inside, bind-inside, field-inside, whole-inside, Refuses, pure-refuses, pick-refuses, bind-refuses, field-refuses, whole-refuses}
 use Rattle.bitstream.proofs.Spends.{Spends, spends-more, pure-spends, field-spends, field-then, bind-spends, pick-spends, whole-spends}
 use Rattle.bitstream.proofs.ListLaws.{set-cases}
 use Rattle.geometry.specs.declared.PixelFormat.{PixelFormat}
@@ -71,6 +73,91 @@ module _ (f : PixelFormat) (w h code : ℕ) where
 pub vectors-lawful : (f : PixelFormat) (w h : ℕ) (modes : List ℕ) (rs : List BlockRecord) → Lawful (vectors f w h modes rs)
 unfolding vectors
 vectors-lawful f w h modes rs = bind-lawful (field-lawful 1) (λ code. bind-lawful (each-lawful f w h code modes (length modes) 0 _) (λ s. pure-lawful _))
+
+-- ---- what is refused lies in the packet
+added-inside : {d : ℕ} (n a : ℕ) → Inside d (added n a)
+unfolding added
+added-inside n a = bind-inside (field-inside n) (λ v. bind-inside (field-inside 1) (λ s. pure-inside _))
+
+component-inside : {d : ℕ} (code : ℕ) → Inside d (component code)
+unfolding component byCode variable
+component-inside code =
+    whole-inside (pick-inside (eqb code 0)
+    (bind-inside (field-inside 3) (λ t. pick-inside (ltb t 3) (pure-inside _) (added-inside (width t) (least t))))
+    (added-inside 5 0))
+
+vector-inside : {d : ℕ} (code : ℕ) → Inside d (vector code)
+unfolding vector
+vector-inside code = bind-inside (component-inside code) (λ x. bind-inside (component-inside code) (λ y. pure-inside _))
+
+row-inside : {d : ℕ} (code : ℕ) (left right : Bool) → Inside d (row code left right)
+unfolding row ifCoded
+row-inside code left right =
+    bind-inside (pick-inside left (vector-inside code) (pure-inside zeroVector)) (λ v. bind-inside (pick-inside right (vector-inside code) (pure-inside zeroVector)) (λ u. pure-inside _))
+
+motion-inside : {d′ : ℕ} (code mode : ℕ) (a b c d : Bool) (last last2 : Vector) → Inside d′ (motion code mode a b c d last last2)
+unfolding motion moving movingGolden movingFour
+motion-inside code mode a b c d last last2 =
+    pick-inside (eqb mode 2) (bind-inside (vector-inside code) (λ v. pure-inside _))
+    (pick-inside (eqb mode 6) (bind-inside (vector-inside code) (λ v. pure-inside _))
+    (pick-inside (eqb mode 7) (bind-inside (row-inside code a b) (λ l. bind-inside (row-inside code c d) (λ u. pure-inside _))) (pure-inside (still mode last last2))))
+
+module _ (f : PixelFormat) (w h code : ℕ) where
+  macro-inside : {d : ℕ} (mode : ℕ) (q : Place) (s : State) → Inside d (macroBlock f w h code mode q s)
+  unfolding macroBlock
+  macro-inside mode q s = bind-inside (motion-inside code mode _ _ _ _ (s .last) (s .last2)) (λ m. pure-inside _)
+
+  each-inside : {d : ℕ} (modes : List ℕ) (n m : ℕ) (s : State) → Inside d (macroBlocks f w h code modes n m s)
+  unfolding macroBlocks
+  each-inside modes zero m s = pure-inside s
+  each-inside modes (suc n) m s = bind-inside (macro-inside (getD modes m 0) (getD (codedMacros w h) m (at 0 0)) s) (λ t. each-inside modes n (m + 1) t)
+
+pub vectors-inside : {d : ℕ} (f : PixelFormat) (w h : ℕ) (modes : List ℕ) (rs : List BlockRecord) → Inside d (vectors f w h modes rs)
+unfolding vectors
+vectors-inside f w h modes rs = bind-inside (field-inside 1) (λ code. bind-inside (each-inside f w h code modes (length modes) 0 _) (λ s. pure-inside _))
+
+-- ---- and is refused by 4
+module _ {ks : List ℕ} (four : among ks 4 ≡ true) where
+  added-refuses : (n a : ℕ) → Refuses ks (added n a)
+  unfolding added
+  added-refuses n a = bind-refuses (field-refuses n four) (λ v. bind-refuses (field-refuses 1 four) (λ s. pure-refuses _))
+
+  component-refuses : (code : ℕ) → Refuses ks (component code)
+  unfolding component byCode variable
+  component-refuses code =
+      whole-refuses (pick-refuses (eqb code 0)
+      (bind-refuses (field-refuses 3 four) (λ t. pick-refuses (ltb t 3) (pure-refuses _) (added-refuses (width t) (least t))))
+      (added-refuses 5 0))
+
+  vector-refuses : (code : ℕ) → Refuses ks (vector code)
+  unfolding vector
+  vector-refuses code = bind-refuses (component-refuses code) (λ x. bind-refuses (component-refuses code) (λ y. pure-refuses _))
+
+  row-refuses : (code : ℕ) (left right : Bool) → Refuses ks (row code left right)
+  unfolding row ifCoded
+  row-refuses code left right =
+      bind-refuses (pick-refuses left (vector-refuses code) (pure-refuses zeroVector)) (λ v. bind-refuses (pick-refuses right (vector-refuses code) (pure-refuses zeroVector)) (λ u. pure-refuses _))
+
+  motion-refuses : (code mode : ℕ) (a b c d : Bool) (last last2 : Vector) → Refuses ks (motion code mode a b c d last last2)
+  unfolding motion moving movingGolden movingFour
+  motion-refuses code mode a b c d last last2 =
+      pick-refuses (eqb mode 2) (bind-refuses (vector-refuses code) (λ v. pure-refuses _))
+      (pick-refuses (eqb mode 6) (bind-refuses (vector-refuses code) (λ v. pure-refuses _))
+      (pick-refuses (eqb mode 7) (bind-refuses (row-refuses code a b) (λ l. bind-refuses (row-refuses code c d) (λ u. pure-refuses _))) (pure-refuses (still mode last last2))))
+
+  macro-refuses : (f : PixelFormat) (w h code mode : ℕ) (q : Place) (s : State) → Refuses ks (macroBlock f w h code mode q s)
+  unfolding macroBlock
+  macro-refuses f w h code mode q s = bind-refuses (motion-refuses code mode _ _ _ _ (s .last) (s .last2)) (λ m. pure-refuses _)
+
+  each-refuses : (f : PixelFormat) (w h code : ℕ) (modes : List ℕ) (n m : ℕ) (s : State) → Refuses ks (macroBlocks f w h code modes n m s)
+  unfolding macroBlocks
+  each-refuses f w h code modes zero m s = pure-refuses s
+  each-refuses f w h code modes (suc n) m s =
+      bind-refuses (macro-refuses f w h code (getD modes m 0) (getD (codedMacros w h) m (at 0 0)) s) (λ t. each-refuses f w h code modes n (m + 1) t)
+
+  pub vectors-refuses : (f : PixelFormat) (w h : ℕ) (modes : List ℕ) (rs : List BlockRecord) → Refuses ks (vectors f w h modes rs)
+  unfolding vectors
+  vectors-refuses f w h modes rs = bind-refuses (field-refuses 1 four) (λ code. bind-refuses (each-refuses f w h code modes (length modes) 0 _) (λ s. pure-refuses _))
 
 -- ---- bits that are spent: 8 for a component, 16 for a vector, 64 for a macro block
 added-spends : (n a : ℕ) → Spends (n + 1) (added n a)

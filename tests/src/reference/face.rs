@@ -13,14 +13,9 @@ use super::session::{Fields, SESSION_NUMBERS};
 use super::sizes::{Plane, Sizes, sizes};
 use super::work_memory;
 
-/// A call without its lists of numbers.
+/// A call on a session without its lists of numbers.
 #[derive(Clone, Copy, Debug)]
-pub enum Call<'a> {
-    /// `wedgepetal_identification`
-    Identification {
-        /// The packet.
-        packet: &'a [u8],
-    },
+pub enum Call {
     /// `wedgepetal_sizes`
     Sizes,
     /// `wedgepetal_block_at`
@@ -61,7 +56,10 @@ pub enum Call<'a> {
     WorkLengths,
 }
 
-/// The calls' names, in the order of `Call::kind`.
+/// The index of the identification call in `KINDS`.
+pub const IDENTIFICATION: usize = 0;
+
+/// The calls' names, in the order of `Call::kind`; the first takes no session.
 pub const KINDS: [&str; 9] = [
     "identification",
     "sizes",
@@ -74,11 +72,10 @@ pub const KINDS: [&str; 9] = [
     "work_lengths",
 ];
 
-impl Call<'_> {
+impl Call {
     /// Which call this is, as an index into `KINDS`.
     pub fn kind(&self) -> usize {
         match self {
-            Call::Identification { .. } => 0,
             Call::Sizes => 1,
             Call::BlockAt { .. } => 2,
             Call::BlockNumber { .. } => 3,
@@ -93,7 +90,6 @@ impl Call<'_> {
     /// How many numbers the call writes.
     pub fn output_length(&self) -> usize {
         match self {
-            Call::Identification { .. } => SESSION_NUMBERS,
             Call::Sizes => 16,
             Call::BlockAt { .. } => 3,
             Call::MacroBlockAt { .. } | Call::MacroBlockOf { .. } => 2,
@@ -129,17 +125,39 @@ impl Answer {
     }
 }
 
-/// What a call answers, given its session's list (if it takes one) and the
-/// length of the list that it is lent to write.
+/// What `wedgepetal_identification` returns and writes: the session and the
+/// place, each if it is written.
+#[derive(Clone, Debug, PartialEq, Eq)]
+pub struct Identified {
+    /// 0, or the number of the refusal.
+    pub number: u32,
+    /// The fresh session.
+    pub session: Option<[u64; SESSION_NUMBERS]>,
+    /// The bit place of the refusal, 0 if there is none.
+    pub place: Option<u64>,
+}
+
+/// What the identification call answers, given the lengths of the lists for
+/// the session and for the place.
+pub fn identified(packet: &[u8], session_length: usize, place_length: usize) -> Identified {
+    let left = |number, session, place| Identified {
+        number,
+        session,
+        place,
+    };
+    if session_length != SESSION_NUMBERS || place_length != 1 {
+        return left(1, None, None);
+    }
+    match identification(packet) {
+        Ok(fields) => left(0, Some(fields.session(0)), Some(0)),
+        Err(fault) => left(fault.number, None, Some(fault.place)),
+    }
+}
+
+/// What a call answers, given its session's list and the length of the list
+/// that it is lent to write.
 pub fn answer(call: Call, session: &[u64], output_length: usize) -> Answer {
     let fits = output_length == call.output_length();
-    if let Call::Identification { packet } = call {
-        return match identification(packet) {
-            _ if !fits => Answer::Refused(1),
-            Ok(fields) => Answer::accepted(&fields.session(0)),
-            Err(fault) => Answer::Refused(fault.number),
-        };
-    }
     let Ok(list) = session.try_into() else {
         return Answer::Refused(1);
     };
@@ -158,7 +176,6 @@ fn answer_for(call: Call, fields: &Fields) -> Option<Answer> {
     let frame = sizes(fields);
     let macro_blocks = Grid::macro_blocks(fields.fmbw, fields.fmbh);
     let answer = match call {
-        Call::Identification { .. } => unreachable!("takes no session"),
         Call::Sizes => Answer::accepted(&frame.list()),
         Call::BlockAt { number } => {
             let (plane, (x, y)) = block_at(&frame, number)?;
@@ -231,9 +248,25 @@ mod tests {
         assert_eq!(answer(Call::Sizes, &[0; 17], 16), Answer::Refused(8));
         assert_eq!(answer(Call::Sizes, &[0; 17], 15), Answer::Refused(8));
         assert_eq!(answer(Call::Sizes, &session(), 15), Answer::Refused(1));
-        let call = Call::Identification { packet: &[] };
-        assert_eq!(answer(call, &[], 16), Answer::Refused(1));
-        assert_eq!(answer(call, &[], 17), Answer::Refused(4));
+    }
+
+    #[test]
+    fn the_identification_call_writes_place_or_session() {
+        let lengths = |session, place| identified(&[0x80, 0], session, place);
+        let nothing = Identified {
+            number: 1,
+            session: None,
+            place: None,
+        };
+        for (session, place) in [(16, 1), (18, 1), (17, 0), (17, 2), (0, 0)] {
+            assert_eq!(lengths(session, place), nothing);
+        }
+        let refused = Identified {
+            number: 2,
+            place: Some(8),
+            ..nothing
+        };
+        assert_eq!(lengths(17, 1), refused);
     }
 
     #[test]

@@ -1,9 +1,12 @@
 //! The frame call of `include/wedgepetal.h`: what it answers and leaves, for
 //! any lists.
 //!
-//! The lengths of the session's list and of the answer's are judged first
-//! (number 1), then as the rules say.
+//! Where the session's list and the answer's have their lengths, the rules say
+//! the rest, and the answer is written after every call. Else nothing is: 1 for
+//! the session's length; then for the answer's 8 if the session's fields are
+//! wrong, or 1.
 
+use super::bits::Fault;
 use super::decode::{Accepted, Lent, Outcome, Session, Work, frame_call};
 use super::frame::Kind;
 use super::samples::ways::Way;
@@ -12,7 +15,11 @@ use super::table_face::Table;
 use super::work_memory::SLICES;
 
 /// How many numbers the answer of a frame has.
-pub const ANSWER_NUMBERS: usize = 5;
+pub const ANSWER_NUMBERS: usize = 7;
+
+/// Where the kind of an accepted frame stands among them, before how many qi it
+/// has and the qi.
+pub const KIND: usize = 2;
 
 /// Table memory and what it says, read once for many calls.
 pub struct TableMemory {
@@ -67,17 +74,13 @@ pub struct Left {
 }
 
 impl Lists<'_> {
-    /// The session that the list says; or by what the lists of session and
-    /// answer are refused: 1 for the session's length, 8 for its fields, then 1
-    /// for the answer's length. "references: 0 is no, any other number is yes"
+    /// The session that the list says, or by what the lists of session and
+    /// answer are refused. "references: 0 is no, any other number is yes"
     pub fn session(&self) -> Result<Session, u32> {
         let list: &[u64; SESSION_NUMBERS] = self.session.try_into().map_err(|_| 1u32)?;
         let fields = Fields::of_session(list);
-        if !fields.sound() {
-            return Err(8);
-        }
         if self.answer.len() != ANSWER_NUMBERS {
-            return Err(1);
+            return Err(if fields.sound() { 1 } else { 8 });
         }
         Ok(Session {
             fields,
@@ -99,7 +102,7 @@ impl Lists<'_> {
     pub fn call(&self, way: Way) -> Left {
         let session = match self.session() {
             Ok(session) => session,
-            Err(number) => return self.refused(number, Work::Untouched),
+            Err(number) => return self.untouched(number),
         };
         let mut new = self.new.to_vec();
         let outcome = frame_call(&session, self.packet, self.lent(), way, &mut new);
@@ -110,18 +113,22 @@ impl Lists<'_> {
     pub fn left(&self, outcome: &Outcome, new: Vec<u8>) -> Left {
         match &outcome.answer {
             Ok(accepted) => self.accepted(accepted, new),
-            Err(fault) => self.refused(fault.number, outcome.work),
+            Err(fault) => Left {
+                answer: refused(*fault).to_vec(),
+                work: outcome.work,
+                ..self.untouched(fault.number)
+            },
         }
     }
 
-    /// What a refused call leaves.
-    fn refused(&self, number: u32, work: Work) -> Left {
+    /// All as it was.
+    fn untouched(&self, number: u32) -> Left {
         Left {
             number,
             session: self.session.to_vec(),
             answer: self.answer.to_vec(),
             new: self.new.to_vec(),
-            work,
+            work: Work::Untouched,
         }
     }
 
@@ -141,9 +148,17 @@ impl Lists<'_> {
     }
 }
 
+/// The answer to a refused call: its number and place, and zeros.
+fn refused(fault: Fault) -> [u64; ANSWER_NUMBERS] {
+    let mut list = [0; ANSWER_NUMBERS];
+    list[0] = fault.number.into();
+    list[1] = fault.place;
+    list
+}
+
 impl Accepted {
-    /// As numbers: the kind, how many qi there are, and three qi, of which the
-    /// others are 0.
+    /// As numbers: 0 and 0, since nothing is refused, the kind, how many qi there
+    /// are, and three qi, of which the others are 0.
     pub fn list(&self) -> [u64; ANSWER_NUMBERS] {
         let kind = match self.kind {
             Kind::Intra => 0,
@@ -151,7 +166,7 @@ impl Accepted {
             Kind::Repeat => 2,
         };
         let qi = |index: usize| self.qis.get(index).map_or(0, |qi| *qi as u64);
-        [kind, self.qis.len() as u64, qi(0), qi(1), qi(2)]
+        [0, 0, kind, self.qis.len() as u64, qi(0), qi(1), qi(2)]
     }
 }
 
@@ -191,31 +206,46 @@ mod tests {
 
     #[test]
     fn numbers_of_accepted_frames() {
-        let repeat = vec![2, 0, 0, 0, 0];
+        let repeat = vec![0, 0, 2, 0, 0, 0, 0];
         let expected = (0, session(5).to_vec(), repeat, true);
-        assert_eq!(call(&session(5), &[], 5), expected);
+        assert_eq!(call(&session(5), &[], 7), expected);
         let mut intra = INTRA.to_vec();
         intra.extend([0; 9]);
         for references in [0, 1, 7] {
-            let expected = (0, session(1).to_vec(), vec![0, 2, 63, 1, 0], true);
-            assert_eq!(call(&session(references), &intra, 5), expected);
+            let answer = vec![0, 0, 0, 2, 63, 1, 0];
+            let expected = (0, session(1).to_vec(), answer, true);
+            assert_eq!(call(&session(references), &intra, 7), expected);
         }
     }
 
     #[test]
-    fn a_refused_call_leaves_all() {
-        let refused = |list: &[u64], packet, numbers, number| {
-            let expected = (number, list.to_vec(), vec![9; numbers], false);
-            assert_eq!(call(list, packet, numbers), expected);
+    fn a_refused_call_leaves_number_and_place() {
+        let refused = |list: &[u64], packet, number: u32, place| {
+            let answer = vec![number.into(), place, 0, 0, 0, 0, 0];
+            let expected = (number, list.to_vec(), answer, false);
+            assert_eq!(call(list, packet, 7), expected);
         };
-        refused(&session(0), &[], 5, 9);
-        refused(&session(3), &[0x80], 5, 10);
+        refused(&session(0), &[], 9, 0);
+        refused(&session(0), &[0x40], 9, 1);
+        refused(&session(3), &[0x80], 10, 0);
+        refused(&session(3), &[63], 4, 8);
         let mut unsound = session(0);
         unsound[15] = 1;
-        refused(&unsound, &[], 5, 8);
-        // The length of the session's list, its fields, then the other lengths.
-        refused(&unsound[..16], &[], 5, 1);
-        refused(&unsound, &[], 4, 8);
-        refused(&session(0), &[], 4, 1);
+        refused(&unsound, &[], 8, 0);
+    }
+
+    #[test]
+    fn lists_of_other_lengths_are_left() {
+        let left = |list: &[u64], numbers, number| {
+            let expected = (number, list.to_vec(), vec![9; numbers], false);
+            assert_eq!(call(list, &[], numbers), expected);
+        };
+        let mut unsound = session(0);
+        unsound[15] = 1;
+        left(&unsound[..16], 7, 1);
+        left(&unsound[..16], 6, 1);
+        left(&unsound, 6, 8);
+        left(&session(0), 6, 1);
+        left(&session(0), 8, 1);
     }
 }

@@ -64,8 +64,25 @@ fn refused_packets_are_counted_and_passed_over() {
     let text = summary.text("x");
     assert!(text.starts_with("x: 7 frames (1 intra,"), "{text}");
     assert!(text.contains("packets refused: 2\n"), "{text}");
-    assert!(text.contains("  1 by refusal 9: "), "{text}");
-    assert!(text.contains("  1 by refusal 10: "), "{text}");
+    assert!(text.contains("  1 by 9, an inter or empty "), "{text}");
+    assert!(
+        text.contains("  1 by 10, the first bit of a frame packet is 1; the first is packet 4\n"),
+        "{text}"
+    );
+    let json = summary.json("x").to_string();
+    let first = "\"packets\": 1, \"first_packet\": 4, \"first_bit\": 0}";
+    assert!(json.contains(first), "{json}");
+}
+
+#[test]
+fn the_place_of_a_refusal_is_said() {
+    // An inter frame that ends in its first run, behind ten bits.
+    let file = changed(|packets| packets[4].truncate(2));
+    let summary = decoded(&file, request(AfterGap::Stop)).unwrap();
+    let json = summary.json("x").to_string();
+    let first = "\"refusal\": 4, \"meaning\": \"a read passes the end of the packet\", \
+                 \"packets\": 1, \"first_packet\": 4, \"first_bit\": 10}";
+    assert!(json.contains(first), "{json}");
 }
 
 #[test]
@@ -84,9 +101,13 @@ fn a_cut_recording_is_decoded_as_far_as_it_goes() {
 fn headers_are_refused() {
     let why = |file: Vec<u8>| decoded(&file, request(AfterGap::Stop)).err().unwrap();
     let cut = why(changed(|packets| packets[0].truncate(10)));
-    assert!(cut.contains("identification header: refusal 4"), "{cut}");
+    assert!(
+        cut.ends_with("identification header: refused by 4, a read passes the end of the packet, at bit 80 of 80"),
+        "{cut}"
+    );
     let other = why(changed(|packets| packets.swap(1, 2)));
-    assert!(other.contains("setup header: refusal 2"), "{other}");
+    assert!(other.contains("setup header: refused by 2, "), "{other}");
+    assert!(other.contains(", at bit 0 of "), "{other}");
     let short = why(changed(|packets| packets.truncate(2)));
     assert!(short.contains("before its first frame"), "{short}");
 }

@@ -78,8 +78,8 @@ enum-known-k-5 c = search needs
 enum-known-c : tie.Need-enum-known-c
 enum-known-c c = search needs
 
-cast-t27 : tie.Need-cast-t27
-cast-t27 c = search needs
+cast-revision : tie.Need-cast-revision
+cast-revision c = search needs
 
 returns-3 : tie.Need-returns-3
 unfolding identification
@@ -118,7 +118,7 @@ read-session-spec =
     read-coding-requires
     enum-known-k-5
     enum-known-c
-    cast-t27
+    cast-revision
     returns-3
     returns-4
     returns-5

@@ -4,6 +4,9 @@ use Rattle.theora_c.proofs.Calls.{frame-accepted, frame-refused}
 use Rattle.theora_c.proofs.return_frame.Statement.{statement}
 use Rattle.theora_c.proofs.return_frame.Tie as tie
 
+store-answer-requires : tie.Need-store-answer-requires
+store-answer-requires c κs = search needs
+
 enum-told : tie.Need-enum-told
 enum-told c = search needs
 
@@ -16,9 +19,6 @@ reference-number-requires c κs = search needs
 slice-write-session : tie.Need-slice-write-session
 slice-write-session c = search needs
 
-return-header-requires : tie.Need-return-header-requires
-return-header-requires c κs = search needs
-
 enum-known-verdict : tie.Need-enum-known-verdict
 enum-known-verdict c = search needs
 
@@ -29,22 +29,26 @@ same-length-2 : tie.Need-same-length-2
 same-length-2 c = search needs
 
 returns : tie.Need-returns
-returns c = let a = c .before .before .before .before .before .before .before .before .before .before .before .args in frame-accepted (a .session .now) (a .list .now) (a .answer .header) (c .before .before .before .before .before .before .enum-told .given .1) (c .before .before .before .before .reference-number .ensures) (c .before .before .return-header .ensures)
+returns c = frame-accepted (c .before .before .before .before .before .before .before .before .before .before .before .args .session .now) (c .before .before .before .before .before .before .before .before .before .before .before .args .answer .header) (c .before .before .before .before .before .before .store-answer .ensures) (c .before .before .enum-told .given .1) (c .reference-number .ensures)
+
+same-length-3 : tie.Need-same-length-3
+same-length-3 c = search needs
 
 returns-2 : tie.Need-returns-2
-returns-2 c = let a = c .before .before .before .before .before .before .args in frame-refused (a .session .now) (a .list .now) (a .answer .header) (c .before .verdict .given .1)
+returns-2 c = frame-refused (c .before .before .before .before .before .before .before .before .before .before .args .session .now) (c .before .before .before .before .before .before .before .before .before .before .args .answer .header) (c .before .before .before .before .before .store-answer .ensures) (c .before .verdict .given .1)
 
 pub return-frame-spec : {M : Type 1} → statement M
 return-frame-spec =
     tie.close
     (tie.spec
+    store-answer-requires
     enum-told
     slice-read-before
     reference-number-requires
     slice-write-session
-    return-header-requires
     enum-known-verdict
     same-length
     same-length-2
     returns
+    same-length-3
     returns-2)

@@ -1,9 +1,9 @@
--- `theora_c::return_header` meets its contract. Assumes nothing.
+-- `reading::store_header` meets its contract. Assumes nothing.
 use borrow.Author.Needs.{needs}
 use mathlib.Core.Path.{_∙_}
-use Rattle.theora_c.specs.Face.{headerNumbers}
-use Rattle.theora_c.proofs.return_header.Statement.{statement}
-use Rattle.theora_c.proofs.return_header.Tie as tie
+use Rattle.reading.specs.Answer.{answerNumbers}
+use Rattle.reading.proofs.store_header.Statement.{statement}
+use Rattle.reading.proofs.store_header.Tie as tie
 
 kind-number-requires : tie.Need-kind-number-requires
 kind-number-requires c κs = search needs
@@ -29,21 +29,21 @@ array-read-third c = search needs
 cast-third : tie.Need-cast-third
 cast-third c = search needs
 
-slice-aggregate-store : tie.Need-slice-aggregate-store
-slice-aggregate-store c = search needs
+slice-aggregate-copy-longs : tie.Need-slice-aggregate-copy-longs
+slice-aggregate-copy-longs c = search needs
 
-store-requires : tie.Need-store-requires
-store-requires c κs = search needs
+copy-longs-requires : tie.Need-copy-longs-requires
+copy-longs-requires c κs = search needs
 
 same-length : tie.Need-same-length
 same-length c = search needs
 
 returns : tie.Need-returns
-unfolding headerNumbers
-returns c = c .before .before .store .ensures ∙ rw (c .before .before .before .before .before .before .kind-number .ensures)
+unfolding answerNumbers
+returns c = c .before .before .copy-longs .ensures ∙ rw (c .before .before .before .before .before .before .kind-number .ensures)
 
-pub return-header-spec : {M : Type 1} → statement M
-return-header-spec =
+pub store-header-spec : {M : Type 1} → statement M
+store-header-spec =
     tie.close
     (tie.spec
     kind-number-requires
@@ -54,7 +54,7 @@ return-header-spec =
     cast-second
     array-read-third
     cast-third
-    slice-aggregate-store
-    store-requires
+    slice-aggregate-copy-longs
+    copy-longs-requires
     same-length
     returns)
