@@ -1,6 +1,6 @@
 // The bits of a packet, read as fields of up to 32 bits.
 ghost use mathlib.Core.Path.{_≡_};
-ghost use Prim.Native.Nat.{ℕ, _+_, _*_, _≤_, _^_};
+ghost use Prim.Native.Nat.{ℕ, _+_, _*_, _/_, _≤_, _^_};
 ghost use lib.ListN.{length};
 ghost use Rattle.bitstream.specs.Reading.{field};
 ghost use Rattle.bitstream.specs.Bits.{number};
@@ -45,6 +45,22 @@ fn bytes_from(packet: &[u8], first: usize, count: usize) -> u64
         k += 1;
     }
     value
+}
+
+// The 64 bits from the byte of the bit place `at` on; past the end they are 0.
+pub fn window(packet: &[u8], at: usize) -> u64
+    ensures { λ r. ⌜ r ≡ number (now (packet .entry)) (at / 8 * 8) 64 ⌝ }
+{
+    let size = packet.len();
+    let first = at / 8;
+    if first + 8 <= size {
+        return bytes_from(packet, first, 8);
+    }
+    if size <= first {
+        return 0;
+    }
+    let count = size - first;
+    bytes_from(packet, first, count) << (64 - count * 8)
 }
 
 // The field of `width` bits at the bit place `at`: out of eight bytes at once, near the end of the packet out of its own.
