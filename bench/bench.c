@@ -3,29 +3,21 @@
  *
  *   bench RECORDING.ogv..
  *
- * All packets are read into memory first; only decoding is timed. Each decoder goes over the whole recording in turn,
+ * All packets are read into memory first; only decoding is timed, by the processor's time. Each decoder goes over the whole recording in turn,
  * several rounds, and its fastest round counts. One line of a table for each recording: the frame's size in macro blocks,
  * the number of frames, microseconds per frame of each decoder, the ratios, and which share of our time the test of table
  * memory and the clearing of work memory take.
  */
-#define _POSIX_C_SOURCE 199309L
-#include "recording.h"
+#define _POSIX_C_SOURCE 200809L
+#include "common.h"
 #include "wedgepetal.h"
 
 #include <libavcodec/avcodec.h>
 #include <theora/theoradec.h>
-#include <time.h>
 
 enum { LEAST_ROUNDS = 3, MOST_ROUNDS = 400 };
 _Static_assert(AV_INPUT_BUFFER_PADDING_SIZE <= BEHIND, "FFmpeg reads further");
 static const double ENOUGH_SECONDS = 1.0;
-
-static double now(void)
-{
-    struct timespec t;
-    clock_gettime(CLOCK_MONOTONIC, &t);
-    return (double)t.tv_sec + (double)t.tv_nsec * 1e-9;
-}
 
 /* ---- this decoder */
 

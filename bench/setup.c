@@ -9,12 +9,11 @@
  * All builds must fill table memory alike.
  */
 #define _POSIX_C_SOURCE 200809L
-#include "recording.h"
+#include "common.h"
 #include "wedgepetal.h"
 
 #include <dlfcn.h>
 #include <theora/theoradec.h>
-#include <time.h>
 
 enum { MOST_BUILDS = 8, CALLS = 40 };
 static const double ENOUGH_SECONDS = 1.5;
@@ -30,14 +29,6 @@ struct build {
 
 static struct build builds[MOST_BUILDS];
 static int count;
-
-/* Processor time: what else the machine does is not in it. */
-static double now(void)
-{
-    struct timespec t;
-    clock_gettime(CLOCK_THREAD_CPUTIME_ID, &t);
-    return (double)t.tv_sec + (double)t.tv_nsec * 1e-9;
-}
 
 static void *found(void *library, const char *name)
 {

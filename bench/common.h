@@ -1,11 +1,13 @@
-/* The packets of a recording's Theora stream, read into memory before anything is timed. */
-#ifndef RECORDING_H
-#define RECORDING_H
+/* What the programs of this folder share: the clock, and the packets of a recording's Theora stream, which are read into
+ * memory before anything is timed. Each program defines _POSIX_C_SOURCE first. */
+#ifndef COMMON_H
+#define COMMON_H
 
 #include <ogg/ogg.h>
 #include <stdio.h>
 #include <stdlib.h>
 #include <string.h>
+#include <time.h>
 
 /* FFmpeg reads past the end of its packets: so many bytes stand behind each. */
 enum { HEADERS = 3, BEHIND = 64 };
@@ -29,6 +31,14 @@ static void *memory(size_t bytes)
         fail("no memory");
     }
     return m;
+}
+
+/* Processor time of this thread, in seconds: what else the machine does is not in it. */
+static double now(void)
+{
+    struct timespec t;
+    clock_gettime(CLOCK_THREAD_CPUTIME_ID, &t);
+    return (double)t.tv_sec + (double)t.tv_nsec * 1e-9;
 }
 
 static const char *base_name(const char *path)
