@@ -105,10 +105,6 @@ module _ (seen : ℕ) (p : List ℕ) (at s : ℕ) (is : s ≡ number p at 7) whe
       → tree d seen p at ≡ after (tree (d - 1) (seen + leaves l) p j) (λ r e. got (fork l r) e)
   seven-fork d h b z r = fork-left seen p at d (first-bit h) (fork-bit p at s is b) z r
 
-  -- the packet ends with the 0 branch
-  pub seven-short : (d : ℕ) {j : ℕ} {l : Tree} → at < bits p → s < 64 → (d ≡ 0 → ⊥) → tree (d - 1) seen p (at + 1) ≡ got l j → bits p ≤ j → tree d seen p at ≡ refused 4 j
-  seven-short d {j} {l} h b z r e = seven-fork d h b z r ∙ rw (tree-end (seen + leaves l) p j (d - 1) (field-end 1 p j (omega arith)))
-
   -- a 0 branch that is a leaf
   pub seven-left : (d : ℕ) → at + 7 ≤ bits p → s < 64 → 32 ≤ s → seen < 32 → (d ≡ 0 → ⊥)
       → tree d seen p at ≡ after (tree (d - 1) (seen + 1) p (at + 7)) (λ r e. got (fork (leaf (s % 32)) r) e)
@@ -120,11 +116,11 @@ module _ (seen : ℕ) (p : List ℕ) (at s : ℕ) (is : s ≡ number p at 7) whe
       ∙ ap₂ (λ (t n : ℕ). got (leaf t) n) (sym (left-token p at s is b m)) e)
 
 -- when a 0 branch that is a leaf is taken at once
-pub at-once : (s seen e total : ℕ) → ((leb 32 s && ltb seen 32) && ltb e total) ≡ true → (32 ≤ s) × (seen < 32) × (e < total)
-at-once s seen e total h = go (leb 32 s) (ltb seen 32) (ltb e total) refl refl refl h
+pub at-once : (s seen e total : ℕ) → ((leb 32 s && ltb seen 32) && leb e total) ≡ true → (32 ≤ s) × (seen < 32) × (e ≤ total)
+at-once s seen e total h = go (leb 32 s) (ltb seen 32) (leb e total) refl refl refl h
   where
-    go : (a b c : Bool) → leb 32 s ≡ a → ltb seen 32 ≡ b → ltb e total ≡ c → ((a && b) && c) ≡ true → (32 ≤ s) × (seen < 32) × (e < total)
-    go true true true x y z h = (leb-true _ _ x, ltb-true _ _ y, ltb-true _ _ z)
+    go : (a b c : Bool) → leb 32 s ≡ a → ltb seen 32 ≡ b → leb e total ≡ c → ((a && b) && c) ≡ true → (32 ≤ s) × (seen < 32) × (e ≤ total)
+    go true true true x y z h = (leb-true _ _ x, ltb-true _ _ y, leb-true _ _ z)
     go true true false x y z h = absurd (false≢true h)
     go true false c x y z h = absurd (false≢true h)
     go false b c x y z h = absurd (false≢true h)
@@ -210,7 +206,7 @@ at-fork : (base : ℕ) (old new₁ new₂ : List ℕ) (l : Tree) (o : Outcome Tr
 at-fork base old new₁ new₂ l (got t e) r h s a b = (a, stored-fork base old new₁ new₂ l t h s b)
 at-fork base old new₁ new₂ l (refused k e) r h s a b = (a, tt)
 
-on-fork : (base seen mid count : ℕ) (old new₁ new₂ : List ℕ) (l : Tree) (o : ℕ → Outcome Tree) (r : ℕ) (all : Outcome Tree) → base < length old
+pub on-fork : (base seen mid count : ℕ) (old new₁ new₂ : List ℕ) (l : Tree) (o : ℕ → Outcome Tree) (r : ℕ) (all : Outcome Tree) → base < length old
     → new₁ ≡ take (base + 1) old ++ flat (base + 1) l ++ drop (base + 1 + size l) old
     → mid ≡ base + 1 + size l → count ≡ seen + leaves l
     → all ≡ after (o (seen + leaves l)) (λ t e. got (fork l t) e)
@@ -219,20 +215,6 @@ on-fork : (base seen mid count : ℕ) (old new₁ new₂ : List ℕ) (l : Tree) 
     → Told r all × Stored base old new₂ all
 on-fork base seen mid count old new₁ new₂ l o r all h s e₁ e₂ w a b =
     rw w (at-fork base old new₁ new₂ l (o (seen + leaves l)) r h s (rw e₂ at a) (rw (e₁, e₂) at b))
-
--- ---- the loop of `grow`: what is said of the part that is left is said of the whole
-abbrev pub Rest : List ℕ → Outcome Tree → ℕ → List ℕ → ℕ → ℕ → ℕ → ℕ → List ℕ → Type 0
-Rest p all base old d seen i here now = (r : ℕ) (new : List ℕ) → Told r (tree d seen p i) × Stored here now new (tree d seen p i) → Told r all × Stored base old new all
-
--- past a fork and its 0 branch
-pub rest-on : (p : List ℕ) (all : Outcome Tree) (base : ℕ) (old : List ℕ) (d seen i here : ℕ) (now new₁ : List ℕ) (l : Tree) (mid count j : ℕ) → Rest p all base old d seen i here now
-    → here < length now
-    → new₁ ≡ take (here + 1) now ++ flat (here + 1) l ++ drop (here + 1 + size l) now
-    → mid ≡ here + 1 + size l → count ≡ seen + leaves l
-    → tree d seen p i ≡ after (tree (d - 1) (seen + leaves l) p j) (λ r e. got (fork l r) e)
-    → Rest p all base old (d - 1) count j mid (set new₁ here (128 + mid))
-rest-on p all base old d seen i here now new₁ l mid count j g h s e₁ e₂ w r new a =
-    g r new (on-fork here seen mid count now new₁ new l (λ n. tree (d - 1) n p j) r (tree d seen p i) h s e₁ e₂ w (a .0) (a .1))
 
 -- ---- filling a table from a list's front
 abbrev pub filled : List ℕ → List ℕ → ℕ → List ℕ

@@ -38,7 +38,7 @@ fn seven_bits(packet: &[u8], at: usize) -> usize
 
 // The part of a tree at the bit place `at`, below which codes may grow by `depth` bits, with `seen` leaves before it.
 // Its nodes go to `out` at `base`: before it stand at most a leaf and a closed fork for each leaf seen, and the open forks above.
-// The loop goes down the 1 branches. Seven bits at once are a leaf and its token, or a fork and a leaf that is its 0 branch; a 0 branch that is a fork is grown first.
+// Seven bits at once are a leaf and its token, or a fork and a leaf that is its 0 branch.
 // The answer is one number, since every frame call reads 80 trees, and an enum would go through memory at each return: 4 times the place behind the part,
 // whose n leaves took 7 n - 1 bits; or for a refusal 4 times the place at fault, and 1 for number 4 or 2 for number 7.
 fn grow(packet: &[u8], at: usize, depth: usize, seen: usize, out: &mut [u8], base: usize) -> usize
@@ -50,51 +50,35 @@ fn grow(packet: &[u8], at: usize, depth: usize, seen: usize, out: &mut [u8], bas
     if total <= at {
         return 4 * at + 1;
     }
-    let mut place = at;
-    let mut deep = depth;
-    let mut count = seen;
-    let mut here = base;
-    let mut seven = seven_bits(packet, at);
-    while seven < 64 {
-        if deep == 0 {
-            return 4 * place + 2;
+    let seven = seven_bits(packet, at);
+    if 64 <= seven {
+        if 32 <= seen {
+            return 4 * at + 2;
         }
-        if (32 <= seven) & (count < 32) & (place + 7 < total) {
-            let mid = here + 2;
-            out[here + 1] = (seven % 32) as u8;
-            out[here] = 128 + mid as u8;
-            place += 7;
-            deep -= 1;
-            count += 1;
-            here = mid;
-            seven = seven_bits(packet, place);
-            continue;
+        if total < at + 6 {
+            return 4 * (at + 1) + 1;
         }
-        let left = grow(packet, place + 1, deep - 1, count, out, here + 1);
-        if left % 4 != 0 {
-            return left;
-        }
-        let next = left / 4;
-        let leaves = (next - place) / 7;
-        let mid = here + 2 * leaves;
-        out[here] = 128 + mid as u8;
-        if total <= next {
-            return 4 * next + 1;
-        }
-        place = next;
-        deep -= 1;
-        count += leaves;
-        here = mid;
-        seven = seven_bits(packet, next);
+        out[base] = (seven / 2 % 32) as u8;
+        return 4 * (at + 6);
     }
-    if 32 <= count {
-        return 4 * place + 2;
+    if depth == 0 {
+        return 4 * at + 2;
     }
-    if total < place + 6 {
-        return 4 * (place + 1) + 1;
+    if (32 <= seven) & (seen < 32) & (at + 7 <= total) {
+        let mid = base + 2;
+        out[base + 1] = (seven % 32) as u8;
+        out[base] = 128 + mid as u8;
+        return grow(packet, at + 7, depth - 1, seen + 1, out, mid);
     }
-    out[here] = (seven / 2 % 32) as u8;
-    4 * (place + 6)
+    let left = grow(packet, at + 1, depth - 1, seen, out, base + 1);
+    if left % 4 != 0 {
+        return left;
+    }
+    let place = left / 4;
+    let leaves = (place - at) / 7;
+    let mid = base + 2 * leaves;
+    out[base] = 128 + mid as u8;
+    grow(packet, place, depth - 1, seen + leaves, out, mid)
 }
 
 // Fills `nodes` from the front of `from`.
