@@ -145,7 +145,7 @@ enum {
     WEDGEPETAL_LENGTH_NUMBERS
 };
 
-/* The answer of a frame is a list of 7 numbers. After a refusal all but the
+/* The answer of a frame is a list of 8 numbers. After a refusal all but the
  * first two are 0. */
 enum {
     WEDGEPETAL_NUMBER,   /* what the call returns: 0, or the number of the refusal */
@@ -153,7 +153,9 @@ enum {
     WEDGEPETAL_KIND,     /* one of the three kinds */
     WEDGEPETAL_QI_COUNT, /* how many qi it has: 1 to 3, or 0 for a repeat */
     WEDGEPETAL_QIS,      /* the first of three numbers: these qi, then zeros */
-    WEDGEPETAL_ANSWER_NUMBERS = 7
+    WEDGEPETAL_TOKENS = 7, /* how many coefficient tokens were read, those that end blocks
+                              included: at most 64 for each coded block, 0 for a repeat */
+    WEDGEPETAL_ANSWER_NUMBERS
 };
 
 /* The kinds of a frame: coded by itself, coded as a change of other frames, the
@@ -253,7 +255,7 @@ uint32_t wedgepetal_work_lengths(const uint64_t *session, size_t session_length,
  *          first, in each plane the lowest row first. The whole frame is there;
  *          the caller cuts the picture out of it. It must be another buffer than
  *          golden and previous
- * answer   (7 numbers) receives the answer, also of a refusal
+ * answer   (8 numbers) receives the answer, also of a refusal
  *
  * After an accepted intra frame the caller takes new_frame for golden and
  * previous, after another accepted frame for previous; after a refusal all

@@ -19,6 +19,9 @@ pub enum Kind {
 pub struct FrameAnswer {
     /// The frame's kind.
     pub kind: Kind,
+    /// How many coefficient tokens were read, those that end blocks included: at
+    /// most 64 for each coded block, 0 for a repeat.
+    pub tokens: u64,
     qis: [u8; 3],
     count: usize,
 }
@@ -31,13 +34,14 @@ impl FrameAnswer {
 
     /// The answer that the list of an accepted frame stands for.
     fn from_list(list: &[u64; ANSWER_NUMBERS]) -> FrameAnswer {
-        let [_, _, kind, count, qis @ ..] = *list;
+        let [_, _, kind, count, qis @ .., tokens] = *list;
         FrameAnswer {
             kind: match kind {
                 0 => Kind::Intra,
                 1 => Kind::Inter,
                 _ => Kind::Repeat,
             },
+            tokens,
             // A qi has 6 bits, and there are at most 3.
             qis: qis.map(|qi| qi as u8),
             count: count as usize,

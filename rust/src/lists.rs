@@ -28,8 +28,8 @@ pub const FAULT_NUMBERS: usize = 1;
 pub const LENGTH_NUMBERS: usize = 11;
 
 /// How many numbers the answer of a frame has: the number of the refusal (0 if
-/// there is none), its place, kind, how many qi, three qi.
-pub const ANSWER_NUMBERS: usize = 7;
+/// there is none), its place, kind, how many qi, three qi, how many tokens.
+pub const ANSWER_NUMBERS: usize = 8;
 
 /// How many bytes table memory has.
 pub const TABLE_BYTES: usize = 28_184;
@@ -411,11 +411,11 @@ pub fn work_lengths(session: &[u64], lengths: &mut [u64]) -> u32 {
     }
 }
 
-/// Decodes a frame packet: `answer` (7 numbers) receives the number of the
+/// Decodes a frame packet: `answer` (8 numbers) receives the number of the
 /// refusal (0 if there is none) and its bit place, then the frame's kind (0
-/// intra, 1 inter, 2 repeat), how many qi it has and three qi, of which the
-/// others are 0; after a refusal these five are 0. An accepted intra frame sets
-/// the reference number of `session` to 1.
+/// intra, 1 inter, 2 repeat), how many qi it has, three qi, of which the others
+/// are 0, and how many tokens were read; after a refusal these six are 0. An
+/// accepted intra frame sets the reference number of `session` to 1.
 pub fn frame(
     session: &mut [u64],
     packet: &[u8],

@@ -5,9 +5,9 @@
 //! decoder is tried on it: bytes behind the place reached change nothing, a
 //! packet that ends before it is refused by 4, a refusal by another number
 //! stands, number and place, when bytes are appended, both ways make the same
-//! frame. Then it is given to the library, which must read all that the
-//! independent implementation reads, and answer (a refusal by number and place)
-//! and leave the same.
+//! frame. Then it is given to the library's frame call, which must answer (a
+//! refusal by number and place, a frame with the number of its tokens) and leave
+//! the same.
 
 use crate::four_cases::{FORMATS, FourCases};
 use crate::four_streams;
@@ -15,7 +15,6 @@ use crate::frame_calls::Caller;
 use crate::generate::cases::Case;
 use crate::generate::encoder::{Encoded, encoded};
 use crate::generate::frame_packets::{packet, variant};
-use crate::parts;
 use crate::random::Random;
 use crate::reference::decode::Decoder;
 use crate::reference::frame::reader::{Bits, Field, FrameFault};
@@ -200,15 +199,6 @@ impl Report {
     ) -> Result<(), String> {
         let read = frame.read(packet);
         self.count(frame, &read);
-        let Caller { fields, table, .. } = caller;
-        parts::packet::check(
-            random,
-            fields,
-            &table.bytes,
-            frame.references,
-            packet,
-            &read,
-        )?;
         let made = match read {
             Ok(read) => frame.accepted(packet, read).map(Ok),
             Err(fault) => frame.refused(packet, fault).then_some(Err(fault)),

@@ -34,7 +34,8 @@ pub fn say(files: &[String]) -> Result<(), String> {
     Ok(())
 }
 
-/// A line for each packet but the comment header. A recording whose first
+/// A line for each packet but the comment header; that of a frame ends with the
+/// number of its tokens. A recording whose first
 /// header is refused says nothing more.
 fn lines(packets: &[Vec<u8>]) -> Result<String, String> {
     let [first, _, third, frames @ ..] = packets else {
@@ -77,7 +78,8 @@ fn lines(packets: &[Vec<u8>]) -> Result<String, String> {
                     golden.copy_from_slice(&new);
                 }
                 previous = new;
-                frame(accepted.kind, &accepted.qis, &previous)
+                let said = frame(accepted.kind, &accepted.qis, &previous);
+                format!("{said} {}", accepted.tokens)
             }
         };
         text += &format!("frame {number} {said}\n");
@@ -129,7 +131,7 @@ mod tests {
         let grey = hash(&[128; 384]);
         let expected = format!(
             "header 0 accepted\nheader 2 accepted\nframe 3 refused 9 at 1\n\
-             frame 4 intra 63 {grey:016x}\nframe 5 repeat - {grey:016x}\nframe 6 refused 4 at 8\n"
+             frame 4 intra 63 {grey:016x} 6\nframe 5 repeat - {grey:016x} 0\nframe 6 refused 4 at 8\n"
         );
         assert_eq!(lines(&packets), Ok(expected));
         let cut = [header[..41].to_vec(), Vec::new(), Vec::new()];

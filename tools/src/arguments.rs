@@ -44,7 +44,7 @@ const FLAGS: [Flag; 10] = [
     flag(
         "--index",
         Some("FILE.csv"),
-        "writes a line for each packet: stream, packet, frame, kind, qi, the refusal's number, bit place and meaning, time",
+        "writes a line for each packet: stream, packet, frame, kind, qi, tokens, the refusal's number, bit place and meaning, time",
     ),
     flag(
         "--frame",
@@ -73,7 +73,7 @@ const RECORDING: (&str, &str) = (
 );
 
 /// All verbs.
-pub const VERBS: [Verb; 7] = [
+pub const VERBS: [Verb; 8] = [
     Verb {
         name: "info",
         words: &[RECORDING],
@@ -164,6 +164,15 @@ pub const VERBS: [Verb; 7] = [
         more: "Each packet is 4 bytes of length (least significant first) and its bytes. It stops at a\n\
                damaged, lost or repeated page.",
         options: &["--stream", "--force", "--json", "--quiet"],
+    },
+    Verb {
+        name: "work",
+        words: &[RECORDING],
+        about: "says how much work a recording's packets cause: tokens, and time on this machine",
+        more: "The first Theora stream of a whole recording is decoded five times; the least time of each\n\
+               packet counts. A frame has at most 64 tokens for each of its blocks, whatever its packet\n\
+               holds. --json has a line for each frame.",
+        options: &["--max-memory", "--json", "--quiet"],
     },
     Verb {
         name: "sample",

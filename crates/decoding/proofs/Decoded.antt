@@ -50,10 +50,10 @@ read-refused (got fr d) {r} {k} {e} a h =
 read-refused (refused j d) {r} {k} {e} a h = let t : Refused j d ≡ Refused k e = sym (ap (λ (x : FrameRead). x .read) a) ∙ h in cc
 
 pub read-whole : (o : Outcome Frame) {r : FrameRead} {n t e : ℕ} → r ≡ asFrame o → r .read ≡ Whole n t e
-    → (fr : Frame) × (o ≡ got fr e) × (n ≡ length (fr .body .coded)) × (r .header ≡ asHeader (fr .header))
+    → (fr : Frame) × (o ≡ got fr e) × (n ≡ length (fr .body .coded)) × (r .header ≡ asHeader (fr .header)) × (t ≡ fr .body .tokens .tokens)
 read-whole (got fr d) {r} {n} {t} {e} a h =
     let z : Whole (length (fr .body .coded)) (fr .body .tokens .tokens) d ≡ Whole n t e = sym (ap (λ (x : FrameRead). x .read) a) ∙ h in
-    (fr, cc, cc, ap (λ (x : FrameRead). x .header) a)
+    (fr, cc, cc, ap (λ (x : FrameRead). x .header) a, cc)
 read-whole (refused j d) {r} {n} {t} {e} a h =
     let t : Refused j d ≡ Whole n t e = sym (ap (λ (x : FrameRead). x .read) a) ∙ h in
     let z : _≡_ {A = ℕ} 0 1 = cc in
@@ -194,7 +194,7 @@ module _ (s : Session) (setup : Setup) (packet nodes : List ℕ) (et : treesOf n
         ∙ ap (λ (o : Outcome Frame). decoded firstWay (state s golden previous) new (after o (λ fr e. got (record { setup = setup; frame = fr }) e))) (sym g)
 
   module _ {count t e : ℕ} (h : r .read ≡ Whole count t e) where
-    abbrev there : (fr : Frame) × (o ≡ got fr e) × (count ≡ length (fr .body .coded)) × (r .header ≡ asHeader (fr .header))
+    abbrev there : (fr : Frame) × (o ≡ got fr e) × (count ≡ length (fr .body .coded)) × (r .header ≡ asHeader (fr .header)) × (t ≡ fr .body .tokens .tokens)
     there = read-whole o answer-is h
 
     abbrev fr : Frame
@@ -252,10 +252,10 @@ module _ (s : Session) (setup : Setup) (packet nodes : List ℕ) (et : treesOf n
             λ i. memory (er i) (ec i) (ef i) (eg i) (el i) (work-held i .flags) (work-held i .bits) (work-held i .supers) (work-held i .modes) (work-held i .active)
 
         pub on-accepted : (new₀ : List ℕ) (next : Session) → next ≡ sessionAfter (r .header .kind) s
-            → done (record { verdict = Accepted; header = r .header; session = next }) new (memory records coded coefs dc lasts (m .flags) (m .bits) (m .supers) (m .modes) (m .active))
+            → done (record { verdict = Accepted t; header = r .header; session = next }) new (memory records coded coefs dc lasts (m .flags) (m .bits) (m .supers) (m .modes) (m .active))
             ≡ decoded firstWay (state s golden previous) new₀ (readBy s setup packet)
         on-accepted new₀ next es =
             let eh = there .3 in
             let es′ = es ∙ ap (λ (x : Header). sessionAfter (x .kind) s) eh in
-            (λ i. done (record { verdict = Accepted; header = eh i; session = es′ i }) (frame-is i) (memory-is i))
+            (λ i. done (record { verdict = Accepted (there .4 i); header = eh i; session = es′ i }) (frame-is i) (memory-is i))
             ∙ ap (λ (o : Outcome Frame). decoded firstWay (state s golden previous) new₀ (after o (λ fr e. got (record { setup = setup; frame = fr }) e))) (sym (there .1))

@@ -157,7 +157,7 @@ fn decode_packet(
     let read = got.read;
     match read {
         Read::Refused(k, e) => reading::refusal(k, e, s),
-        Read::Whole(count, _, _) => {
+        Read::Whole(count, tokens, _) => {
             let header = got.header;
             let kind = header.kind;
             make(
@@ -179,7 +179,7 @@ fn decode_packet(
             );
             let next = reading::session_after(kind, s);
             FrameAnswer {
-                verdict: Verdict::Accepted,
+                verdict: Verdict::Accepted(tokens),
                 header: header,
                 session: next,
             }

@@ -68,7 +68,7 @@ unfolding framePacket frame frameHeader frameType moreQis qiList reserved kindOf
 nothing = refl
 
 -- four bytes of an intra frame with the qi 16, and lone leaves of the token 9: 64 times the value 1 in each block, for no bit but the four choices
-ones-all : framePacket Chroma420 1 1 (replicate 80 (leaf 9)) false (0x10 ∷ 0x00 ∷ 0x00 ∷ 0x00 ∷ []) ≡ got (given Intra (16 ∷ []) (0 ∷ 1 ∷ 3 ∷ 2 ∷ 4 ∷ 5 ∷ []) (replicate 6 nowCoded) (replicate 384 (pos 1)) (replicate 6 63) 384) 28
+pub ones-all : framePacket Chroma420 1 1 (replicate 80 (leaf 9)) false (0x10 ∷ 0x00 ∷ 0x00 ∷ 0x00 ∷ []) ≡ got (given Intra (16 ∷ []) (0 ∷ 1 ∷ 3 ∷ 2 ∷ 4 ∷ 5 ∷ []) (replicate 6 nowCoded) (replicate 384 (pos 1)) (replicate 6 63) 384) 28
 unfolding framePacket frame frameHeader frameType moreQis qiList reserved kindOf judged body flagsOf predictions
     intraFlags ones order flagged codedBlocks codedLuma setAt codedRecords rasterNumber frameOrder planeOrder inPlane inTurn ordered rowOfTiles tile present moved blocksOf blocksBefore total
     blockQi steps readTokens positionsFrom atPosition choices table group ranks start pass visit readFor act runOf unfinished token tokenCode code extra meaning withSign rowOf whole field number bitAt

@@ -37,10 +37,10 @@ sessionAfter Inter s = s
 sessionAfter Repeat s = s
 
 -- a refusal answers its number and "the bit place of the first bit of the field at fault": the header beside them says nothing, and the session is as it was.
--- "An accepted frame answers with its kind (intra, inter, repeat) and the qi list (empty for repeat)"
+-- "An accepted frame answers with its kind (intra, inter, repeat) and the qi list (empty for repeat)"; "the number of coefficient tokens read .. the count that the reading rules themselves give"
 abbrev pub answerFor : Session → Outcome Asked → FrameAnswer
 answerFor s (refused k e) = record { verdict = Refused k e; header = repeated; session = s }
-answerFor s (got a e) = record { verdict = Accepted; header = asHeader (a .frame .header); session = sessionAfter (a .frame .header .kind) s }
+answerFor s (got a e) = record { verdict = Accepted (a .frame .body .tokens .tokens); header = asHeader (a .frame .header); session = sessionAfter (a .frame .header .kind) s }
 
 -- ---- an answer as numbers
 -- "its kind (intra, inter, repeat)" as a number
@@ -49,7 +49,7 @@ kindNumber Intra = 0
 kindNumber Inter = 1
 kindNumber Repeat = 2
 
--- 7 numbers: the number of the refusal (0 if there is none), its place, the kind, how many qi there are, and three qi, of which the others are 0. After a refusal all but the first two are 0
+-- 8 numbers: the number of the refusal (0 if there is none), its place, the kind, how many qi there are, three qi, of which the others are 0, and the number of tokens. After a refusal all but the first two are 0
 unfoldable pub answerNumbers : Verdict → Header → List ℕ
-answerNumbers Accepted h = 0 ∷ 0 ∷ kindNumber (h .kind) ∷ h .count ∷ getD (h .qis) 0 0 ∷ getD (h .qis) 1 0 ∷ getD (h .qis) 2 0 ∷ []
-answerNumbers (Refused k e) h = k ∷ e ∷ 0 ∷ 0 ∷ 0 ∷ 0 ∷ 0 ∷ []
+answerNumbers (Accepted t) h = 0 ∷ 0 ∷ kindNumber (h .kind) ∷ h .count ∷ getD (h .qis) 0 0 ∷ getD (h .qis) 1 0 ∷ getD (h .qis) 2 0 ∷ t ∷ []
+answerNumbers (Refused k e) h = k ∷ e ∷ 0 ∷ 0 ∷ 0 ∷ 0 ∷ 0 ∷ 0 ∷ []

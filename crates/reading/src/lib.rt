@@ -8,9 +8,9 @@ ghost use Rattle.bitstream.specs.Reading.{refused};
 ghost use Rattle.reading.specs.declared.Verdict.the-variants.{Accepted};
 ghost use Rattle.reading.specs.Answer.{sessionAfter, answerFor, kindNumber, answerNumbers};
 
-// An accepted frame, or the number of the refusal and its bit place.
+// An accepted frame, with the number of its tokens; or the number of the refusal and its bit place.
 pub enum Verdict {
-    Accepted,
+    Accepted(usize),
     Refused(u32, usize),
 }
 
@@ -63,9 +63,9 @@ fn kind_number(kind: Kind) -> u64
     }
 }
 
-fn store_header(h: Header, list: &mut [u64])
-    requires { ⌜ length (now list) ≡ 7 ⌝ }
-    ensures { λ _. ⌜ now (list .exit) ≡ answerNumbers Accepted h ⌝ }
+fn store_header(h: Header, tokens: usize, list: &mut [u64])
+    requires { ⌜ length (now list) ≡ 8 ⌝ }
+    ensures { λ _. ⌜ now (list .exit) ≡ answerNumbers (Accepted tokens) h ⌝ }
 {
     let kind = h.kind;
     let qis = h.qis;
@@ -74,21 +74,21 @@ fn store_header(h: Header, list: &mut [u64])
     let first = qis[0] as u64;
     let second = qis[1] as u64;
     let third = qis[2] as u64;
-    let numbers = [0, 0, number, count, first, second, third];
+    let numbers = [0, 0, number, count, first, second, third, tokens as u64];
     buffer::copy_longs(list, &numbers);
 }
 
 // Stores the numbers of a frame's answer.
 pub fn store_answer(verdict: Verdict, header: Header, list: &mut [u64])
-    requires { ⌜ length (now list) ≡ 7 ⌝ }
+    requires { ⌜ length (now list) ≡ 8 ⌝ }
     ensures { λ _. ⌜ now (list .exit) ≡ answerNumbers verdict header ⌝ }
 {
     match verdict {
-        Verdict::Accepted => store_header(header, list),
+        Verdict::Accepted(tokens) => store_header(header, tokens, list),
         Verdict::Refused(k, place) => {
             let number = k as u64;
             let bit = place as u64;
-            let numbers = [number, bit, 0, 0, 0, 0, 0];
+            let numbers = [number, bit, 0, 0, 0, 0, 0, 0];
             buffer::copy_longs(list, &numbers);
         }
     }

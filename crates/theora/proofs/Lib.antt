@@ -4,5 +4,6 @@ pub mod Table
 pub mod LeftBySetup
 pub mod Demand
 pub mod Places
+pub mod Tokens
 pub mod Promised
 pub mod Examples

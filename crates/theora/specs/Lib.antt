@@ -8,4 +8,5 @@ pub mod Call
 pub mod LeftBySetup
 pub mod Demand
 pub mod Places
+pub mod Tokens
 pub mod Table

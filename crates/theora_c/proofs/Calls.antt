@@ -128,14 +128,14 @@ module _ (t fresh new old : List ℕ) (type plane qi : ℕ) where
 
 -- the lists after a frame, from what `reading::store_answer` and `reference_number` leave and answer
 module _ (session : List ℕ) (h : Header) {v : Verdict} {l : List ℕ} (s : l ≡ answerNumbers v h) where
-  pub frame-accepted : {n : ℕ} → v ≡ Verdict.Accepted → n ≡ referenceNumber (h .kind) (getD session 16 0) → answers 0 (set session 16 n) l ≡ verdictReturned session h v
+  pub frame-accepted : {n t : ℕ} → v ≡ Verdict.Accepted t → n ≡ referenceNumber (h .kind) (getD session 16 0) → answers 0 (set session 16 n) l ≡ verdictReturned session h v
   frame-accepted e m = rw (s, e, m)
 
   pub frame-refused : {k e : ℕ} → v ≡ Verdict.Refused k e → answers k session l ≡ verdictReturned session h v
   frame-refused e = rw (s, e)
 
 -- a frame call that is made on the session s of the list, and one whose lists are refused
-module _ (session old golden previous : List ℕ) (c : Call) {k : ℕ} (e : k ≡ listsNumber 7 session (length old)) where
+module _ (session old golden previous : List ℕ) (c : Call) {k : ℕ} (e : k ≡ listsNumber 8 session (length old)) where
   pub frame-made : k ≡ 0 → {s : Session} {d : Done} {a : Answered} → s ≡ sessionOf session
       → d ≡ byRules firstWay (state s golden previous) c → a ≡ verdictReturned session (d .answer .header) (d .answer .verdict)
       → frameGives a (d .new) (d .memory) ≡ frameCall session old golden previous c

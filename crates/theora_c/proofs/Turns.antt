@@ -21,7 +21,7 @@ use Rattle.theora_c.specs.Turns.{FaceCall, AnswersFit, SameTurns, FaceTu
 use Rattle.theora_c.proofs.Calls.{session-handed}
 
 -- a frame call on lists of the published lengths does what the rules say
-pub frame-rules : (session old golden previous : List ℕ) (c : Call) → length session ≡ 17 → length old ≡ 7 → frameCall session old golden previous c ≡ doneReturned session (byRules firstWay (stateOf session golden previous) c)
+pub frame-rules : (session old golden previous : List ℕ) (c : Call) → length session ≡ 17 → length old ≡ 8 → frameCall session old golden previous c ≡ doneReturned session (byRules firstWay (stateOf session golden previous) c)
 unfolding frameCall listsNumber
 frame-rules session old golden previous c h k = rw (eq-eqb _ _ h, eq-eqb _ _ k)
 
@@ -32,17 +32,17 @@ module _ (l : List ℕ) (h : length l ≡ 17) where
   answer-handed (got a e) = session-handed l h (a .frame .header .kind)
 
   returned-length : (x : Header) (v : Verdict) → length (verdictReturned l x v .lent) ≡ 17
-  returned-length x Accepted = length-set l 16 _ ∙ h
+  returned-length x (Accepted t) = length-set l 16 _ ∙ h
   returned-length x (Refused k e) = h
 
 -- a turn hands on the session of its answer
 after-session : (st : State) (v : Verdict) (kind : Kind) (s : Session) (new : List ℕ) → handedOn st v kind s new .session ≡ s
 after-session st (Refused k e) kind s new = refl
-after-session st Accepted Intra s new = refl
-after-session st Accepted Inter s new = refl
-after-session st Accepted Repeat s new = refl
+after-session st (Accepted t) Intra s new = refl
+after-session st (Accepted t) Inter s new = refl
+after-session st (Accepted t) Repeat s new = refl
 
-module _ (l golden previous : List ℕ) (h : length l ≡ 17) (c : FaceCall) (k : length (c .answer) ≡ 7) where
+module _ (l golden previous : List ℕ) (h : length l ≡ 17) (c : FaceCall) (k : length (c .answer) ≡ 8) where
   abbrev st : State
   st = stateOf l golden previous
 

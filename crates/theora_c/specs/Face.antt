@@ -224,7 +224,7 @@ sessionNumbers kind session = set session 16 (referenceNumber kind (getD session
 
 -- the numbers of the answer, also of a refusal; the session with its flag set anew, or as it was
 abbrev pub verdictReturned : (session : List ℕ) → Header → Verdict → Answered
-verdictReturned session h Verdict.Accepted = answers 0 (sessionNumbers (h .kind) session) (answerNumbers Verdict.Accepted h)
+verdictReturned session h (Verdict.Accepted t) = answers 0 (sessionNumbers (h .kind) session) (answerNumbers (Verdict.Accepted t) h)
 verdictReturned session h (Verdict.Refused k e) = answers k session (answerNumbers (Verdict.Refused k e) h)
 
 -- the same, and all else that is lent to be written: new and work memory
@@ -247,7 +247,7 @@ doneReturned session d = frameGives (verdictReturned session (d .answer .header)
 -- a frame call: the lists of the session and of the answer, then the rules
 unfoldable pub frameCall : (session old golden previous : List ℕ) → Call → FrameReturned
 frameCall session old golden previous c =
-    let k = listsNumber 7 session (length old) in
+    let k = listsNumber 8 session (length old) in
     choose (eqb k 0)
     (doneReturned session (byRules firstWay (stateOf session golden previous) c))
     (frameGives (answers k session old) (c .new) (c .memory))

@@ -14,10 +14,10 @@ pub record FaceCall : Type 0 where
   pub rules : Call
   pub answer : List ℕ
 
--- every list for an answer has its 7 numbers
+-- every list for an answer has its 8 numbers
 unfoldable pub AnswersFit : List FaceCall → Type 0
 AnswersFit [] = Unit {0}
-AnswersFit (c ∷ cs) = (length (c .answer) ≡ 7) × AnswersFit cs
+AnswersFit (c ∷ cs) = (length (c .answer) ≡ 8) × AnswersFit cs
 
 -- each call gets the session's list as the call before left it, and golden and previous as the rules hand them on. It returns and leaves what the
 -- turn left, and its list says the session that the turn hands on

@@ -257,7 +257,7 @@ fn reference_number(kind: Kind, before: u64) -> u64
 }
 
 fn return_frame(answer: FrameAnswer, session: &mut [u64], list: &mut [u64]) -> u32
-    requires { ⌜ (length (now session) ≡ 17) × (length (now list) ≡ 7) ⌝ }
+    requires { ⌜ (length (now session) ≡ 17) × (length (now list) ≡ 8) ⌝ }
     ensures { λ r. ⌜ answers r (now (session .exit)) (now (list .exit)) ≡ verdictReturned (now (session .entry)) (answer .header) (answer .verdict) ⌝ }
 {
     let header = answer.header;
@@ -265,7 +265,7 @@ fn return_frame(answer: FrameAnswer, session: &mut [u64], list: &mut [u64]) -> u
     let verdict = answer.verdict;
     reading::store_answer(verdict, header, list);
     match verdict {
-        Verdict::Accepted => {
+        Verdict::Accepted(_) => {
             let before = session[16];
             session[16] = reference_number(kind, before);
             0
@@ -513,7 +513,7 @@ pub extern "C" fn wedgepetal_frame(
         ≡ frameCall (now (session .entry)) (now (answer .entry)) (now (golden .entry)) (now (previous .entry))
         (call (now (packet .entry)) (now (table .entry)) (memory (now (records .entry)) (now (coded .entry)) (now (coefs .entry)) (now (dc .entry)) (now (lasts .entry)) (now (flags .entry)) (now (bits .entry)) (now (supers .entry)) (now (modes .entry)) (now (active .entry))) (now (new .entry))) ⌝ }
 {
-    let k = lists_refusal(session, answer.len(), 7);
+    let k = lists_refusal(session, answer.len(), 8);
     if k == 0 {
         let s = session_of(session);
         let done = theora::frame(

@@ -15,7 +15,7 @@ use super::table_face::Table;
 use super::work_memory::SLICES;
 
 /// How many numbers the answer of a frame has.
-pub const ANSWER_NUMBERS: usize = 7;
+pub const ANSWER_NUMBERS: usize = 8;
 
 /// Where the kind of an accepted frame stands among them, before how many qi it
 /// has and the qi.
@@ -158,7 +158,7 @@ fn refused(fault: Fault) -> [u64; ANSWER_NUMBERS] {
 
 impl Accepted {
     /// As numbers: 0 and 0, since nothing is refused, the kind, how many qi there
-    /// are, and three qi, of which the others are 0.
+    /// are, three qi, of which the others are 0, and how many tokens were read.
     pub fn list(&self) -> [u64; ANSWER_NUMBERS] {
         let kind = match self.kind {
             Kind::Intra => 0,
@@ -166,7 +166,8 @@ impl Accepted {
             Kind::Repeat => 2,
         };
         let qi = |index: usize| self.qis.get(index).map_or(0, |qi| *qi as u64);
-        [0, 0, kind, self.qis.len() as u64, qi(0), qi(1), qi(2)]
+        let count = self.qis.len() as u64;
+        [0, 0, kind, count, qi(0), qi(1), qi(2), self.tokens]
     }
 }
 
@@ -206,24 +207,24 @@ mod tests {
 
     #[test]
     fn numbers_of_accepted_frames() {
-        let repeat = vec![0, 0, 2, 0, 0, 0, 0];
+        let repeat = vec![0, 0, 2, 0, 0, 0, 0, 0];
         let expected = (0, session(5).to_vec(), repeat, true);
-        assert_eq!(call(&session(5), &[], 7), expected);
+        assert_eq!(call(&session(5), &[], 8), expected);
         let mut intra = INTRA.to_vec();
         intra.extend([0; 9]);
         for references in [0, 1, 7] {
-            let answer = vec![0, 0, 0, 2, 63, 1, 0];
+            let answer = vec![0, 0, 0, 2, 63, 1, 0, 6];
             let expected = (0, session(1).to_vec(), answer, true);
-            assert_eq!(call(&session(references), &intra, 7), expected);
+            assert_eq!(call(&session(references), &intra, 8), expected);
         }
     }
 
     #[test]
     fn a_refused_call_leaves_number_and_place() {
         let refused = |list: &[u64], packet, number: u32, place| {
-            let answer = vec![number.into(), place, 0, 0, 0, 0, 0];
+            let answer = vec![number.into(), place, 0, 0, 0, 0, 0, 0];
             let expected = (number, list.to_vec(), answer, false);
-            assert_eq!(call(list, packet, 7), expected);
+            assert_eq!(call(list, packet, 8), expected);
         };
         refused(&session(0), &[], 9, 0);
         refused(&session(0), &[0x40], 9, 1);
@@ -242,10 +243,10 @@ mod tests {
         };
         let mut unsound = session(0);
         unsound[15] = 1;
+        left(&unsound[..16], 8, 1);
         left(&unsound[..16], 7, 1);
-        left(&unsound[..16], 6, 1);
-        left(&unsound, 6, 8);
-        left(&session(0), 6, 1);
-        left(&session(0), 8, 1);
+        left(&unsound, 7, 8);
+        left(&session(0), 7, 1);
+        left(&session(0), 9, 1);
     }
 }
