@@ -38,7 +38,7 @@
  *   identification  session; place: 0     nothing        place
  *   setup           table; place: 0       place: 0 (*)   place; table: all zero
  *   frame           session, new_frame,   answer (*)     answer; work memory: all zero
- *                   answer; work                         (8 for the session's fields:
+ *                   answer; work                         (8 for the session's numbers:
  *                   memory: all zero                     answer (*) alone)
  *   all others      their list            nothing        nothing
  *
