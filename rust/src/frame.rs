@@ -51,15 +51,16 @@ impl FrameAnswer {
 
 impl Session {
     /// Decodes a frame packet into `buffers.new`. If it is an intra frame, the
-    /// session has references afterwards. [`Player`](crate::Player) also hands
+    /// session has references afterwards; it counts key frames, and the other
+    /// packets since the last one. [`Player`](crate::Player) also hands
     /// the frames on from call to call.
     ///
     /// # Errors
     ///
     /// Number 8 for fields that could not come from an identification header,
     /// 1 if work memory or a buffer has another length than this session's,
-    /// then 4 and 9 to 13 with the bit place, for the first fault of the packet.
-    /// The session and `buffers.new` are then as they were.
+    /// then 4 and 9 to 13 with the bit place, for the first fault of the packet,
+    /// then 17 if one of the session's two numbers would pass its bound. The session and `buffers.new` are then as they were.
     pub fn frame(
         &mut self,
         packet: &[u8],

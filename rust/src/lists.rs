@@ -9,7 +9,7 @@
 #![allow(unsafe_code)]
 
 /// How many numbers a session has.
-pub const SESSION_NUMBERS: usize = 17;
+pub const SESSION_NUMBERS: usize = 19;
 
 /// How many numbers the sizes of a frame have.
 pub const SIZE_NUMBERS: usize = 16;
@@ -174,7 +174,7 @@ mod face {
     }
 }
 
-/// Reads an identification header; `session` (17 numbers) receives the fresh
+/// Reads an identification header; `session` (19 numbers) receives the fresh
 /// session, `place` (1 number) the bit place of a refusal, 0 where there is none.
 pub fn identification(packet: &[u8], session: &mut [u64], place: &mut [u64]) -> u32 {
     // SAFETY: all pointers come from slices, so they are not null and valid
@@ -415,7 +415,9 @@ pub fn work_lengths(session: &[u64], lengths: &mut [u64]) -> u32 {
 /// refusal (0 if there is none) and its bit place, then the frame's kind (0
 /// intra, 1 inter, 2 repeat), how many qi it has, three qi, of which the others
 /// are 0, and how many tokens were read; after a refusal these six are 0. An
-/// accepted intra frame sets the reference number of `session` to 1.
+/// accepted intra frame sets the reference number of `session` to 1, counts as a
+/// key frame and sets the other packets to 0; another accepted packet counts as
+/// one of these.
 pub fn frame(
     session: &mut [u64],
     packet: &[u8],

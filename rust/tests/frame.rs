@@ -78,8 +78,8 @@ fn work_lengths() {
     assert_eq!(huge.coefs, 64 * 51_538_034_700);
     assert_eq!(session(1, 1, 1).work_lengths(), Err(Refusal::SESSION));
     let mut list = [7; lists::LENGTH_NUMBERS];
-    assert_eq!(lists::work_lengths(&[0; 16], &mut list), 1);
-    assert_eq!(lists::work_lengths(&[0; 17], &mut list[1..]), 8);
+    assert_eq!(lists::work_lengths(&[0; 18], &mut list), 1);
+    assert_eq!(lists::work_lengths(&[0; 19], &mut list[1..]), 8);
     let sound = session(1, 1, 0).to_list();
     assert_eq!(lists::work_lengths(&sound, &mut list[1..]), 1);
     assert_eq!(list, [7; lists::LENGTH_NUMBERS]);
@@ -192,6 +192,82 @@ fn four_bytes_may_have_64_tokens_for_each_block() {
         player.decode(&ones).unwrap().tokens,
         64 * player.sizes().blocks
     );
+}
+
+/// Where the last frame of a player has its place.
+fn place(player: &Player) -> (u64, u64) {
+    (player.session().key_frames, player.session().others)
+}
+
+#[test]
+fn frames_have_a_place_among_key_frames() {
+    let mut player = player();
+    assert_eq!(place(&player), (0, 0));
+    player.decode(&intra(9, 10)).unwrap();
+    assert_eq!(place(&player), (1, 0));
+    player.decode(&inter(0, 9, 0)).unwrap();
+    player.decode(&[]).unwrap();
+    assert_eq!(place(&player), (1, 2));
+    assert!(player.decode(&[0x80]).is_err());
+    assert_eq!(place(&player), (1, 2));
+    player.decode(&intra(9, 10)).unwrap();
+    assert_eq!(place(&player), (2, 0));
+    player.restart();
+    player.decode(&intra(9, 10)).unwrap();
+    assert_eq!(place(&player), (3, 0));
+}
+
+#[test]
+fn packets_since_a_key_frame_stay_below_the_bound() {
+    for shift in 0..4 {
+        let shifted = wedgepetal::Session {
+            kfgshift: shift,
+            ..session(1, 1, 0)
+        };
+        let mut player = Player::new(shifted, table()).unwrap();
+        assert_eq!(player.decode(&[]), Err(Refusal::NO_REFERENCES));
+        for _ in 0..2 {
+            player.decode(&intra(9, 10)).unwrap();
+            for _ in 1..1 << shift {
+                player.decode(&[]).unwrap();
+            }
+            let (before, at) = (shown(&player), place(&player));
+            assert_eq!(at.1, (1 << shift) - 1);
+            for packet in [Vec::new(), inter(0, 9, 0)] {
+                assert_eq!(player.decode(&packet), Err(Refusal::COUNT_PASSED));
+            }
+            // A fault of the packet comes first.
+            let cut = inter(0, 9, 0)[..2].to_vec();
+            let refusal = player.decode(&cut).unwrap_err();
+            assert_eq!(refusal.number, Refusal::PACKET_END.number);
+            assert_eq!((shown(&player), place(&player)), (before, at));
+        }
+    }
+}
+
+#[test]
+fn key_frames_stay_within_64_bits() {
+    let table = table();
+    let mut work = Work::new(&session(1, 1, 0).work_lengths().unwrap()).unwrap();
+    let (old, mut new) = (vec![5; BYTES], vec![6; BYTES]);
+    let mut counted = session(1, 1, 0);
+    counted.key_frames = u64::MAX - 1;
+    counted.others = 63;
+    let mut call = |session: &mut wedgepetal::Session| {
+        let buffers = Buffers {
+            golden: &old,
+            previous: &old,
+            new: &mut new,
+        };
+        let answer = session.frame(&intra(9, 10), &table, &mut work, buffers);
+        answer.map(|answer| answer.kind)
+    };
+    assert_eq!(call(&mut counted), Ok(Kind::Intra));
+    assert_eq!((counted.key_frames, counted.others), (u64::MAX, 0));
+    assert_eq!(call(&mut counted), Err(Refusal::COUNT_PASSED));
+    assert_eq!((counted.key_frames, counted.others), (u64::MAX, 0));
+    counted.others = 64;
+    assert_eq!(call(&mut counted), Err(Refusal::SESSION));
 }
 
 #[test]

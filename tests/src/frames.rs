@@ -20,6 +20,7 @@ use crate::reference::decode::Decoder;
 use crate::reference::frame::reader::{Bits, Field, FrameFault};
 use crate::reference::frame::{FramePacket, Kind};
 use crate::reference::samples::ways::Way;
+use crate::reference::session::KEY_FRAMES;
 use std::collections::BTreeMap;
 use std::fmt;
 
@@ -29,7 +30,7 @@ const PACKETS_OF_A_CASE: u64 = 64;
 /// What was tried.
 #[derive(Default)]
 pub struct Report {
-    /// Accepted packets by kind.
+    /// Packets that are read to their end, by kind.
     accepted: BTreeMap<Kind, u64>,
     /// How often a field was at fault by a number.
     faults: BTreeMap<(Field, u32), u64>,
@@ -42,6 +43,8 @@ pub struct Report {
     tokens: u64,
     /// Packets of recordings, cut.
     cuts: u64,
+    /// Packets that are read to their end and refused by 17, by kind.
+    past: BTreeMap<Kind, u64>,
 }
 
 /// What a packet is decoded with.
@@ -149,7 +152,7 @@ impl Report {
             let read = frame.read(&packet);
             self.count(&frame, &read);
             let made = read.map(|read| frame.made(read, Way::First));
-            caller.right(random, &frame, &packet, &made, &mut new)?;
+            self.right(random, &frame, &caller, &packet, &made, &mut new)?;
         }
         Ok(())
     }
@@ -207,7 +210,37 @@ impl Report {
             let read = frame.read(packet);
             format!("packet {packet:02x?}\nread {read:?}")
         })?;
-        caller.right(random, frame, packet, &made, new)
+        self.right(random, frame, caller, packet, &made, new)
+    }
+
+    /// Makes the call, with any session that has the frame's references. A packet
+    /// that is refused by 17 is tried once more with a session in which nothing is
+    /// counted, so that its frame is made, unless KFGSHIFT is 0.
+    fn right(
+        &mut self,
+        random: &mut Random,
+        frame: &Frame,
+        caller: &Caller,
+        packet: &[u8],
+        made: &Result<Made, FrameFault>,
+        new: &mut Vec<u8>,
+    ) -> Result<(), String> {
+        let mut list = caller.session(random, frame.references);
+        let number = caller.right(random, frame, list, packet, made, new)?;
+        let (17, Ok(read)) = (number, made) else {
+            return Ok(());
+        };
+        let kind = read.packet.kind;
+        *self.past.entry(kind).or_default() += 1;
+        list[KEY_FRAMES..].fill(0);
+        let number = caller.right(random, frame, list, packet, made, new)?;
+        let none_may_follow = kind != Kind::Intra && caller.fields.kfgshift == 0;
+        match number == 0 || none_may_follow {
+            true => Ok(()),
+            false => Err(format!(
+                "{number} with a session in which nothing is counted"
+            )),
+        }
     }
 
     /// Counts what a packet says, or its fault.
@@ -236,10 +269,15 @@ impl Report {
     /// as none of these had them.
     pub fn missed(&self) -> Vec<String> {
         let faults = possible().into_iter();
+        let kinds = [Kind::Intra, Kind::Inter, Kind::Repeat].into_iter();
+        let past = kinds
+            .filter(|kind| !self.past.contains_key(kind))
+            .map(|kind| format!("no {kind:?} refused by 17"));
         faults
             .filter(|kind| !self.faults.contains_key(kind))
             .map(|(field, number)| format!("no {field:?} refused by {number}"))
             .chain(self.four.missed())
+            .chain(past)
             .collect()
     }
 }
@@ -352,8 +390,8 @@ impl fmt::Display for Report {
         let refused: u64 = self.faults.values().sum();
         writeln!(
             f,
-            "  accepted {:?}, refused {refused}, cuts among them {}",
-            self.accepted, self.cuts
+            "  read {:?}, of which refused by 17 {:?}; refused before {refused}; cuts among them {}",
+            self.accepted, self.past, self.cuts
         )?;
         writeln!(
             f,

@@ -14,6 +14,7 @@ mod left;
 mod memory;
 mod output;
 mod packets;
+mod places;
 mod png;
 mod progress;
 mod sample;
@@ -149,7 +150,8 @@ fn perform(job: &Job) -> Result<Said, Failure> {
 fn describe(job: &Job) -> Result<Said, Failure> {
     let input = Input::open(Path::new(&job.words[0]), job.has("--quiet"))?;
     let name = input.name.clone();
-    let info = info::read(input)?;
+    let limit = Limit::new(parsed(job, "--max-memory", memory::parse)?);
+    let info = info::read(input, job.has("--places").then_some(limit))?;
     let text = match (job.has("--json"), job.has("--quiet")) {
         (true, _) => format!("{}\n", info.json(&name)),
         (false, true) => info.faults(&name),

@@ -160,6 +160,10 @@ fn decode_packet(
         Read::Whole(count, tokens, _) => {
             let header = got.header;
             let kind = header.kind;
+            if !reading::stays_counted(kind, s) {
+                work_memory::clear_read(records, coded, coefs, lasts);
+                return reading::refusal(17, 0, s);
+            }
             make(
                 table,
                 loaded,

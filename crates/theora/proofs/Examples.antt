@@ -40,6 +40,8 @@ module _ (memory : Memory) where
       pf = 0;
     };
     references = false;
+    «key_frames» = 0;
+    others = 0;
   }
 
   -- a call that brings the number n as packet and as new

@@ -5,5 +5,6 @@ pub mod LeftBySetup
 pub mod Demand
 pub mod Places
 pub mod Tokens
+pub mod KeyFrames
 pub mod Promised
 pub mod Examples

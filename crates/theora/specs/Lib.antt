@@ -9,4 +9,5 @@ pub mod LeftBySetup
 pub mod Demand
 pub mod Places
 pub mod Tokens
+pub mod KeyFrames
 pub mod Table

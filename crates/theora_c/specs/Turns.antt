@@ -29,7 +29,7 @@ SameTurns session (c ∷ cs) (t ∷ ts) =
     let r = frameCall session (c .answer) (t .before .golden) (t .before .previous) (c .rules) in
     (r ≡ doneReturned session (t .done)) × (sessionOf (r .answered .lent) ≡ t .after .session) × SameTurns (r .answered .lent) cs ts
 
--- from any list of 17 numbers, golden and previous: the calls of the face are the turns of demand 3
+-- from any list of 19 numbers, golden and previous: the calls of the face are the turns of demand 3
 abbrev pub FaceTurns : Type 0
-FaceTurns = (session golden previous : List ℕ) → length session ≡ 17 → (cs : List FaceCall) → AnswersFit cs
+FaceTurns = (session golden previous : List ℕ) → length session ≡ 19 → (cs : List FaceCall) → AnswersFit cs
     → SameTurns session cs (turns (byRules firstWay) (stateOf session golden previous) (map (λ c. c .rules) cs))
