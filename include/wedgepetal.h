@@ -23,8 +23,8 @@
  *
  * Each call returns 0 if it is accepted, else the number of its refusal. Where
  * several numbers apply, they are found in this order: 1 for the session's list,
- * 8 for its fields, 1 for any other list, 8 for the table memory, then a fault
- * of the packet, or 255 if there is no such thing as is asked for.
+ * 8 for its numbers, 1 for any other list, 8 for the table memory, then a fault
+ * of the packet, then 17, or 255 if there is no such thing as is asked for.
  *
  * A refusal found inside a packet (2 to 7, 9 to 13) has a place: the bit of the
  * packet, counted from 0 and from the highest bit of byte 0 on, at which the
@@ -38,7 +38,7 @@
  *   identification  session; place: 0     nothing        place
  *   setup           table; place: 0       place: 0 (*)   place; table: all zero
  *   frame           session, new_frame,   answer (*)     answer; work memory: all zero
- *                   answer; work                         (8 for the session's fields:
+ *                   answer; work                         (8 for the session's numbers:
  *                   memory: all zero                     answer (*) alone)
  *   all others      their list            nothing        nothing
  *
@@ -73,7 +73,8 @@ enum {
     WEDGEPETAL_RESERVED = 6,        /* PF is 1, or the 3 last identification bits are not 0 */
     WEDGEPETAL_SETUP_FAULT = 7,     /* setup: NBMS above 384, a matrix index not below NBMS, a qi sum
                                        above 63, a code longer than 32, a 33rd leaf */
-    WEDGEPETAL_SESSION = 8,         /* the session's identification fields break 5, 6 or their widths */
+    WEDGEPETAL_SESSION = 8,         /* the session's identification fields break 5, 6 or their widths,
+                                       or its others are not below 2 to the power KFGSHIFT */
     WEDGEPETAL_TABLE = 8,           /* no accepted setup packet leaves this table memory (the same
                                        number as for a session) */
     WEDGEPETAL_NO_REFERENCES = 9,   /* an inter or empty packet, and no references */
@@ -81,12 +82,16 @@ enum {
     WEDGEPETAL_FRAME_RESERVED = 11, /* an intra frame's 3 reserved bits are not 0 */
     WEDGEPETAL_RUN = 12,            /* a run exceeds the bits still wanted */
     WEDGEPETAL_TOKEN = 13,          /* a token moves its block past position 64 */
+    WEDGEPETAL_COUNT_PASSED = 17,   /* key frames would pass 64 bits, or others would not stay below
+                                       2 to the power KFGSHIFT; found after all else */
     WEDGEPETAL_ABSENT = 255         /* the frame has no such block, macro block or sample, or there is
                                        no such type, plane or qi */
 };
 
-/* A session is a list of 17 numbers: the identification fields, and whether
- * references (a golden and a previous frame) exist. */
+/* A session is a list of 19 numbers: the identification fields, whether
+ * references (a golden and a previous frame) exist, and two numbers that give a
+ * frame its place: the accepted key frames (intra frames), and the other packets
+ * accepted since the last of them. In a fresh session all three are 0. */
 enum {
     WEDGEPETAL_VREV,       /* revision of version 3.2 */
     WEDGEPETAL_FMBW,       /* width of the frame in macro blocks */
@@ -105,6 +110,8 @@ enum {
     WEDGEPETAL_KFGSHIFT,   /* shift of the key frame number in a granule position */
     WEDGEPETAL_PF,         /* pixel format: 0 is 4:2:0, 2 is 4:2:2, 3 is 4:4:4 */
     WEDGEPETAL_REFERENCES, /* 0: there are none; any other number: there are */
+    WEDGEPETAL_KEY_FRAMES, /* accepted key frames; any number */
+    WEDGEPETAL_OTHERS,     /* accepted others since the last key frame; below 2 to the power KFGSHIFT */
     WEDGEPETAL_SESSION_NUMBERS
 };
 
@@ -145,7 +152,7 @@ enum {
     WEDGEPETAL_LENGTH_NUMBERS
 };
 
-/* The answer of a frame is a list of 7 numbers. After a refusal all but the
+/* The answer of a frame is a list of 8 numbers. After a refusal all but the
  * first two are 0. */
 enum {
     WEDGEPETAL_NUMBER,   /* what the call returns: 0, or the number of the refusal */
@@ -153,7 +160,9 @@ enum {
     WEDGEPETAL_KIND,     /* one of the three kinds */
     WEDGEPETAL_QI_COUNT, /* how many qi it has: 1 to 3, or 0 for a repeat */
     WEDGEPETAL_QIS,      /* the first of three numbers: these qi, then zeros */
-    WEDGEPETAL_ANSWER_NUMBERS = 7
+    WEDGEPETAL_TOKENS = 7, /* how many coefficient tokens were read, those that end blocks
+                              included: at most 64 for each coded block, 0 for a repeat */
+    WEDGEPETAL_ANSWER_NUMBERS
 };
 
 /* The kinds of a frame: coded by itself, coded as a change of other frames, the
@@ -162,14 +171,14 @@ enum { WEDGEPETAL_INTRA, WEDGEPETAL_INTER, WEDGEPETAL_REPEAT };
 
 /* ---- Headers and sizes. How many numbers a list must have stands behind it. */
 
-/* Reads an identification header; session (17) receives a fresh session, which
+/* Reads an identification header; session (19) receives a fresh session, which
  * has no references. Refused by 1 to 6; place (1) receives the refusal's place. */
 uint32_t wedgepetal_identification(const uint8_t *packet, size_t packet_length,
                                    uint64_t *session, size_t session_length,
                                    uint64_t *place, size_t place_length);
 
 /* The sizes of a session's frames (16). This call and the next six take a
- * session (17) and are refused by 1 and 8, and the six by 255 if the frame does
+ * session (19) and are refused by 1 and 8, and the six by 255 if the frame does
  * not have what they ask for. */
 uint32_t wedgepetal_sizes(const uint64_t *session, size_t session_length,
                           uint64_t *sizes, size_t sizes_length);
@@ -235,8 +244,9 @@ uint32_t wedgepetal_work_lengths(const uint64_t *session, size_t session_length,
 
 /* Decodes a frame packet.
  *
- * session  (17 numbers) after an accepted intra frame its reference number is
- *          1; after any other call it is as it was
+ * session  (19 numbers) after an accepted intra frame its reference number is
+ *          1, its key frames are one more and its others 0; after another accepted
+ *          frame its others are one more; after a refusal it is as it was
  * packet   the packet; an empty one repeats the previous frame
  * table    (WEDGEPETAL_TABLE_BYTES bytes) what wedgepetal_setup left; only read
  * records to active
@@ -253,7 +263,7 @@ uint32_t wedgepetal_work_lengths(const uint64_t *session, size_t session_length,
  *          first, in each plane the lowest row first. The whole frame is there;
  *          the caller cuts the picture out of it. It must be another buffer than
  *          golden and previous
- * answer   (7 numbers) receives the answer, also of a refusal
+ * answer   (8 numbers) receives the answer, also of a refusal
  *
  * After an accepted intra frame the caller takes new_frame for golden and
  * previous, after another accepted frame for previous; after a refusal all
@@ -261,9 +271,9 @@ uint32_t wedgepetal_work_lengths(const uint64_t *session, size_t session_length,
  * need be copied: the next new_frame is one that is neither golden nor previous.
  *
  * Refusals, in the order in which they are found: 1 for the session's list, 8
- * for its fields, 1 for any other list, 8 for the table memory, then 4 and 9 to
- * 13 for the first fault in the packet. A refused call leaves session and
- * new_frame as they were. */
+ * for its fields and its others, 1 for any other list, 8 for the table memory,
+ * then 4 and 9 to 13 for the first fault in the packet, then 17. A refused call
+ * leaves session and new_frame as they were. */
 uint32_t wedgepetal_frame(uint64_t *session, size_t session_length,
                           const uint8_t *packet, size_t packet_length,
                           const uint8_t *table, size_t table_length,

@@ -19,6 +19,9 @@ pub enum Kind {
 pub struct FrameAnswer {
     /// The frame's kind.
     pub kind: Kind,
+    /// How many coefficient tokens were read, those that end blocks included: at
+    /// most 64 for each coded block, 0 for a repeat.
+    pub tokens: u64,
     qis: [u8; 3],
     count: usize,
 }
@@ -31,13 +34,14 @@ impl FrameAnswer {
 
     /// The answer that the list of an accepted frame stands for.
     fn from_list(list: &[u64; ANSWER_NUMBERS]) -> FrameAnswer {
-        let [_, _, kind, count, qis @ ..] = *list;
+        let [_, _, kind, count, qis @ .., tokens] = *list;
         FrameAnswer {
             kind: match kind {
                 0 => Kind::Intra,
                 1 => Kind::Inter,
                 _ => Kind::Repeat,
             },
+            tokens,
             // A qi has 6 bits, and there are at most 3.
             qis: qis.map(|qi| qi as u8),
             count: count as usize,
@@ -47,15 +51,16 @@ impl FrameAnswer {
 
 impl Session {
     /// Decodes a frame packet into `buffers.new`. If it is an intra frame, the
-    /// session has references afterwards. [`Player`](crate::Player) also hands
+    /// session has references afterwards; it counts key frames, and the other
+    /// packets since the last one. [`Player`](crate::Player) also hands
     /// the frames on from call to call.
     ///
     /// # Errors
     ///
     /// Number 8 for fields that could not come from an identification header,
     /// 1 if work memory or a buffer has another length than this session's,
-    /// then 4 and 9 to 13 with the bit place, for the first fault of the packet.
-    /// The session and `buffers.new` are then as they were.
+    /// then 4 and 9 to 13 with the bit place, for the first fault of the packet,
+    /// then 17 if one of the session's two numbers would pass its bound. The session and `buffers.new` are then as they were.
     pub fn frame(
         &mut self,
         packet: &[u8],

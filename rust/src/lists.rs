@@ -9,7 +9,7 @@
 #![allow(unsafe_code)]
 
 /// How many numbers a session has.
-pub const SESSION_NUMBERS: usize = 17;
+pub const SESSION_NUMBERS: usize = 19;
 
 /// How many numbers the sizes of a frame have.
 pub const SIZE_NUMBERS: usize = 16;
@@ -28,8 +28,8 @@ pub const FAULT_NUMBERS: usize = 1;
 pub const LENGTH_NUMBERS: usize = 11;
 
 /// How many numbers the answer of a frame has: the number of the refusal (0 if
-/// there is none), its place, kind, how many qi, three qi.
-pub const ANSWER_NUMBERS: usize = 7;
+/// there is none), its place, kind, how many qi, three qi, how many tokens.
+pub const ANSWER_NUMBERS: usize = 8;
 
 /// How many bytes table memory has.
 pub const TABLE_BYTES: usize = 28_184;
@@ -174,7 +174,7 @@ mod face {
     }
 }
 
-/// Reads an identification header; `session` (17 numbers) receives the fresh
+/// Reads an identification header; `session` (19 numbers) receives the fresh
 /// session, `place` (1 number) the bit place of a refusal, 0 where there is none.
 pub fn identification(packet: &[u8], session: &mut [u64], place: &mut [u64]) -> u32 {
     // SAFETY: all pointers come from slices, so they are not null and valid
@@ -411,11 +411,13 @@ pub fn work_lengths(session: &[u64], lengths: &mut [u64]) -> u32 {
     }
 }
 
-/// Decodes a frame packet: `answer` (7 numbers) receives the number of the
+/// Decodes a frame packet: `answer` (8 numbers) receives the number of the
 /// refusal (0 if there is none) and its bit place, then the frame's kind (0
-/// intra, 1 inter, 2 repeat), how many qi it has and three qi, of which the
-/// others are 0; after a refusal these five are 0. An accepted intra frame sets
-/// the reference number of `session` to 1.
+/// intra, 1 inter, 2 repeat), how many qi it has, three qi, of which the others
+/// are 0, and how many tokens were read; after a refusal these six are 0. An
+/// accepted intra frame sets the reference number of `session` to 1, counts as a
+/// key frame and sets the other packets to 0; another accepted packet counts as
+/// one of these.
 pub fn frame(
     session: &mut [u64],
     packet: &[u8],

@@ -36,7 +36,8 @@ pub enum Unplayable {
 
 impl Player {
     /// A player for the frames of a session, with the tables of a setup header.
-    /// It begins without references, so that the first frame is an intra frame.
+    /// It begins without references, so that the first frame is an intra frame,
+    /// and counts key frames from 0.
     ///
     /// # Errors
     ///
@@ -55,6 +56,8 @@ impl Player {
             previous: 0,
             session: Session {
                 references: false,
+                key_frames: 0,
+                others: 0,
                 ..session
             },
             sizes,
@@ -74,7 +77,7 @@ impl Player {
     }
 
     /// Forgets all frames: packets are missing here. As at the beginning, only
-    /// an intra frame is accepted next.
+    /// an intra frame is accepted next. Key frames are counted on.
     pub fn restart(&mut self) {
         self.session.references = false;
     }
@@ -84,7 +87,9 @@ impl Player {
     /// # Errors
     ///
     /// Numbers 4 and 9 to 13 with the bit place, for the first fault of the
-    /// packet. Everything is then as it was, and the next packet can be decoded.
+    /// packet, and 17 for a packet with which the session's numbers would pass
+    /// their bounds. Everything is then as it was, and the next packet can be
+    /// decoded.
     pub fn decode(&mut self, packet: &[u8]) -> Result<FrameAnswer, Refusal> {
         let free = self.free();
         let mut new = take(&mut self.buffers[free]);
@@ -120,7 +125,8 @@ impl Player {
         self.session.references.then_some(frame)
     }
 
-    /// The session: its fields, and whether there is a frame yet.
+    /// The session: its fields, whether there is a frame yet, and the place of
+    /// the last frame: its key frame's number, and how many packets came since.
     pub fn session(&self) -> &Session {
         &self.session
     }

@@ -10,7 +10,7 @@ pub struct Refusal {
     /// The number.
     pub number: u32,
     /// The bit place in the packet of the first bit of the field at fault, from
-    /// 0; 0 where no field of a packet is (1, 8, 255).
+    /// 0; 0 where no field of a packet is (1, 8, 17, 255).
     pub place: u64,
 }
 
@@ -30,7 +30,8 @@ impl Refusal {
     /// Setup: NBMS above 384, a matrix index not below NBMS, a qi sum above
     /// 63, a code longer than 32, or a 33rd leaf.
     pub const SETUP_FAULT: Refusal = Refusal::by(7);
-    /// The session's identification fields break 5, 6 or their widths.
+    /// The session's identification fields break 5, 6 or their widths, or its
+    /// packets since the last key frame are not below 2 to the power KFGSHIFT.
     pub const SESSION: Refusal = Refusal::by(8);
     /// No accepted setup packet leaves this table memory.
     pub const TABLE: Refusal = Refusal::by(8);
@@ -44,6 +45,9 @@ impl Refusal {
     pub const RUN: Refusal = Refusal::by(12);
     /// A token moves its block past position 64.
     pub const TOKEN: Refusal = Refusal::by(13);
+    /// A key frame more than 64 bits count, or so many other packets since the
+    /// last one that they would not stay below 2 to the power KFGSHIFT.
+    pub const COUNT_PASSED: Refusal = Refusal::by(17);
     /// The frame has no such block, macro block or sample, or there is no such
     /// type, plane or qi.
     pub const ABSENT: Refusal = Refusal::by(255);
@@ -78,6 +82,7 @@ impl Refusal {
             }
             8 => {
                 "the identification fields break 5, 6 or their widths, \
+                 the packets since the last key frame are not below 2 to the power KFGSHIFT, \
                  or no accepted setup packet leaves this table memory"
             }
             9 => "an inter or empty packet and no references",
@@ -85,6 +90,10 @@ impl Refusal {
             11 => "an intra frame's 3 reserved bits are not 0",
             12 => "a run exceeds the bits still wanted",
             13 => "a token moves its block past position 64",
+            17 => {
+                "the key frames would pass 64 bits, \
+                 or the packets since the last one would reach 2 to the power KFGSHIFT"
+            }
             255 => {
                 "the frame has no such block, macro block or sample, \
                  or there is no such type, plane or qi"

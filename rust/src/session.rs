@@ -5,10 +5,12 @@ use crate::lists::{
 };
 use crate::{Block, MacroBlock, Plane, Refusal, Sizes};
 
-/// The identification fields of a recording, and whether references exist.
+/// The identification fields of a recording, whether references exist, and the
+/// numbers by which a frame has its place among the key frames.
 ///
 /// The fields may hold any numbers. A call on a session whose fields could not
-/// come from an identification header is refused by number 8.
+/// come from an identification header, or whose `others` are not below 2 to the
+/// power KFGSHIFT, is refused by number 8.
 #[derive(Clone, Debug, PartialEq, Eq, Hash)]
 pub struct Session {
     /// The version revision, 8 bits.
@@ -45,9 +47,14 @@ pub struct Session {
     pub pf: u64,
     /// Whether golden and previous frames exist.
     pub references: bool,
+    /// How many key frames (intra frames) were accepted.
+    pub key_frames: u64,
+    /// How many other packets were accepted since the last key frame.
+    pub others: u64,
 }
 
-/// Reads an identification header. The session is fresh: it has no references.
+/// Reads an identification header. The session is fresh: it has no references,
+/// and nothing is counted yet.
 ///
 /// # Errors
 ///
@@ -80,6 +87,8 @@ impl Session {
             self.kfgshift,
             self.pf,
             u64::from(self.references),
+            self.key_frames,
+            self.others,
         ]
     }
 
@@ -103,6 +112,8 @@ impl Session {
             kfgshift,
             pf,
             references,
+            key_frames,
+            others,
         ] = *list;
         Session {
             vrev,
@@ -122,6 +133,8 @@ impl Session {
             kfgshift,
             pf,
             references: references != 0,
+            key_frames,
+            others,
         }
     }
 

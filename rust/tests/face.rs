@@ -101,36 +101,44 @@ fn refusals() {
     assert_eq!(identification(b""), Err(Refusal::PACKET_END));
     assert_eq!(session(1, 1, 1).sizes(), Err(Refusal::SESSION));
     assert_eq!(session(1, 1, 0).block_at(6), Err(Refusal::ABSENT));
-    assert_eq!(lists::sizes(&[0; 16], &mut []), 1);
-    assert_eq!(lists::sizes(&[0; 17], &mut []), 8);
+    assert_eq!(lists::sizes(&[0; 18], &mut []), 1);
+    assert_eq!(lists::sizes(&[0; 19], &mut []), 8);
     assert_eq!(lists::sizes(&session(1, 1, 0).to_list(), &mut []), 1);
-    let (mut list, mut place) = ([7; 17], [7; 2]);
+    let (mut list, mut place) = ([7; 19], [7; 2]);
     assert_eq!(
         lists::identification(&[], &mut list[1..], &mut place[1..]),
         1
     );
     assert_eq!(lists::identification(&[], &mut list, &mut place), 1);
-    assert_eq!((list, place), ([7; 17], [7; 2]));
+    assert_eq!((list, place), ([7; 19], [7; 2]));
     assert_eq!(
         lists::identification(&[0x80; 2], &mut list, &mut place[1..]),
         2
     );
-    assert_eq!((list, place), ([7; 17], [7, 8]));
+    assert_eq!((list, place), ([7; 19], [7, 8]));
 }
 
 #[test]
 fn sessions_are_lists() {
     let mut with_references = session(3, 2, 3);
     with_references.references = true;
+    with_references.key_frames = u64::MAX;
+    with_references.others = 63;
     let list = with_references.to_list();
-    assert_eq!(list[16], 1);
+    assert_eq!(list[16..], [1, u64::MAX, 63]);
     assert_eq!(Session::from_list(&list), with_references);
+    // KFGSHIFT is 6.
+    assert!(with_references.sizes().is_ok());
+    with_references.others = 64;
+    assert_eq!(with_references.sizes(), Err(Refusal::SESSION));
+    assert_eq!(with_references.block_at(0), Err(Refusal::SESSION));
+    assert_eq!(with_references.work_lengths(), Err(Refusal::SESSION));
 }
 
 #[test]
 fn every_number_has_a_meaning() {
     let unknown = Refusal::by(14).meaning();
-    for number in (1..=13).chain([255]) {
+    for number in (1..=13).chain([17, 255]) {
         assert_ne!(Refusal::by(number).meaning(), unknown);
     }
     let with_place = (0..=255).filter(|number| Refusal::by(*number).has_place());

@@ -78,8 +78,8 @@ fn work_lengths() {
     assert_eq!(huge.coefs, 64 * 51_538_034_700);
     assert_eq!(session(1, 1, 1).work_lengths(), Err(Refusal::SESSION));
     let mut list = [7; lists::LENGTH_NUMBERS];
-    assert_eq!(lists::work_lengths(&[0; 16], &mut list), 1);
-    assert_eq!(lists::work_lengths(&[0; 17], &mut list[1..]), 8);
+    assert_eq!(lists::work_lengths(&[0; 18], &mut list), 1);
+    assert_eq!(lists::work_lengths(&[0; 19], &mut list[1..]), 8);
     let sound = session(1, 1, 0).to_list();
     assert_eq!(lists::work_lengths(&sound, &mut list[1..]), 1);
     assert_eq!(list, [7; lists::LENGTH_NUMBERS]);
@@ -92,6 +92,8 @@ fn an_intra_frame() {
     let answer = player.decode(&intra(9, 10)).unwrap();
     assert_eq!(answer.kind, Kind::Intra);
     assert_eq!(answer.qis(), [3]);
+    // A DC for each of the six blocks, then the end of each.
+    assert_eq!(answer.tokens, 12);
     assert!(player.session().references);
     // DC 1, 2, 2, 3 and −1, times 16: residuals 0, 1, 1, 1 and −1.
     let wanted = flat([128, 129, 129, 129], 127, 127);
@@ -120,6 +122,7 @@ fn frames_are_handed_on() {
     assert_eq!(shown(&player), second);
     let answer = player.decode(&[]).unwrap();
     assert_eq!((answer.kind, answer.qis()), (Kind::Repeat, &[][..]));
+    assert_eq!(answer.tokens, 0);
     assert_eq!(shown(&player), second);
     // Predicted from golden without a vector, and no residual. The loop
     // filter goes over it once more.
@@ -173,8 +176,98 @@ fn a_token_past_position_64_is_refused() {
     // The code of a lone leaf has no bits: the token begins at its extra ones.
     assert_eq!(player.decode(&past), Err(Refusal::TOKEN.at(64)));
     let to_the_end = packet(&format!("{bits} {}", "111110".repeat(6)));
-    assert_eq!(player.decode(&to_the_end).unwrap().kind, Kind::Intra);
+    let answer = player.decode(&to_the_end).unwrap();
+    assert_eq!((answer.kind, answer.tokens), (Kind::Intra, 12));
     assert_eq!(shown(&player), [128; BYTES]);
+}
+
+#[test]
+fn four_bytes_may_have_64_tokens_for_each_block() {
+    // Every token is 9, a value of 1 without extra bits, and its code is empty.
+    let table = setup(&setup_packet(|_| 9)).unwrap();
+    let mut player = Player::new(session(3, 2, 0), table).unwrap();
+    let ones = packet("0 0 000011 0 000 0000 0000 0000 0000");
+    assert_eq!(ones.len(), 4);
+    assert_eq!(
+        player.decode(&ones).unwrap().tokens,
+        64 * player.sizes().blocks
+    );
+}
+
+/// Where the last frame of a player has its place.
+fn place(player: &Player) -> (u64, u64) {
+    (player.session().key_frames, player.session().others)
+}
+
+#[test]
+fn frames_have_a_place_among_key_frames() {
+    let mut player = player();
+    assert_eq!(place(&player), (0, 0));
+    player.decode(&intra(9, 10)).unwrap();
+    assert_eq!(place(&player), (1, 0));
+    player.decode(&inter(0, 9, 0)).unwrap();
+    player.decode(&[]).unwrap();
+    assert_eq!(place(&player), (1, 2));
+    assert!(player.decode(&[0x80]).is_err());
+    assert_eq!(place(&player), (1, 2));
+    player.decode(&intra(9, 10)).unwrap();
+    assert_eq!(place(&player), (2, 0));
+    player.restart();
+    player.decode(&intra(9, 10)).unwrap();
+    assert_eq!(place(&player), (3, 0));
+}
+
+#[test]
+fn packets_since_a_key_frame_stay_below_the_bound() {
+    for shift in 0..4 {
+        let shifted = wedgepetal::Session {
+            kfgshift: shift,
+            ..session(1, 1, 0)
+        };
+        let mut player = Player::new(shifted, table()).unwrap();
+        assert_eq!(player.decode(&[]), Err(Refusal::NO_REFERENCES));
+        for _ in 0..2 {
+            player.decode(&intra(9, 10)).unwrap();
+            for _ in 1..1 << shift {
+                player.decode(&[]).unwrap();
+            }
+            let (before, at) = (shown(&player), place(&player));
+            assert_eq!(at.1, (1 << shift) - 1);
+            for packet in [Vec::new(), inter(0, 9, 0)] {
+                assert_eq!(player.decode(&packet), Err(Refusal::COUNT_PASSED));
+            }
+            // A fault of the packet comes first.
+            let cut = inter(0, 9, 0)[..2].to_vec();
+            let refusal = player.decode(&cut).unwrap_err();
+            assert_eq!(refusal.number, Refusal::PACKET_END.number);
+            assert_eq!((shown(&player), place(&player)), (before, at));
+        }
+    }
+}
+
+#[test]
+fn key_frames_stay_within_64_bits() {
+    let table = table();
+    let mut work = Work::new(&session(1, 1, 0).work_lengths().unwrap()).unwrap();
+    let (old, mut new) = (vec![5; BYTES], vec![6; BYTES]);
+    let mut counted = session(1, 1, 0);
+    counted.key_frames = u64::MAX - 1;
+    counted.others = 63;
+    let mut call = |session: &mut wedgepetal::Session| {
+        let buffers = Buffers {
+            golden: &old,
+            previous: &old,
+            new: &mut new,
+        };
+        let answer = session.frame(&intra(9, 10), &table, &mut work, buffers);
+        answer.map(|answer| answer.kind)
+    };
+    assert_eq!(call(&mut counted), Ok(Kind::Intra));
+    assert_eq!((counted.key_frames, counted.others), (u64::MAX, 0));
+    assert_eq!(call(&mut counted), Err(Refusal::COUNT_PASSED));
+    assert_eq!((counted.key_frames, counted.others), (u64::MAX, 0));
+    counted.others = 64;
+    assert_eq!(call(&mut counted), Err(Refusal::SESSION));
 }
 
 #[test]
@@ -276,31 +369,31 @@ fn call(
 fn calls_on_lists() {
     let table = table();
     let table = table.bytes();
-    let refused = |number: u64, place: u64| vec![number, place, 0, 0, 0, 0, 0];
-    let accepted = |numbers: [u64; 5]| [&[0, 0], &numbers[..]].concat();
+    let refused = |number: u64, place: u64| vec![number, place, 0, 0, 0, 0, 0, 0];
+    let accepted = |numbers: [u64; 6]| [&[0, 0], &numbers[..]].concat();
     assert_eq!(
-        call(0, table, &intra(9, 9), 7),
-        (0, 1, accepted([0, 1, 3, 0, 0]), true)
+        call(0, table, &intra(9, 9), 8),
+        (0, 1, accepted([0, 1, 3, 0, 0, 12]), true)
     );
     assert_eq!(
-        call(9, table, &inter_without_blocks(), 7),
-        (0, 9, accepted([1, 1, 4, 0, 0]), true)
+        call(9, table, &inter_without_blocks(), 8),
+        (0, 9, accepted([1, 1, 4, 0, 0, 0]), true)
     );
     assert_eq!(
-        call(9, table, &inter(0, 0, 0), 7),
-        (0, 9, accepted([1, 3, 4, 5, 6]), true)
+        call(9, table, &inter(0, 0, 0), 8),
+        (0, 9, accepted([1, 3, 4, 5, 6, 6]), true)
     );
     assert_eq!(
-        call(7, table, &[], 7),
-        (0, 7, accepted([2, 0, 0, 0, 0]), true)
+        call(7, table, &[], 8),
+        (0, 7, accepted([2, 0, 0, 0, 0, 0]), true)
     );
-    assert_eq!(call(0, table, &[], 7), (9, 0, refused(9, 0), true));
-    assert_eq!(call(0, table, &[0x40], 7), (9, 0, refused(9, 1), true));
-    assert_eq!(call(3, table, &[0x80], 7), (10, 3, refused(10, 0), true));
-    assert_eq!(call(3, table, &[0], 7), (4, 3, refused(4, 8), true));
-    assert_eq!(call(0, &[0; 28_184], &[], 7), (8, 0, refused(8, 0), true));
-    assert_eq!(call(0, &table[1..], &[], 7), (1, 0, refused(1, 0), false));
-    assert_eq!(call(0, table, &intra(9, 9), 6), (1, 0, vec![77; 6], false));
+    assert_eq!(call(0, table, &[], 8), (9, 0, refused(9, 0), true));
+    assert_eq!(call(0, table, &[0x40], 8), (9, 0, refused(9, 1), true));
+    assert_eq!(call(3, table, &[0x80], 8), (10, 3, refused(10, 0), true));
+    assert_eq!(call(3, table, &[0], 8), (4, 3, refused(4, 8), true));
+    assert_eq!(call(0, &[0; 28_184], &[], 8), (8, 0, refused(8, 0), true));
+    assert_eq!(call(0, &table[1..], &[], 8), (1, 0, refused(1, 0), false));
+    assert_eq!(call(0, table, &intra(9, 9), 7), (1, 0, vec![77; 7], false));
 }
 
 #[test]

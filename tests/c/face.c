@@ -203,7 +203,7 @@ static void refused(const char *what, uint32_t got, uint64_t *answer, uint32_t n
 static void try_refusals(struct lent *m, const uint64_t *lengths, uint64_t *session)
 {
     struct bits intra = intra_frame(), inter = inter_frame(), other = {{0x80}, 8};
-    uint64_t answer[WEDGEPETAL_ANSWER_NUMBERS] = {7, 7, 7, 7, 7, 7, 7};
+    uint64_t answer[WEDGEPETAL_ANSWER_NUMBERS] = {7, 7, 7, 7, 7, 7, 7, 7};
     uint64_t before[WEDGEPETAL_SESSION_NUMBERS], wrong[WEDGEPETAL_LENGTH_NUMBERS];
     struct wedgepetal_work work = wedgepetal_work_in(m->work, lengths);
     int i;
@@ -247,7 +247,7 @@ static void try_refusals(struct lent *m, const uint64_t *lengths, uint64_t *sess
 static void try_accepted(struct lent *m, const uint64_t *lengths, uint64_t *session)
 {
     struct bits intra = intra_frame(), inter = inter_frame();
-    uint64_t answer[WEDGEPETAL_ANSWER_NUMBERS] = {7, 7, 7, 7, 7, 7, 7};
+    uint64_t answer[WEDGEPETAL_ANSWER_NUMBERS] = {7, 7, 7, 7, 7, 7, 7, 7};
     uint8_t *luma = m->new_frame;
 
     expect("intra", call(m, lengths, session, &intra, 4, answer), 0);
@@ -256,7 +256,9 @@ static void try_accepted(struct lent *m, const uint64_t *lengths, uint64_t *sess
     expect("how many qi", answer[WEDGEPETAL_QI_COUNT], 1);
     expect("qi", answer[WEDGEPETAL_QIS], 3);
     expect("no qi", answer[WEDGEPETAL_QIS + 1] + answer[WEDGEPETAL_QIS + 2], 0);
+    expect("a DC and an end for each block", answer[WEDGEPETAL_TOKENS], 12);
     expect("references", session[WEDGEPETAL_REFERENCES], 1);
+    expect("a key frame", session[WEDGEPETAL_KEY_FRAMES], 1);
     expect("work is clear", count(m->work, WORK, 0), WORK);
     /* DC 1, 2, 2, 3 and -1, times 16: residuals 0, 1, 1, 1 and -1. */
     expect("lower left", luma[0] + luma[7] + luma[7 * 16 + 7], 3 * 128);
@@ -267,12 +269,29 @@ static void try_accepted(struct lent *m, const uint64_t *lengths, uint64_t *sess
     session[WEDGEPETAL_REFERENCES] = 9;
     expect("inter", call(m, lengths, session, &inter, 5, answer), 0);
     expect("kind", answer[WEDGEPETAL_KIND], WEDGEPETAL_INTER);
+    expect("no tokens", answer[WEDGEPETAL_TOKENS], 0);
     expect("previous", (uint64_t)memcmp(m->previous, m->new_frame, BUFFER), 0);
     expect("repeat", call(m, lengths, session, &inter, 0, answer), 0);
     expect("kind", answer[WEDGEPETAL_KIND], WEDGEPETAL_REPEAT);
     expect("no qi", answer[WEDGEPETAL_QI_COUNT] + answer[WEDGEPETAL_QIS], 0);
+    expect("no tokens", answer[WEDGEPETAL_TOKENS], 0);
     expect("previous", (uint64_t)memcmp(m->previous, m->new_frame, BUFFER), 0);
     expect("references as they were", session[WEDGEPETAL_REFERENCES], 9);
+    expect("two others", session[WEDGEPETAL_OTHERS], 2);
+    session[WEDGEPETAL_OTHERS] = 63;
+    refused("one too many", call(m, lengths, session, &inter, 0, answer), answer,
+            WEDGEPETAL_COUNT_PASSED, 0);
+    refused("a cut comes first", call(m, lengths, session, &inter, 4, answer), answer,
+            WEDGEPETAL_PACKET_END, 29);
+    expect("others as they were", session[WEDGEPETAL_OTHERS], 63);
+    expect("work is clear", count(m->work, WORK, 0), WORK);
+    session[WEDGEPETAL_KEY_FRAMES] = UINT64_MAX;
+    refused("no more key frames", call(m, lengths, session, &intra, 4, answer), answer,
+            WEDGEPETAL_COUNT_PASSED, 0);
+    session[WEDGEPETAL_OTHERS] = 64;
+    refused("too many others", call(m, lengths, session, &intra, 4, answer), answer,
+            WEDGEPETAL_SESSION, 0);
+    expect("new is kept", count(m->new_frame, BUFFER, PATTERN), BUFFER);
     expect("golden is only read", count(m->golden, BUFFER, PATTERN), BUFFER);
 }
 
@@ -316,6 +335,7 @@ int main(void)
     expect("FMBW", session[WEDGEPETAL_FMBW], 20);
     expect("KFGSHIFT", session[WEDGEPETAL_KFGSHIFT], 6);
     expect("references", session[WEDGEPETAL_REFERENCES], 0);
+    expect("nothing counted", session[WEDGEPETAL_KEY_FRAMES] + session[WEDGEPETAL_OTHERS], 0);
     expect("cut", wedgepetal_identification(packet, 41, session, s, number, 1),
            WEDGEPETAL_PACKET_END);
     expect("in KFGSHIFT", number[0], 326);

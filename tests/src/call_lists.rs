@@ -9,7 +9,7 @@ use crate::random::Random;
 use crate::reference::decode::Decoder;
 use crate::reference::frame_face::{KIND, Left, Lists, TableMemory};
 use crate::reference::samples::ways::Way;
-use crate::reference::session::SESSION_NUMBERS;
+use crate::reference::session::{REFERENCES, SESSION_NUMBERS};
 use std::collections::BTreeMap;
 use std::fmt;
 
@@ -111,7 +111,7 @@ impl<'a> CallList<'a> {
 
     /// Whether references exist.
     fn references(&self) -> bool {
-        self.first.session[SESSION_NUMBERS - 1] != 0
+        self.first.session[REFERENCES] != 0
     }
 
     /// Makes the next call in all three ways. They must answer and leave the
@@ -168,7 +168,10 @@ impl<'a> CallList<'a> {
 pub fn compare(random: &mut Random, lists: u64) -> Result<Report, String> {
     let mut report = Report::default();
     for _ in 0..lists {
-        let case = Case::small(random);
+        let mut case = Case::small(random);
+        if !random.once_in(4) {
+            case.fields.kfgshift = random.below(4);
+        }
         let decoder = Decoder::new(&case.fields, &case.setup);
         let caller = Caller::new(&case.fields, &case.header)?;
         let mut list = CallList::fresh(random, &caller);
@@ -226,7 +229,7 @@ impl Report {
 
     /// The refusals behind which no call was accepted.
     pub fn missed(&self) -> Vec<String> {
-        [1, 4, 8, 9, 10, 11, 12, 13]
+        [1, 4, 8, 9, 10, 11, 12, 13, 17]
             .into_iter()
             .filter(|number| !self.behind.contains_key(number))
             .map(|number| format!("no frame behind a refusal by {number}"))

@@ -12,7 +12,7 @@ use crate::reference::decode::{Accepted, Decoder};
 use crate::reference::frame::{FramePacket, Kind};
 use crate::reference::identification::identification;
 use crate::reference::samples::ways::Way;
-use crate::reference::session::SESSION_NUMBERS;
+use crate::reference::session::{Fields, SESSION_NUMBERS, Session};
 use crate::reference::setup::setup;
 use crate::said;
 use std::collections::BTreeMap;
@@ -45,6 +45,8 @@ struct Counts {
     tokens: u64,
     /// Frames that were compared with FFmpeg's.
     ffmpegs: u64,
+    /// Recordings in which as many packets follow a key frame as may.
+    reached: u64,
 }
 
 impl AddAssign for Counts {
@@ -54,6 +56,7 @@ impl AddAssign for Counts {
         self.repeats += other.repeats;
         self.tokens += other.tokens;
         self.ffmpegs += other.ffmpegs;
+        self.reached += other.reached;
     }
 }
 
@@ -88,6 +91,10 @@ pub fn compare(files: &[String]) -> Result<(), String> {
         total += counts;
     }
     println!("recordings: {}: {total}", files.len());
+    println!(
+        "as many packets behind a key frame as KFGSHIFT allows: {}",
+        total.reached
+    );
     println!("{}", run.four);
     println!("damaged packets:\n{}", run.damaged);
     println!("lists with other calls among the packets:\n{}", run.lists);
@@ -134,6 +141,7 @@ impl Run {
                 .map_err(|text| format!("frame {number}: {text}"))?;
             self.four.count(&decoder.layout, &frame);
         }
+        counts.reached = u64::from(players.reference.reached);
         self.lists.of_recording(&mut self.random, &caller, frames)?;
         Ok(counts)
     }
@@ -158,7 +166,7 @@ impl Run {
         let variants = self.random.below(2 + BLOCKS_OF_VARIANTS / blocks);
         let frame = Frame {
             decoder: player.decoder,
-            references: player.references,
+            references: player.session.references,
             golden: &player.golden,
             previous: &player.previous,
         };
@@ -249,7 +257,7 @@ impl<'a> Players<'a> {
     ) -> Players<'a> {
         let length = decoder.layout.sizes.buffer as usize;
         Players {
-            reference: Player::new(decoder),
+            reference: Player::new(decoder, &Fields::of_session(session)),
             library: State::fresh(random, session, length),
         }
     }
@@ -284,7 +292,9 @@ impl<'a> Players<'a> {
 /// Decodes packet after packet by the independent implementation.
 struct Player<'a> {
     decoder: &'a Decoder<'a>,
-    references: bool,
+    session: Session,
+    /// Whether as many packets followed a key frame as may.
+    reached: bool,
     golden: Vec<u8>,
     previous: Vec<u8>,
     /// What the two ways make.
@@ -292,11 +302,12 @@ struct Player<'a> {
 }
 
 impl<'a> Player<'a> {
-    fn new(decoder: &'a Decoder<'a>) -> Player<'a> {
+    fn new(decoder: &'a Decoder<'a>, fields: &Fields) -> Player<'a> {
         let buffer = vec![0; decoder.layout.sizes.buffer as usize];
         Player {
             decoder,
-            references: false,
+            session: Session::fresh(fields.clone()),
+            reached: false,
             golden: buffer.clone(),
             previous: buffer.clone(),
             made: [buffer.clone(), buffer],
@@ -305,8 +316,10 @@ impl<'a> Player<'a> {
 
     /// Decodes a packet in both ways and hands the frame on.
     fn feed(&mut self, packet: &[u8]) -> Result<FramePacket, String> {
-        let read = self.decoder.read(self.references, packet);
+        let read = self.decoder.read(self.session.references, packet);
         let read = read.map_err(|fault| format!("refused: {fault:?}"))?;
+        self.session = self.session.after(read.kind).ok_or("refused by 17")?;
+        self.reached |= self.session.others + 1 == self.session.bound();
         let (golden, previous) = (&self.golden, &self.previous);
         for (way, made) in [Way::First, Way::Second].into_iter().zip(&mut self.made) {
             self.decoder.make(way, &read, golden, previous, made);
@@ -317,7 +330,6 @@ impl<'a> Player<'a> {
         self.previous.copy_from_slice(&self.made[0]);
         if read.kind == Kind::Intra {
             self.golden.copy_from_slice(&self.made[0]);
-            self.references = true;
         }
         Ok(read)
     }

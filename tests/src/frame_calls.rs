@@ -4,13 +4,15 @@
 use crate::frames::{Frame, Made};
 use crate::library;
 use crate::random::Random;
-use crate::reference::decode::{Accepted, Outcome, Session, Work, frame_call};
+use crate::reference::bits::Fault;
+use crate::reference::decode::{Accepted, Outcome, Work, frame_call};
 use crate::reference::frame::reader::FrameFault;
 use crate::reference::frame_face::{ANSWER_NUMBERS, Lists, TableMemory};
 use crate::reference::samples::ways::Way;
-use crate::reference::session::{Fields, SESSION_NUMBERS};
+use crate::reference::session::{Fields, SESSION_NUMBERS, Session};
 use crate::reference::table_face::Table;
 use crate::reference::work_memory::SLICES;
+use crate::sessions;
 use crate::tables;
 
 /// The right table memory and lengths of the calls of one session and setup.
@@ -47,8 +49,8 @@ impl Caller {
         tables::changed(random, &self.table.bytes, self.setup_bits())
     }
 
-    /// A session's list with references or without; any number that is not 0
-    /// says that there are some.
+    /// A session's list with references or without (any number that is not 0 says
+    /// that there are some), and any numbers of key frames and others.
     pub fn session(&self, random: &mut Random, references: bool) -> [u64; SESSION_NUMBERS] {
         let number = match random.below(4) {
             _ if !references => 0,
@@ -56,22 +58,26 @@ impl Caller {
             1 => 1 << random.below(64),
             _ => 1,
         };
-        self.fields.session(number)
+        let mut list = self.fields.session(number);
+        sessions::count(random, &mut list);
+        list
     }
 
     /// The frame call of the independent implementation gives what reading and
-    /// making give, and the library's call answers and leaves just that. `new`
-    /// is as before the call, then as after it.
+    /// making give, or 17, and the library's call with this session's list answers
+    /// and leaves just that. `new` is as before the call, then as after it. Gives
+    /// the call's number.
     pub fn right(
         &self,
         random: &mut Random,
         frame: &Frame,
+        list: [u64; SESSION_NUMBERS],
         packet: &[u8],
         made: &Result<Made, FrameFault>,
         new: &mut Vec<u8>,
-    ) -> Result<(), String> {
+    ) -> Result<u32, String> {
         let lists = Lists {
-            session: &self.session(random, frame.references),
+            session: &list,
             packet,
             table: &self.table,
             work: self.work,
@@ -80,22 +86,30 @@ impl Caller {
             new,
             answer: &answer(random),
         };
-        let session = Session {
-            fields: self.fields.clone(),
-            references: frame.references,
+        let session = Session::of_list(&list);
+        let past = Fault {
+            number: 17,
+            place: 0,
         };
-        let expected = Outcome {
-            answer: match made {
-                Ok(made) => Ok(Accepted::of(&made.packet)),
-                Err(fault) => Err(fault.fault),
+        let done = match made {
+            Ok(made) => match session.after(made.packet.kind) {
+                Some(after) => Ok((made, after)),
+                None => Err(past),
             },
-            session: match made {
-                Ok(made) => session.after(made.packet.kind),
+            Err(fault) => Err(fault.fault),
+        };
+        let wanted = done.as_ref().map_or(&*new, |(made, _)| &made.new);
+        let expected = Outcome {
+            answer: match &done {
+                Ok((made, _)) => Ok(Accepted::of(&made.packet)),
+                Err(fault) => Err(*fault),
+            },
+            session: match &done {
+                Ok((_, after)) => after.clone(),
                 Err(_) => session.clone(),
             },
             work: Work::Zero,
         };
-        let wanted = made.as_ref().map_or(&*new, |made| &made.new);
         let mut second = new.clone();
         let got = frame_call(&session, packet, lists.lent(), Way::Second, &mut second);
         if got != expected || second != *wanted {
@@ -103,7 +117,7 @@ impl Caller {
         }
         let left = library::hold(random, &lists, &lists.left(&got, second))?;
         *new = left.new;
-        Ok(())
+        Ok(left.number)
     }
 }
 

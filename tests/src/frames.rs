@@ -5,9 +5,9 @@
 //! decoder is tried on it: bytes behind the place reached change nothing, a
 //! packet that ends before it is refused by 4, a refusal by another number
 //! stands, number and place, when bytes are appended, both ways make the same
-//! frame. Then it is given to the library, which must read all that the
-//! independent implementation reads, and answer (a refusal by number and place)
-//! and leave the same.
+//! frame. Then it is given to the library's frame call, which must answer (a
+//! refusal by number and place, a frame with the number of its tokens) and leave
+//! the same.
 
 use crate::four_cases::{FORMATS, FourCases};
 use crate::four_streams;
@@ -15,12 +15,12 @@ use crate::frame_calls::Caller;
 use crate::generate::cases::Case;
 use crate::generate::encoder::{Encoded, encoded};
 use crate::generate::frame_packets::{packet, variant};
-use crate::parts;
 use crate::random::Random;
 use crate::reference::decode::Decoder;
 use crate::reference::frame::reader::{Bits, Field, FrameFault};
 use crate::reference::frame::{FramePacket, Kind};
 use crate::reference::samples::ways::Way;
+use crate::reference::session::KEY_FRAMES;
 use std::collections::BTreeMap;
 use std::fmt;
 
@@ -30,7 +30,7 @@ const PACKETS_OF_A_CASE: u64 = 64;
 /// What was tried.
 #[derive(Default)]
 pub struct Report {
-    /// Accepted packets by kind.
+    /// Packets that are read to their end, by kind.
     accepted: BTreeMap<Kind, u64>,
     /// How often a field was at fault by a number.
     faults: BTreeMap<(Field, u32), u64>,
@@ -43,6 +43,8 @@ pub struct Report {
     tokens: u64,
     /// Packets of recordings, cut.
     cuts: u64,
+    /// Packets that are read to their end and refused by 17, by kind.
+    past: BTreeMap<Kind, u64>,
 }
 
 /// What a packet is decoded with.
@@ -150,7 +152,7 @@ impl Report {
             let read = frame.read(&packet);
             self.count(&frame, &read);
             let made = read.map(|read| frame.made(read, Way::First));
-            caller.right(random, &frame, &packet, &made, &mut new)?;
+            self.right(random, &frame, &caller, &packet, &made, &mut new)?;
         }
         Ok(())
     }
@@ -200,15 +202,6 @@ impl Report {
     ) -> Result<(), String> {
         let read = frame.read(packet);
         self.count(frame, &read);
-        let Caller { fields, table, .. } = caller;
-        parts::packet::check(
-            random,
-            fields,
-            &table.bytes,
-            frame.references,
-            packet,
-            &read,
-        )?;
         let made = match read {
             Ok(read) => frame.accepted(packet, read).map(Ok),
             Err(fault) => frame.refused(packet, fault).then_some(Err(fault)),
@@ -217,7 +210,37 @@ impl Report {
             let read = frame.read(packet);
             format!("packet {packet:02x?}\nread {read:?}")
         })?;
-        caller.right(random, frame, packet, &made, new)
+        self.right(random, frame, caller, packet, &made, new)
+    }
+
+    /// Makes the call, with any session that has the frame's references. A packet
+    /// that is refused by 17 is tried once more with a session in which nothing is
+    /// counted, so that its frame is made, unless KFGSHIFT is 0.
+    fn right(
+        &mut self,
+        random: &mut Random,
+        frame: &Frame,
+        caller: &Caller,
+        packet: &[u8],
+        made: &Result<Made, FrameFault>,
+        new: &mut Vec<u8>,
+    ) -> Result<(), String> {
+        let mut list = caller.session(random, frame.references);
+        let number = caller.right(random, frame, list, packet, made, new)?;
+        let (17, Ok(read)) = (number, made) else {
+            return Ok(());
+        };
+        let kind = read.packet.kind;
+        *self.past.entry(kind).or_default() += 1;
+        list[KEY_FRAMES..].fill(0);
+        let number = caller.right(random, frame, list, packet, made, new)?;
+        let none_may_follow = kind != Kind::Intra && caller.fields.kfgshift == 0;
+        match number == 0 || none_may_follow {
+            true => Ok(()),
+            false => Err(format!(
+                "{number} with a session in which nothing is counted"
+            )),
+        }
     }
 
     /// Counts what a packet says, or its fault.
@@ -246,10 +269,15 @@ impl Report {
     /// as none of these had them.
     pub fn missed(&self) -> Vec<String> {
         let faults = possible().into_iter();
+        let kinds = [Kind::Intra, Kind::Inter, Kind::Repeat].into_iter();
+        let past = kinds
+            .filter(|kind| !self.past.contains_key(kind))
+            .map(|kind| format!("no {kind:?} refused by 17"));
         faults
             .filter(|kind| !self.faults.contains_key(kind))
             .map(|(field, number)| format!("no {field:?} refused by {number}"))
             .chain(self.four.missed())
+            .chain(past)
             .collect()
     }
 }
@@ -362,8 +390,8 @@ impl fmt::Display for Report {
         let refused: u64 = self.faults.values().sum();
         writeln!(
             f,
-            "  accepted {:?}, refused {refused}, cuts among them {}",
-            self.accepted, self.cuts
+            "  read {:?}, of which refused by 17 {:?}; refused before {refused}; cuts among them {}",
+            self.accepted, self.past, self.cuts
         )?;
         writeln!(
             f,

@@ -26,6 +26,7 @@ mod setups;
 mod streams;
 mod tables;
 mod wild;
+mod worst;
 mod written;
 mod wrong_calls;
 
@@ -67,7 +68,8 @@ usage: compare [--packets N] [--sessions N] [--orders MAX] [--setups N]
                 in the formats 4:2:0, 4:2:2 and 4:4:4 in turn; comes last
   --wild FILE.. compares nothing: writes packet files of random frames, for
                 libtheora to decode; comes last
-  --time        compares nothing: prints how long each part of making a frame takes
+  --time        compares nothing: prints how long each part of making a frame takes, and
+                the packets that cause the most work
 ";
 
 /// With fewer packets or calls, fewer lists of calls, or fewer table memories
@@ -106,7 +108,7 @@ enum Instead {
     Four(Vec<String>),
     /// They are written, of random frames.
     Wild(Vec<String>),
-    /// The parts of making a frame are timed.
+    /// The parts of making a frame are timed, and the worst packets.
     Time,
 }
 
@@ -208,6 +210,7 @@ fn compare(options: &Options) -> Result<(), String> {
         Some(Instead::Wild(files)) => return wild::write(files, options.seed),
         Some(Instead::Time) => {
             parts::time::time(&mut Random::new(options.seed));
+            worst::time();
             return Ok(());
         }
         None => {}

@@ -253,9 +253,9 @@ pub fn compare(random: &mut Random, packets: u64) -> Result<Report, Difference> 
         report.compare(packet.bytes())?;
         if random.once_in(64) {
             let (session, place) = match random.below(3) {
-                0 => (random.pick(&[0, 1, 16, 18]), 1),
+                0 => (random.pick(&[0, 1, 17, 18, 20]), 1),
                 1 => (SESSION_NUMBERS, random.pick(&[0, 2, 17])),
-                _ => (random.pick(&[0, 1, 16, 18]), random.pick(&[0, 2, 17])),
+                _ => (random.pick(&[0, 1, 17, 18, 20]), random.pick(&[0, 2, 17])),
             };
             report.compare_lengths(packet.bytes(), session, place)?;
         }

@@ -3,10 +3,11 @@
 //! holds that program to.
 
 use crate::reference::bits::Fault;
-use crate::reference::decode::{Lent, Session, frame_call};
+use crate::reference::decode::{Lent, frame_call};
 use crate::reference::frame::Kind;
 use crate::reference::identification::identification;
 use crate::reference::samples::ways::Way;
+use crate::reference::session::Session;
 use crate::reference::setup::setup;
 use crate::reference::sizes::sizes;
 use crate::reference::table_face::Table;
@@ -34,7 +35,8 @@ pub fn say(files: &[String]) -> Result<(), String> {
     Ok(())
 }
 
-/// A line for each packet but the comment header. A recording whose first
+/// A line for each packet but the comment header; that of a frame ends with the
+/// number of its tokens. A recording whose first
 /// header is refused says nothing more.
 fn lines(packets: &[Vec<u8>]) -> Result<String, String> {
     let [first, _, third, frames @ ..] = packets else {
@@ -56,10 +58,7 @@ fn lines(packets: &[Vec<u8>]) -> Result<String, String> {
         vec![0; sizes.buffer as usize],
         vec![0; sizes.buffer as usize],
     );
-    let mut session = Session {
-        fields,
-        references: false,
-    };
+    let mut session = Session::fresh(fields);
     for (number, packet) in (3..).zip(frames) {
         let mut new = vec![0; sizes.buffer as usize];
         let lent = Lent {
@@ -77,7 +76,8 @@ fn lines(packets: &[Vec<u8>]) -> Result<String, String> {
                     golden.copy_from_slice(&new);
                 }
                 previous = new;
-                frame(accepted.kind, &accepted.qis, &previous)
+                let said = frame(accepted.kind, &accepted.qis, &previous);
+                format!("{said} {}", accepted.tokens)
             }
         };
         text += &format!("frame {number} {said}\n");
@@ -114,7 +114,10 @@ mod tests {
 
     #[test]
     fn a_line_for_each_packet() {
-        let header = header_of(&Fields::of_frame(1, 1, 0));
+        let header = header_of(&Fields {
+            kfgshift: 1,
+            ..Fields::of_frame(1, 1, 0)
+        });
         // Token 0 ends each block at position 0.
         let intra = vec![63, 0, 0, 0];
         let packets = [
@@ -125,11 +128,13 @@ mod tests {
             intra.clone(),
             Vec::new(),
             intra[..1].to_vec(),
+            Vec::new(),
         ];
         let grey = hash(&[128; 384]);
         let expected = format!(
             "header 0 accepted\nheader 2 accepted\nframe 3 refused 9 at 1\n\
-             frame 4 intra 63 {grey:016x}\nframe 5 repeat - {grey:016x}\nframe 6 refused 4 at 8\n"
+             frame 4 intra 63 {grey:016x} 6\nframe 5 repeat - {grey:016x} 0\nframe 6 refused 4 at 8\n\
+             frame 7 refused 17 at 0\n"
         );
         assert_eq!(lines(&packets), Ok(expected));
         let cut = [header[..41].to_vec(), Vec::new(), Vec::new()];

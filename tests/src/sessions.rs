@@ -7,7 +7,7 @@ use crate::random::Random;
 use crate::reference::face::{Call, KINDS, answer};
 use crate::reference::members::Block;
 use crate::reference::order::Place;
-use crate::reference::session::{Fields, SESSION_NUMBERS, WIDTHS};
+use crate::reference::session::{Fields, KEY_FRAMES, OTHERS, SESSION_NUMBERS, Session, WIDTHS};
 use crate::reference::sizes::{Sizes, sizes};
 
 /// Compares the calls on so many sessions.
@@ -16,7 +16,7 @@ pub fn compare(random: &mut Random, sessions: u64) -> Result<Tally, Difference> 
     for _ in 0..sessions {
         let list = session(random);
         let fields = Fields::of_session(&list);
-        let frame = fields.sound().then(|| sizes(&fields));
+        let frame = Session::of_list(&list).sound().then(|| sizes(&fields));
         for kind in 1..KINDS.len() {
             let call = call(random, kind, &fields, frame.as_ref());
             let (lent, output_length) = lengths(random, &list, call.output_length());
@@ -35,6 +35,7 @@ pub fn session(random: &mut Random) -> [u64; SESSION_NUMBERS] {
         _ => random.any(),
     };
     let mut list = fields::sound(random).session(references);
+    count(random, &mut list);
     match random.below(8) {
         0..4 => {}
         4 | 5 => change(random, &mut list),
@@ -53,9 +54,50 @@ pub fn session(random: &mut Random) -> [u64; SESSION_NUMBERS] {
     list
 }
 
+/// Gives a session with sound fields any numbers of key frames and of others that
+/// it may have, often the last that they may be.
+pub fn count(random: &mut Random, list: &mut [u64; SESSION_NUMBERS]) {
+    let last = (1 << list[SHIFT]) - 1;
+    list[KEY_FRAMES] = match random.below(8) {
+        0 => u64::MAX,
+        1 => u64::MAX - random.below(3),
+        2 => random.any(),
+        3 => 1 << random.below(64),
+        _ => random.below(100),
+    };
+    list[OTHERS] = match random.below(8) {
+        0 | 1 => last,
+        2 => last - random.below(3).min(last),
+        3 => random.up_to(last),
+        _ => random.below(10).min(last),
+    };
+}
+
+/// Where KFGSHIFT stands in a session's list.
+const SHIFT: usize = 14;
+
+/// Gives the others a number that is too large by little or much, or that is
+/// right in its low bits.
+fn too_many(random: &mut Random, list: &mut [u64; SESSION_NUMBERS]) {
+    let bound = 1_u64 << (list[SHIFT] % 32);
+    list[OTHERS] = match random.below(5) {
+        0 => bound,
+        1 => bound + random.below(3),
+        2 => list[OTHERS] | 1 << (32 + random.below(32)),
+        3 => u64::MAX,
+        _ => random.any(),
+    };
+}
+
 /// Changes one field to a number near one of its limits, or to one that is
-/// equal to the old in its low bits.
+/// equal to the old in its low bits; or the number of others, or KFGSHIFT under
+/// it.
 pub fn change(random: &mut Random, list: &mut [u64; SESSION_NUMBERS]) {
+    match random.below(16) {
+        0 => return too_many(random, list),
+        1 => return list[SHIFT] = random.below(4),
+        _ => {}
+    }
     let index = random.index(16);
     let old = list[index];
     let end = 1 << WIDTHS[index];
@@ -85,7 +127,7 @@ fn lengths(
     let mut lent = list.to_vec();
     let mut output = output_length;
     if random.once_in(32) {
-        lent.resize(random.pick(&[0, 1, 16, 18, 34]), 0);
+        lent.resize(random.pick(&[0, 1, 17, 18, 20, 38]), 0);
     }
     if random.once_in(32) {
         output = random.pick(&[0, output_length - 1, output_length + 1, 18]);

@@ -16,6 +16,9 @@ use recording::packet_file;
 const FRAMES: usize = 40;
 const TRIES: usize = 400;
 
+/// The least KFGSHIFT with which all of them may follow the first.
+const SHIFT: u64 = 6;
+
 /// Writes a stream to each file.
 pub fn write(files: &[String], seed: u64) -> Result<(), String> {
     for (file, seed) in files.iter().zip(seed..) {
@@ -31,6 +34,8 @@ fn stream(random: &mut Random) -> Vec<Vec<u8>> {
     let mut case = Case::small(random);
     // libtheora takes the colour spaces 0 to 2.
     case.fields.cs %= 3;
+    // So many packets may follow a key frame.
+    case.fields.kfgshift = case.fields.kfgshift.max(SHIFT);
     let decoder = Decoder::new(&case.fields, &case.setup);
     let source = Source {
         layout: &decoder.layout,

@@ -9,7 +9,7 @@ use crate::random::Random;
 use crate::reference::decode::{Decoder, Work};
 use crate::reference::frame_face::{ANSWER_NUMBERS, Left, Lists, TableMemory};
 use crate::reference::samples::ways::Way;
-use crate::reference::session::{Fields, SESSION_NUMBERS};
+use crate::reference::session::{SESSION_NUMBERS, Session};
 use crate::reference::table_memory::TABLE_BYTES;
 use crate::reference::work_memory::{self, SLICES};
 use crate::sessions;
@@ -111,7 +111,7 @@ impl Report {
             call.spoil_lengths(random, SESSION..ANSWER);
         }
         if faults[1] {
-            while Fields::of_session(&call.session).sound() {
+            while Session::of_list(&call.session).sound() {
                 sessions::change(random, &mut call.session);
             }
         }

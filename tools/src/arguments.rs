@@ -30,7 +30,7 @@ const fn flag(name: &'static str, value: Option<&'static str>, about: &'static s
     Flag { name, value, about }
 }
 
-const FLAGS: [Flag; 10] = [
+const FLAGS: [Flag; 11] = [
     flag(
         "--stream",
         Some("N"),
@@ -44,7 +44,7 @@ const FLAGS: [Flag; 10] = [
     flag(
         "--index",
         Some("FILE.csv"),
-        "writes a line for each packet: stream, packet, frame, kind, qi, the refusal's number, bit place and meaning, time",
+        "writes a line for each packet: stream, packet, frame, kind, qi, tokens, key frame, packets since it, the refusal's number, bit place and meaning, time",
     ),
     flag(
         "--frame",
@@ -55,6 +55,11 @@ const FLAGS: [Flag; 10] = [
         "--fields",
         None,
         "the fields of the headers by their names in the specification, and all sizes",
+    ),
+    flag(
+        "--places",
+        None,
+        "the place of each frame: its key frame's number, how many packets came since, its time; all frames are decoded",
     ),
     flag(
         "--max-memory",
@@ -73,13 +78,13 @@ const RECORDING: (&str, &str) = (
 );
 
 /// All verbs.
-pub const VERBS: [Verb; 7] = [
+pub const VERBS: [Verb; 8] = [
     Verb {
         name: "info",
         words: &[RECORDING],
         about: "says what a recording is, and whether it is whole",
-        more: "All pages are looked at, and the headers are read. No frame is decoded.",
-        options: &["--fields", "--json", "--quiet"],
+        more: "All pages are looked at, and the headers are read. Without --places no frame is decoded.",
+        options: &["--fields", "--places", "--max-memory", "--json", "--quiet"],
     },
     Verb {
         name: "y4m",
@@ -164,6 +169,15 @@ pub const VERBS: [Verb; 7] = [
         more: "Each packet is 4 bytes of length (least significant first) and its bytes. It stops at a\n\
                damaged, lost or repeated page.",
         options: &["--stream", "--force", "--json", "--quiet"],
+    },
+    Verb {
+        name: "work",
+        words: &[RECORDING],
+        about: "says how much work a recording's packets cause: tokens, and time on this machine",
+        more: "The first Theora stream of a whole recording is decoded five times; the least time of each\n\
+               packet counts. A frame has at most 64 tokens for each of its blocks, whatever its packet\n\
+               holds. --json has a line for each frame.",
+        options: &["--max-memory", "--json", "--quiet"],
     },
     Verb {
         name: "sample",

@@ -6,7 +6,8 @@ use crate::target::Target;
 use std::path::Path;
 
 /// The names of the columns.
-const COLUMNS: &str = "stream,packet,frame,kind,qi,refusal,bit,meaning,time_s\n";
+const COLUMNS: &str =
+    "stream,packet,frame,kind,qi,tokens,key_frame,since,refusal,bit,meaning,time_s\n";
 
 /// A line for each packet and each gap.
 pub struct Index(Target);
@@ -42,14 +43,16 @@ impl Index {
         let line = match answer.answer {
             Ok(accepted) => {
                 let (number, kind) = (answer.number, kind_name(accepted.kind));
-                let qis = qi_list(&accepted, " ");
-                format!("{stream},{packet},{number},{kind},{qis},,,,{time}\n")
+                let (qis, tokens) = (qi_list(&accepted, " "), accepted.tokens);
+                let session = answer.player.session();
+                let place = format!("{},{}", session.key_frames, session.others);
+                format!("{stream},{packet},{number},{kind},{qis},{tokens},{place},,,,{time}\n")
             }
             Err(refusal) => {
                 let kind = if left_out { "left out" } else { "refused" };
                 let (number, bit) = (refusal.number, refusal.place);
                 let meaning = quoted(refusal.meaning());
-                format!("{stream},{packet},,{kind},,{number},{bit},{meaning},{time}\n")
+                format!("{stream},{packet},,{kind},,,,,{number},{bit},{meaning},{time}\n")
             }
         };
         self.0.write(|out| out.write_all(line.as_bytes()))
@@ -57,7 +60,7 @@ impl Index {
 
     /// The line of a gap, between two packets.
     pub fn gap(&mut self, stream: u64, what: &str, time: Time) -> Result<(), String> {
-        let line = format!("{stream},,,gap,,,,{},{time}\n", quoted(what));
+        let line = format!("{stream},,,gap,,,,,,,{},{time}\n", quoted(what));
         self.0.write(|out| out.write_all(line.as_bytes()))
     }
 

@@ -6,7 +6,8 @@ use crate::fields;
 use crate::input::Input;
 use crate::json::Json;
 use crate::left;
-use crate::memory::counted;
+use crate::memory::{Limit, counted};
+use crate::places::Places;
 use recording::kind::Kind;
 use recording::part::{End, Gap, Packet, Part, Stream};
 use recording::{Choice, Parts};
@@ -39,6 +40,8 @@ struct StreamInfo {
     first: Option<u64>,
     /// The position behind the last.
     clock: Option<Clock>,
+    /// The place of each frame, if it is wanted.
+    places: Option<Places>,
 }
 
 /// What an identification header says, and what follows from it.
@@ -61,8 +64,9 @@ impl Header {
     }
 }
 
-/// Reads a recording to its end. No frame is decoded.
-pub fn read(input: Input) -> Result<Info, Failure> {
+/// Reads a recording to its end. Frames are decoded, with so much memory at
+/// most, only if their places are wanted.
+pub fn read(input: Input, places: Option<Limit>) -> Result<Info, Failure> {
     let Input {
         name,
         reader,
@@ -78,7 +82,7 @@ pub fn read(input: Input) -> Result<Info, Failure> {
         faults: Vec::new(),
     };
     for (number, part) in (0..).zip(parts) {
-        info.take(part.map_err(failed)?);
+        info.take(part.map_err(failed)?, places.as_ref());
         progress.packet(number);
     }
     progress.clear();
@@ -87,10 +91,11 @@ pub fn read(input: Input) -> Result<Info, Failure> {
 }
 
 impl Info {
-    /// Takes a part of the recording.
-    fn take(&mut self, part: Part) {
+    /// Takes a part of the recording; places of frames are wanted if there is a
+    /// limit for their memory.
+    fn take(&mut self, part: Part, places: Option<&Limit>) {
         match part {
-            Part::Begin(stream) => self.streams.push(StreamInfo::new(stream)),
+            Part::Begin(stream) => self.streams.push(StreamInfo::new(stream, places)),
             Part::Packet(packet) => {
                 if let Some(stream) = self.stream(packet.stream) {
                     stream.packet(&packet);
@@ -98,7 +103,7 @@ impl Info {
             }
             Part::Gap(gap) => {
                 if let Some(stream) = self.stream(gap.stream) {
-                    stream.gaps.push(gap);
+                    stream.gap(gap);
                 }
             }
             Part::End { stream, end } => {
@@ -189,7 +194,7 @@ impl Info {
 }
 
 impl StreamInfo {
-    fn new(stream: Stream) -> StreamInfo {
+    fn new(stream: Stream, places: Option<&Limit>) -> StreamInfo {
         StreamInfo {
             stream,
             header: Err(Refusal::PACKET_END.in_packet(0)),
@@ -199,7 +204,16 @@ impl StreamInfo {
             end: None,
             first: None,
             clock: None,
+            places: places.cloned().map(Places::new),
         }
+    }
+
+    /// It does not go on as it should.
+    fn gap(&mut self, gap: Gap) {
+        if let (Some(places), true) = (&mut self.places, gap.loses_packets()) {
+            places.restart();
+        }
+        self.gaps.push(gap);
     }
 
     /// The next packet.
@@ -213,13 +227,22 @@ impl StreamInfo {
             }
             1 => {}
             2 => {
-                let refusal = setup(&packet.bytes).err();
-                self.setup = refusal.map(|refusal| refusal.in_packet(packet.bytes.len()));
+                let table = setup(&packet.bytes);
+                let table = table.map_err(|refusal| refusal.in_packet(packet.bytes.len()));
+                if let (Some(places), Ok(header), Ok(table)) =
+                    (&mut self.places, &self.header, &table)
+                {
+                    places.begin(&header.session, table);
+                }
+                self.setup = table.err();
             }
             _ => {
                 if let Some(clock) = &mut self.clock {
                     let position = clock.tick(packet.granule);
                     self.first.get_or_insert(position);
+                    if let Some(places) = &mut self.places {
+                        places.packet(self.packets, &packet.bytes, clock.time(position));
+                    }
                 }
             }
         }
@@ -243,6 +266,9 @@ impl StreamInfo {
         if self.packets < 3 && kind != Kind::Header {
             faults.push("it ends before its first frame".to_string());
         }
+        if let Some(places) = &self.places {
+            faults.extend_from_slice(places.faults());
+        }
         faults.extend(self.gaps.iter().map(Gap::to_string));
         let end = self.end.iter().filter(|end| **end != End::Whole);
         faults.extend(end.map(End::to_string));
@@ -264,6 +290,9 @@ impl StreamInfo {
         let _ = header.write(&mut text);
         if self.packets >= 3 {
             let _ = writeln!(text, "  length    {}", self.length());
+        }
+        if let Some(places) = &self.places {
+            text += &places.text();
         }
         text
     }
@@ -297,6 +326,9 @@ impl StreamInfo {
                 ("sizes", fields::sizes_json(&header.sizes)),
                 ("memory", Json::Number(header.memory)),
             ]);
+        }
+        if let Some(places) = &self.places {
+            all.push(("places", places.json()));
         }
         all.push(("faults", Json::texts(&self.faults(kind))));
         Json::Object(all)
@@ -358,11 +390,17 @@ mod tests {
 
     /// What a recording is.
     fn info(recording: Vec<u8>) -> Result<Info, Failure> {
-        read(Input {
+        info_with(recording, None)
+    }
+
+    /// The same, with the places of frames if there is a limit for their memory.
+    fn info_with(recording: Vec<u8>, places: Option<u64>) -> Result<Info, Failure> {
+        let input = Input {
             name: "x".to_string(),
             reader: Box::new(std::io::Cursor::new(recording)),
             progress: Progress::new(true, None),
-        })
+        };
+        read(input, places.map(|bytes| Limit::new(Some(bytes))))
     }
 
     /// The lines of a recording that is one.
@@ -392,6 +430,35 @@ mod tests {
         );
         assert!(
             text.ends_with("whole: nothing is missing or damaged\n"),
+            "{text}"
+        );
+    }
+
+    #[test]
+    fn places_of_frames_are_said() {
+        let mut packets = sample::packets();
+        let again = packets[3..].to_vec();
+        packets.push(vec![0x80]);
+        packets.extend(again);
+        let file = packet_file::write(&packets);
+        let all = info_with(file.clone(), Some(u64::MAX)).unwrap_or_else(|_| panic!());
+        let text = all.text("x", false);
+        for line in [
+            "  frame 0: packet 3, key frame 1 and 0 since, at 0.000000 s\n",
+            "  frame 6: packet 9, key frame 1 and 6 since, at 0.240000 s\n",
+            "  frame 7: packet 11, key frame 2 and 0 since, at 0.320000 s\n",
+            "x: stream 1: packet 10: refused by 10, the first bit of a frame packet is 1, at bit 0 of 8\n",
+        ] {
+            assert!(text.contains(line), "{text}");
+        }
+        assert!(!all.is_clean());
+        let json = all.json("x").to_string();
+        let last = "{\"frame\": 13, \"packet\": 17, \"key_frame\": 2, \"since\": 6, \"time_s\": 0.560000}]";
+        assert!(json.contains(last), "{json}");
+        let small = info_with(file, Some(600_000)).unwrap_or_else(|_| panic!());
+        let text = small.text("x", false);
+        assert!(
+            text.contains("need 649.7 kB of memory, more than"),
             "{text}"
         );
     }

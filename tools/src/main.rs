@@ -14,11 +14,13 @@ mod left;
 mod memory;
 mod output;
 mod packets;
+mod places;
 mod png;
 mod progress;
 mod sample;
 mod summary;
 mod target;
+mod work;
 mod y4m;
 
 use arguments::{Job, Wanted};
@@ -138,6 +140,7 @@ fn perform(job: &Job) -> Result<Said, Failure> {
     match job.verb {
         "info" => describe(job),
         "packets" => write_packets(job),
+        "work" => measure(job),
         "sample" => write_sample(job),
         _ => decode_recording(job),
     }
@@ -147,7 +150,8 @@ fn perform(job: &Job) -> Result<Said, Failure> {
 fn describe(job: &Job) -> Result<Said, Failure> {
     let input = Input::open(Path::new(&job.words[0]), job.has("--quiet"))?;
     let name = input.name.clone();
-    let info = info::read(input)?;
+    let limit = Limit::new(parsed(job, "--max-memory", memory::parse)?);
+    let info = info::read(input, job.has("--places").then_some(limit))?;
     let text = match (job.has("--json"), job.has("--quiet")) {
         (true, _) => format!("{}\n", info.json(&name)),
         (false, true) => info.faults(&name),
@@ -157,6 +161,24 @@ fn describe(job: &Job) -> Result<Said, Failure> {
         text,
         output_taken: job.has("--quiet"),
         clean: info.is_clean(),
+    })
+}
+
+/// Says how much work a recording's packets cause.
+fn measure(job: &Job) -> Result<Said, Failure> {
+    let limit = Limit::new(parsed(job, "--max-memory", memory::parse)?);
+    let input = Input::open(Path::new(&job.words[0]), job.has("--quiet"))?;
+    let name = input.name.clone();
+    let work = work::measure(input, &limit)?;
+    let text = match (job.has("--json"), job.has("--quiet")) {
+        (true, _) => format!("{}\n", work.json(&name)),
+        (false, true) => work.faults(&name),
+        (false, false) => work.text(&name),
+    };
+    Ok(Said {
+        text,
+        output_taken: job.has("--quiet"),
+        clean: work.is_clean(),
     })
 }
 

@@ -25,6 +25,8 @@ pub struct StreamSummary {
     intra: u64,
     inter: u64,
     repeat: u64,
+    /// How many tokens all frames have together.
+    tokens: u64,
     /// What was refused by each number.
     refused: BTreeMap<u32, Refused>,
     /// Where it does not go on as it should.
@@ -63,6 +65,7 @@ impl StreamSummary {
             intra: 0,
             inter: 0,
             repeat: 0,
+            tokens: 0,
             refused: BTreeMap::new(),
             gaps: Vec::new(),
             stop: None,
@@ -73,11 +76,14 @@ impl StreamSummary {
     /// Counts the answer to the packet of this number.
     pub fn count(&mut self, packet: u64, answer: &Result<FrameAnswer, Refusal>) {
         match answer {
-            Ok(FrameAnswer { kind, .. }) => match kind {
-                Kind::Intra => self.intra += 1,
-                Kind::Inter => self.inter += 1,
-                Kind::Repeat => self.repeat += 1,
-            },
+            Ok(FrameAnswer { kind, tokens, .. }) => {
+                match kind {
+                    Kind::Intra => self.intra += 1,
+                    Kind::Inter => self.inter += 1,
+                    Kind::Repeat => self.repeat += 1,
+                }
+                self.tokens += tokens;
+            }
             Err(refusal) => {
                 let first = Refused {
                     packets: 0,
@@ -124,6 +130,7 @@ impl StreamSummary {
             ("intra", Json::Number(self.intra)),
             ("inter", Json::Number(self.inter)),
             ("repeat", Json::Number(self.repeat)),
+            ("tokens", Json::Number(self.tokens)),
             ("refused", Json::List(refused.collect())),
             (
                 "gaps",

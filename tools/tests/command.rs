@@ -40,13 +40,45 @@ fn the_sample_in_every_form() {
     let rows: Vec<&str> = index.lines().collect();
     assert_eq!(
         rows[0],
-        "stream,packet,frame,kind,qi,refusal,bit,meaning,time_s"
+        "stream,packet,frame,kind,qi,tokens,key_frame,since,refusal,bit,meaning,time_s"
     );
-    assert_eq!(
-        (rows[1], rows[5]),
-        ("1,3,0,intra,20,,,,0.000000", "1,7,4,repeat,,,,,0.160000")
-    );
+    assert!(rows[1].starts_with("1,3,0,intra,20,") && rows[1].ends_with(",1,0,,,,0.000000"));
+    let tokens: Vec<u64> = rows[1..]
+        .iter()
+        .map(|row| row.split(',').nth(5).unwrap().parse().unwrap())
+        .collect();
+    // 1,800 blocks, all of which the first frame codes.
+    assert!((1800..=64 * 1800).contains(&tokens[0]), "{index}");
+    assert_eq!(rows[5], "1,7,4,repeat,,0,1,4,,,,0.160000");
+    let json = good(&folder, "hashes s.packets s2.txt --json");
+    let all = format!("\"tokens\": {}, ", tokens.iter().sum::<u64>());
+    assert!(json.contains(&all), "{json}");
     assert_eq!(rows.len(), 8);
+}
+
+#[test]
+fn work_is_counted_and_timed() {
+    let folder = folder("work");
+    good(&folder, "sample s.packets");
+    let text = good(&folder, "work s.packets");
+    let lines: Vec<&str> = text.lines().collect();
+    assert_eq!(
+        lines[0],
+        "s.packets: 7 frames of 1800 blocks, at most 115200 tokens each"
+    );
+    assert!(lines[1].starts_with("  tokens    ") && lines[1].ends_with(" (packet 3)"));
+    assert!(
+        lines[2].starts_with("  time      ") && lines.len() == 3,
+        "{text}"
+    );
+    let json = good(&folder, "work s.packets --json");
+    assert!(
+        json.contains("\"packet\": 7, \"tokens\": 0, \"ns\": "),
+        "{json}"
+    );
+    assert_eq!(good(&folder, "work s.packets --quiet"), "");
+    let (status, _, err) = run(&folder, "work s.packets --max-memory 1K");
+    assert!(status == 1 && err.contains("more than the 1.0 kB"), "{err}");
 }
 
 #[test]
@@ -83,6 +115,8 @@ fn recordings_are_described() {
         json.contains("\"clean\": true") && json.contains("\"NBS\": 1800"),
         "{json}"
     );
+    let places = good(&folder, "info s.packets --places");
+    assert!(places.contains("  frame 4: packet 7, key frame 1 and 4 since, at 0.160000 s\n"));
     assert_eq!(good(&folder, "info s.packets --quiet"), "");
     good(&folder, "sample s.header");
     assert!(good(&folder, "info s.header").contains("identification header alone"));
@@ -263,7 +297,7 @@ fn refusals_are_said_and_passed_over() {
     let hashes = fs::read_to_string(folder.join("h")).unwrap();
     assert!(hashes.contains("frame 10 refused 10 at 0\nframe 11 repeat - "));
     let index = fs::read_to_string(folder.join("i")).unwrap();
-    let row = "1,10,,refused,,10,0,\"the first bit of a frame packet is 1\",0.280000\n1,11,7,repeat,,,,,0.320000\n";
+    let row = "1,10,,refused,,,,,10,0,\"the first bit of a frame packet is 1\",0.280000\n1,11,7,repeat,,0,1,7,,,,0.320000\n";
     assert!(index.ends_with(row), "{index}");
 }
 
@@ -289,8 +323,33 @@ fn a_cut_packet_is_refused_where_it_ends() {
     let line = format!("stream 1\nframe 3 refused 4 at {}\n", number(place));
     assert!(hashes.starts_with(&line), "{hashes}");
     let index = fs::read_to_string(folder.join("i")).unwrap();
-    let row = format!("\n1,3,,refused,,4,{},\"a read passes", number(place));
+    let row = format!("\n1,3,,refused,,,,,4,{},\"a read passes", number(place));
     assert!(index.contains(&row), "{index}");
+}
+
+#[test]
+fn too_many_packets_behind_a_key_frame() {
+    let folder = folder("key_frames");
+    let mut packets = sample_packets(&folder);
+    // KFGSHIFT, the five bits in front of PF and the three last, becomes 2.
+    packets[0][40] &= !3;
+    packets[0][41] = packets[0][41] & 0b0001_1111 | 0b0100_0000;
+    fs::write(folder.join("k"), recording::packet_file::write(&packets)).unwrap();
+    let (status, out, err) = run(&folder, "hashes k h --index i");
+    assert_eq!(status, 1);
+    let meaning = "17, the key frames would pass 64 bits, or the packets since the last one would reach 2 to the power KFGSHIFT";
+    assert!(
+        err.starts_with(&format!("wedgepetal: k: packet 7: refused by {meaning}\n")),
+        "{err}"
+    );
+    assert!(
+        out.contains(&format!("  3 by {meaning}; the first is packet 7\n")),
+        "{out}"
+    );
+    let index = fs::read_to_string(folder.join("i")).unwrap();
+    let rows: Vec<&str> = index.lines().collect();
+    assert!(rows[4].contains(",1,3,,,,0.12"), "{index}");
+    assert!(rows[5].starts_with("1,7,,refused,,,,,17,0,\""), "{index}");
 }
 
 #[test]

@@ -18,6 +18,11 @@ fn lower(packets: &[Vec<u8>]) -> Vec<Vec<u8>> {
     changed_header(packets, 17, &[0, 0, 100])
 }
 
+/// A row of an index begins and ends so.
+fn assert_row(row: &str, begin: &str, end: &str) {
+    assert!(row.starts_with(begin) && row.ends_with(end), "{row}");
+}
+
 #[test]
 fn ogg_and_packet_files_give_the_same() {
     let folder = folder("ogg_and_packets");
@@ -63,10 +68,9 @@ fn joined_ogg_files_are_read_one_after_the_other() {
     let film = fs::read(folder.join("j.y4m")).unwrap();
     assert_eq!(film.len(), 43 + 21 * (6 + 320 * 232 * 3 / 2));
     let index = fs::read_to_string(folder.join("j.csv")).unwrap();
-    assert!(
-        index.contains("\n1,9,6,inter,20,,,,0.240000\n2,3,7,intra,20,,,,0.000000\n"),
-        "{index}"
-    );
+    let rows: Vec<&str> = index.lines().collect();
+    assert_row(rows[7], "1,9,6,inter,20,", ",1,6,,,,0.240000");
+    assert_row(rows[8], "2,3,7,intra,20,", ",1,0,,,,0.000000");
     good(&folder, "frames j.ogv frames");
     assert!(folder.join("frames/000006.planes").exists());
     assert!(folder.join("frames/stream-2/000007.planes").exists());
@@ -176,7 +180,7 @@ fn a_flipped_bit_in_an_ogg_file_stops_reading() {
     );
     let index = fs::read_to_string(folder.join("i")).unwrap();
     assert!(
-        index.contains(",gap,,,,\"page 12 is damaged or missing, before byte "),
+        index.contains(",gap,,,,,,,\"page 12 is damaged or missing, before byte "),
         "{index}"
     );
     let (status, text, _) = run(&folder, "info d.ogv");
@@ -205,13 +209,13 @@ fn behind_a_flipped_bit_an_ogg_file_goes_on_at_a_key_frame() {
     );
     let index = fs::read_to_string(folder.join("i")).unwrap();
     let rows: Vec<&str> = index.lines().collect();
-    assert_eq!(rows[9], "1,11,8,inter,20,,,,0.320000");
-    assert!(rows[10].starts_with("1,,,gap,") && rows[10].ends_with(",0.360000"));
+    assert_row(rows[9], "1,11,8,inter,20,", ",2,1,,,,0.320000");
+    assert_row(rows[10], "1,,,gap,", ",0.360000");
     assert_eq!(
         rows[11],
-        "1,12,,left out,,9,1,\"an inter or empty packet and no references\",0.400000"
+        "1,12,,left out,,,,,9,1,\"an inter or empty packet and no references\",0.400000"
     );
-    assert_eq!(rows[15], "1,16,9,intra,20,,,,0.560000");
+    assert_row(rows[15], "1,16,9,intra,20,", ",3,0,,,,0.560000");
     // Every frame that is there is one of the whole recording.
     damaged(&folder, |_| ());
     good(&folder, "frames d.ogv whole");

@@ -2,11 +2,12 @@
 use Prim.Native.Nat.{ℕ, zero, suc, _-_, _*_, _≤_, _<_}
 use native.Mathlib.Omega.{arith}
 use mathlib.Core.Path.{_≡_, refl, sym, ap, _∙_, subst, transport, fun-ext}
+use mathlib.Core.Bool.{Bool, true, false}
 use mathlib.Core.List.{List, [], _∷_, _++_}
 use lib.IntN.{ℤ, pos}
 use lib.ListN.{length, getD, drop, replicate, length-append, length-replicate, length-map}
 use lib.Seq.{take-append-seam, drop-append-seam}
-use Rattle.bitstream.specs.Reading.{Outcome, got, refused, after}
+use Rattle.bitstream.specs.Reading.{Outcome, got, refused, after, choose}
 use Rattle.bitstream.proofs.ListLaws.{once-at, all-at, all-replicate, all-append}
 use Rattle.geometry.specs.declared.PixelFormat.{PixelFormat}
 use Rattle.geometry.specs.Sizes.{blocksOf}
@@ -37,7 +38,7 @@ use Rattle.reconstruct.proofs.Same.{Alike, lists-same}
 use Rattle.reading.specs.declared.FrameAnswer.{FrameAnswer}
 use Rattle.reading.specs.declared.Verdict.the-variants.{Accepted}
 use Rattle.headers.specs.Sizes.{format}
-use Rattle.reading.specs.Answer.{readBy, sessionAfter, answerFor}
+use Rattle.reading.specs.Answer.{staysCounted, counted, readBy, sessionAfter, answerFor}
 use Rattle.decoding.specs.Answer.{state, done, picture, decoded}
 use Rattle.decoding.specs.Made.{AllQi, BlocksLent}
 
@@ -50,10 +51,10 @@ read-refused (got fr d) {r} {k} {e} a h =
 read-refused (refused j d) {r} {k} {e} a h = let t : Refused j d ≡ Refused k e = sym (ap (λ (x : FrameRead). x .read) a) ∙ h in cc
 
 pub read-whole : (o : Outcome Frame) {r : FrameRead} {n t e : ℕ} → r ≡ asFrame o → r .read ≡ Whole n t e
-    → (fr : Frame) × (o ≡ got fr e) × (n ≡ length (fr .body .coded)) × (r .header ≡ asHeader (fr .header))
+    → (fr : Frame) × (o ≡ got fr e) × (n ≡ length (fr .body .coded)) × (r .header ≡ asHeader (fr .header)) × (t ≡ fr .body .tokens .tokens)
 read-whole (got fr d) {r} {n} {t} {e} a h =
     let z : Whole (length (fr .body .coded)) (fr .body .tokens .tokens) d ≡ Whole n t e = sym (ap (λ (x : FrameRead). x .read) a) ∙ h in
-    (fr, cc, cc, ap (λ (x : FrameRead). x .header) a)
+    (fr, cc, cc, ap (λ (x : FrameRead). x .header) a, cc)
 read-whole (refused j d) {r} {n} {t} {e} a h =
     let t : Refused j d ≡ Whole n t e = sym (ap (λ (x : FrameRead). x .read) a) ∙ h in
     let z : _≡_ {A = ℕ} 0 1 = cc in
@@ -191,10 +192,10 @@ module _ (s : Session) (setup : Setup) (packet nodes : List ℕ) (et : treesOf n
         let g = read-refused o answer-is h in
         let w = work-is ∙ ap (workAfter (format s) (s .fields .fmbw) (s .fields .fmbh)) g in
         (λ i. done (ea i) new (record { work = w i; dc = ed i }))
-        ∙ ap (λ (o : Outcome Frame). decoded firstWay (state s golden previous) new (after o (λ fr e. got (record { setup = setup; frame = fr }) e))) (sym g)
+        ∙ ap (λ (o : Outcome Frame). decoded firstWay (state s golden previous) new (after o (counted s setup))) (sym g)
 
   module _ {count t e : ℕ} (h : r .read ≡ Whole count t e) where
-    abbrev there : (fr : Frame) × (o ≡ got fr e) × (count ≡ length (fr .body .coded)) × (r .header ≡ asHeader (fr .header))
+    abbrev there : (fr : Frame) × (o ≡ got fr e) × (count ≡ length (fr .body .coded)) × (r .header ≡ asHeader (fr .header)) × (t ≡ fr .body .tokens .tokens)
     there = read-whole o answer-is h
 
     abbrev fr : Frame
@@ -215,6 +216,32 @@ module _ (s : Session) (setup : Setup) (packet nodes : List ℕ) (et : treesOf n
 
     pub header-few : (r .header .count ≤ 3) × AllQi (r .header .qis) 3
     header-few = subst (λ (x : Header). (x .count ≤ 3) × AllQi (x .qis) 3) (sym (there .3)) (fits .most, held-qi (format s) (s .fields .fmbw) (s .fields .fmbh) fr fits)
+
+    -- work memory, once what was read is cleared
+    memory-is : (records coded : List ℕ) (coefs dc : List ℤ) (lasts : List ℕ) → dc ≡ replicate (blocks s) (pos 0)
+        → (records ≡ replicate (length (m .records)) 0) × (coded ≡ replicate (length (m .coded)) 0) × (coefs ≡ replicate (length (m .coefs)) (pos 0)) × (lasts ≡ replicate (length (m .lasts)) 0)
+        → memory records coded coefs dc lasts (m .flags) (m .bits) (m .supers) (m .modes) (m .active) ≡ cleared (lengthsOf s)
+    memory-is records coded coefs dc lasts eg zeros =
+        let l = held-long (format s) (s .fields .fmbw) (s .fields .fmbh) fr fits in
+        let er = zeros .0 ∙ ap (λ (k : ℕ). replicate k 0) (ap (λ (m : Work). length (m .records)) work-held ∙ l .0) in
+        let ec = zeros .1 ∙ ap (λ (k : ℕ). replicate k 0) (ap (λ (m : Work). length (m .coded)) work-held ∙ l .1) in
+        let ef = zeros .2 ∙ ap (λ (k : ℕ). replicate k (pos 0)) (ap (λ (m : Work). length (m .coefs)) work-held ∙ l .2) in
+        let el = zeros .3 ∙ ap (λ (k : ℕ). replicate k 0) (ap (λ (m : Work). length (m .lasts)) work-held ∙ l .3) in
+        λ i. memory (er i) (ec i) (ef i) (eg i) (el i) (work-held i .flags) (work-held i .bits) (work-held i .supers) (work-held i .modes) (work-held i .active)
+
+    -- the packet, by the test of the session's numbers
+    passes : (b : Bool) → staysCounted (r .header .kind) s ≡ b → readBy s setup packet ≡ choose b (got (record { setup = setup; frame = fr }) e) (refused 17 0)
+    passes b h =
+        ap (λ (o : Outcome Frame). after o (counted s setup)) (there .1)
+        ∙ ap (λ (t : Bool). choose t (got (record { setup = setup; frame = fr }) e) (refused 17 0)) (ap (λ (x : Header). staysCounted (x .kind) s) (sym (there .3)) ∙ h)
+
+    pub on-17 : (golden previous new records coded : List ℕ) (coefs dc : List ℤ) (lasts : List ℕ) → dc ≡ replicate (blocks s) (pos 0)
+        → (records ≡ replicate (length (m .records)) 0) × (coded ≡ replicate (length (m .coded)) 0) × (coefs ≡ replicate (length (m .coefs)) (pos 0)) × (lasts ≡ replicate (length (m .lasts)) 0)
+        → staysCounted (r .header .kind) s ≡ false → (a : FrameAnswer) → a ≡ answerFor s (refused 17 0)
+        → done a new (memory records coded coefs dc lasts (m .flags) (m .bits) (m .supers) (m .modes) (m .active)) ≡ decoded firstWay (state s golden previous) new (readBy s setup packet)
+    on-17 golden previous new records coded coefs dc lasts ed zeros sc a ea =
+        let em = memory-is records coded coefs dc lasts ed zeros in
+        (λ i. done (ea i) new (em i)) ∙ ap (decoded firstWay (state s golden previous) new) (sym (passes false sc))
 
     -- the frame
     module _ (golden previous new : List ℕ)
@@ -237,25 +264,16 @@ module _ (s : Session) (setup : Setup) (packet nodes : List ℕ) (et : treesOf n
           ∙ (λ i. firstWay (format s) w h (pictureOf (format s) w h (record { records = b .records; coded = b .coded; coefs = b .tokens .coefs; lasts = b .tokens .lasts })
           (λ type plane index. matrixOf (setup .parameters) type plane (qi i index)) (getD (setup .limits) (qi i 0) 0) golden previous) previous)
 
-      -- work memory
+      -- the answer
       module _ (records coded : List ℕ) (coefs dc dc₀ : List ℤ) (lasts : List ℕ) (ed : dc₀ ≡ replicate (blocks s) (pos 0))
           (zeros : (records ≡ replicate (length (m .records)) 0) × (coded ≡ replicate (length (m .coded)) 0) × (coefs ≡ replicate (length (m .coefs)) (pos 0)) × (dc ≡ replicate (length dc₀) (pos 0)) × (lasts ≡ replicate (length (m .lasts)) 0)) where
-        memory-is : memory records coded coefs dc lasts (m .flags) (m .bits) (m .supers) (m .modes) (m .active) ≡ cleared (lengthsOf s)
-        memory-is =
-            let l = held-long (format s) (s .fields .fmbw) (s .fields .fmbh) fr fits in
-            let ld : length dc₀ ≡ blocks s = ap length ed ∙ length-replicate (blocks s) (pos 0) in
-            let er = zeros .0 ∙ ap (λ (k : ℕ). replicate k 0) (ap (λ (m : Work). length (m .records)) work-held ∙ l .0) in
-            let ec = zeros .1 ∙ ap (λ (k : ℕ). replicate k 0) (ap (λ (m : Work). length (m .coded)) work-held ∙ l .1) in
-            let ef = zeros .2 ∙ ap (λ (k : ℕ). replicate k (pos 0)) (ap (λ (m : Work). length (m .coefs)) work-held ∙ l .2) in
-            let eg = zeros .3 ∙ ap (λ (k : ℕ). replicate k (pos 0)) ld in
-            let el = zeros .4 ∙ ap (λ (k : ℕ). replicate k 0) (ap (λ (m : Work). length (m .lasts)) work-held ∙ l .3) in
-            λ i. memory (er i) (ec i) (ef i) (eg i) (el i) (work-held i .flags) (work-held i .bits) (work-held i .supers) (work-held i .modes) (work-held i .active)
-
-        pub on-accepted : (new₀ : List ℕ) (next : Session) → next ≡ sessionAfter (r .header .kind) s
-            → done (record { verdict = Accepted; header = r .header; session = next }) new (memory records coded coefs dc lasts (m .flags) (m .bits) (m .supers) (m .modes) (m .active))
+        pub on-accepted : (new₀ : List ℕ) (next : Session) → staysCounted (r .header .kind) s ≡ true → next ≡ sessionAfter (r .header .kind) s
+            → done (record { verdict = Accepted t; header = r .header; session = next }) new (memory records coded coefs dc lasts (m .flags) (m .bits) (m .supers) (m .modes) (m .active))
             ≡ decoded firstWay (state s golden previous) new₀ (readBy s setup packet)
-        on-accepted new₀ next es =
+        on-accepted new₀ next sc es =
             let eh = there .3 in
+            let ld : length dc₀ ≡ blocks s = ap length ed ∙ length-replicate (blocks s) (pos 0) in
+            let em = memory-is records coded coefs dc lasts (zeros .3 ∙ ap (λ (k : ℕ). replicate k (pos 0)) ld) (zeros .0, zeros .1, zeros .2, zeros .4) in
             let es′ = es ∙ ap (λ (x : Header). sessionAfter (x .kind) s) eh in
-            (λ i. done (record { verdict = Accepted; header = eh i; session = es′ i }) (frame-is i) (memory-is i))
-            ∙ ap (λ (o : Outcome Frame). decoded firstWay (state s golden previous) new₀ (after o (λ fr e. got (record { setup = setup; frame = fr }) e))) (sym (there .1))
+            (λ i. done (record { verdict = Accepted (there .4 i); header = eh i; session = es′ i }) (frame-is i) (em i))
+            ∙ ap (decoded firstWay (state s golden previous) new₀) (sym (passes true sc))

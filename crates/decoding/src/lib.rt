@@ -157,9 +157,13 @@ fn decode_packet(
     let read = got.read;
     match read {
         Read::Refused(k, e) => reading::refusal(k, e, s),
-        Read::Whole(count, _, _) => {
+        Read::Whole(count, tokens, _) => {
             let header = got.header;
             let kind = header.kind;
+            if !reading::stays_counted(kind, s) {
+                work_memory::clear_read(records, coded, coefs, lasts);
+                return reading::refusal(17, 0, s);
+            }
             make(
                 table,
                 loaded,
@@ -179,7 +183,7 @@ fn decode_packet(
             );
             let next = reading::session_after(kind, s);
             FrameAnswer {
-                verdict: Verdict::Accepted,
+                verdict: Verdict::Accepted(tokens),
                 header: header,
                 session: next,
             }

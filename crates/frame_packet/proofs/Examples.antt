@@ -68,7 +68,7 @@ unfolding framePacket frame frameHeader frameType moreQis qiList reserved kindOf
 nothing = refl
 
 -- four bytes of an intra frame with the qi 16, and lone leaves of the token 9: 64 times the value 1 in each block, for no bit but the four choices
-ones-all : framePacket Chroma420 1 1 (replicate 80 (leaf 9)) false (0x10 ∷ 0x00 ∷ 0x00 ∷ 0x00 ∷ []) ≡ got (given Intra (16 ∷ []) (0 ∷ 1 ∷ 3 ∷ 2 ∷ 4 ∷ 5 ∷ []) (replicate 6 nowCoded) (replicate 384 (pos 1)) (replicate 6 63) 384) 28
+pub ones-all : framePacket Chroma420 1 1 (replicate 80 (leaf 9)) false (0x10 ∷ 0x00 ∷ 0x00 ∷ 0x00 ∷ []) ≡ got (given Intra (16 ∷ []) (0 ∷ 1 ∷ 3 ∷ 2 ∷ 4 ∷ 5 ∷ []) (replicate 6 nowCoded) (replicate 384 (pos 1)) (replicate 6 63) 384) 28
 unfolding framePacket frame frameHeader frameType moreQis qiList reserved kindOf judged body flagsOf predictions
     intraFlags ones order flagged codedBlocks codedLuma setAt codedRecords rasterNumber frameOrder planeOrder inPlane inTurn ordered rowOfTiles tile present moved blocksOf blocksBefore total
     blockQi steps readTokens positionsFrom atPosition choices table group ranks start pass visit readFor act runOf unfinished token tokenCode code extra meaning withSign rowOf whole field number bitAt
@@ -77,7 +77,7 @@ ones-all = refl
 -- places of refusals inside a packet. 12: a run of 4 where 3 bits are wanted, at its prefix, behind the explicit bit
 run-past : framePacket Chroma420 1 1 [] true (0x41 ∷ 0x30 ∷ []) ≡ refused 12 10
 unfolding framePacket frame frameHeader frameType moreQis qiList reserved kindOf judged body flagsOf
-    interFlags superFlags superBlocksOf bitString sent until oneRun nextBit run runLength rank most runExtra leastRun blocksOf total whole field number bitAt
+    interFlags superFlags superBlocksOf bitString sent until oneRun nextBit run runLength unary most runExtra leastRun blocksOf total whole field number bitAt
 run-past = refl
 
 -- 13: lone leaves of the token 8 (a run of zeros, 6 extra bits), each block with one zero at position 0; then 64 zeros from position 1 on, at that token's code, which is empty
@@ -108,7 +108,7 @@ four-then-last = refl
 -- 4 within a vector: the same packet cut behind its sixth byte, in the first component of B, which is refused at its first bit
 component-cut : framePacket Chroma420 2 1 (replicate 80 (leaf 0)) true (0x41 ∷ 0x51 ∷ 0x28 ∷ 0x21 ∷ 0xFB ∷ 0x10 ∷ []) ≡ refused 4 47
 unfolding framePacket frame frameHeader frameType moreQis qiList reserved kindOf judged body flagsOf predictions
-    interFlags superFlags sizesFrom partlyBlocks spread ones superBlockOf superBlockIn superBlocksBefore superBlocksOf bitString sent until oneRun nextBit run runLength rank most runExtra leastRun
+    interFlags superFlags sizesFrom partlyBlocks spread ones superBlockOf superBlockIn superBlocksBefore superBlocksOf bitString sent until oneRun nextBit run runLength unary most runExtra leastRun
     order flagged codedBlocks codedLuma setAt codedRecords rasterNumber frameOrder planeOrder inPlane inTurn ordered rowOfTiles tile present moved blocksOf blocksBefore total
     macroModes sentAlphabet modesFrom modeOf mode lumaCoded
     vectors macroBlocks macroBlock motion still movingFour lastRead row ifCoded vector component byCode variable added shortest width least predictedFrom predictedAt codedIn numberIn predictionOf fourVector lumaVector blocksOfMacro fourOf chromaOf

@@ -1,8 +1,9 @@
 -- Every accepted identification header gives a session that fits, without references. Assumes nothing.
-use Prim.Native.Nat.{ℕ, _*_, _-_}
+use Prim.Native.Nat.{ℕ, _*_, _-_, _^_}
 use mathlib.Core.Path.{_≡_, refl, sym, ap, _∙_}
 use mathlib.Core.List.{List}
 use mathlib.Core.Bool.{Bool, true, false}
+use lib.Pow.{pow-pos}
 use borrow.Author.Tests.{lt-ltb}
 use Rattle.bitstream.specs.Reading.{Outcome, got, refused, after, field, judged}
 use Rattle.bitstream.proofs.Fields.{no-mix, field-lt}
@@ -12,7 +13,7 @@ use Rattle.headers.specs.declared.Rates.{Rates}
 use Rattle.headers.specs.declared.Coding.{Coding}
 use Rattle.headers.specs.Judgement.{isExactly, isPositive, isAtMost, isFormat, commonHeader}
 use Rattle.headers.specs.Identification.{version, frameSize, rates, coding, freshSession, identification}
-use Rattle.headers.specs.Fits.{within, all, widthsFit, pictureInside, rangesHold, sessionFits}
+use Rattle.headers.specs.Fits.{within, all, widthsFit, pictureInside, rangesHold, withinShift, sessionFits}
 use Rattle.headers.proofs.Judged.{judged-got}
 
 -- what a reading that got a value went through: a part of it, a field, a judged field
@@ -91,11 +92,11 @@ coding-value p i {c} {e} h =
     rw z (nombr .2, qual .2, kfgshift .2, pf .2, pf .3)
 
 fresh-fits : (v : ℕ) (f : FrameSize) (r : Rates) (c : Coding) → within 8 v ≡ true → FrameSizeFits f → RatesFit r → CodingFits c → sessionFits (freshSession v f r c) ≡ true
-unfolding sessionFits widthsFit rangesHold all
+unfolding sessionFits widthsFit rangesHold withinShift all
 fresh-fits v f r c vv fv rv cv =
-    rw (vv, fv .0, fv .1, fv .2, fv .3, fv .4, fv .5, fv .6, fv .7, fv .8, fv .9, rv .0, rv .1, rv .2, rv .3, rv .4, rv .5, rv .6, cv .0, cv .1, cv .2, cv .3, cv .4)
+    rw (lt-ltb 0 (2 ^ c .kfgshift) (pow-pos (c .kfgshift)), vv, fv .0, fv .1, fv .2, fv .3, fv .4, fv .5, fv .6, fv .7, fv .8, fv .9, rv .0, rv .1, rv .2, rv .3, rv .4, rv .5, rv .6, cv .0, cv .1, cv .2, cv .3, cv .4)
 
-pub accepted-fits : (p : List ℕ) (i : ℕ) {s : Session} {e : ℕ} → identification p i ≡ got s e → (sessionFits s ≡ true) × (s .references ≡ false)
+pub accepted-fits : (p : List ℕ) (i : ℕ) {s : Session} {e : ℕ} → identification p i ≡ got s e → (sessionFits s ≡ true) × (s .references ≡ false) × (s .«key_frames» ≡ 0) × (s .others ≡ 0)
 unfolding identification
 accepted-fits p i {s} {e} h =
     let h0 = after-got (commonHeader 0x80 p i) _ h in
@@ -106,4 +107,6 @@ accepted-fits p i {s} {e} h =
     let z : s ≡ freshSession (v .0) (f .0) (r .0) (c .0) = sym (value-same (c .3)) in (
       ap sessionFits z ∙ fresh-fits (v .0) (f .0) (r .0) (c .0) (version-value p (h0 .1) (v .2)) (frameSize-value p (v .1) (f .2)) (rates-value p (f .1) (r .2)) (coding-value p (r .1) (c .2)),
       ap (λ (x : Session). x .references) z,
+      ap (λ (x : Session). x .«key_frames») z,
+      ap (λ (x : Session). x .others) z,
     )

@@ -37,6 +37,8 @@ session = record {
     pf = 0;
   };
   references = false;
+  «key_frames» = 0;
+  others = 0;
 }
 
 accepted : identification header 0 ≡ got session 336

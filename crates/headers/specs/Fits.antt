@@ -34,6 +34,10 @@ rangesHold f =
     all (isPositive (f .fmbw) ∷ isPositive (f .fmbh) ∷ pictureInside (16 * f .fmbw) (f .picw) (f .picx)
     ∷ pictureInside (16 * f .fmbh) (f .pich) (f .picy) ∷ isPositive (f .frn) ∷ isPositive (f .frd) ∷ isFormat (f .pf) ∷ [])
 
--- "the identification fields break 5, 6 or their widths": they do not
+-- "KFGSHIFT bounds the second: it must stay below 2 to the power KFGSHIFT"
+unfoldable pub withinShift : Fields → ℕ → Bool
+withinShift f n = ltb n (2 ^ f .kfgshift)
+
+-- "the identification fields break 5, 6 or their widths", or the session's "second number breaks this": they do not
 unfoldable pub sessionFits : Session → Bool
-sessionFits s = widthsFit (s .fields) && rangesHold (s .fields)
+sessionFits s = widthsFit (s .fields) && (rangesHold (s .fields) && withinShift (s .fields) (s .others))

@@ -72,6 +72,8 @@ freshSession vrev f r c = record {
     pf = c .pf;
   };
   references = false;
+  «key_frames» = 0;
+  others = 0;
 }
 
 -- "byte 80 hex, "theora"", and the fields in turn

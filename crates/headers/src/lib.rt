@@ -9,7 +9,7 @@ ghost use lib.ListN.{length};
 ghost use Rattle.bitstream.specs.Answer.{asField, asEnd};
 ghost use Rattle.headers.specs.Judgement.{exactly, positive, atMost, formatCode, commonHeader};
 ghost use Rattle.headers.specs.Identification.{version, frameSize, rates, coding, identification, asFrameSize, asRates, asCoding, asIdentification};
-ghost use Rattle.headers.specs.Fits.{widthsFit, pictureInside, rangesHold, sessionFits};
+ghost use Rattle.headers.specs.Fits.{widthsFit, pictureInside, rangesHold, sessionFits, withinShift};
 ghost use Rattle.headers.specs.Sizes.{formatOf, sessionSizes};
 // The identification fields, under the specification's names.
 pub struct Fields {
@@ -31,10 +31,13 @@ pub struct Fields {
     pub pf: u64,
 }
 
-// What is known of a recording between its packets: the identification fields, and whether references exist.
+// What is known of a recording between its packets: the identification fields, whether references exist, how many key frames were accepted and how many
+// other packets since the last of them.
 pub struct Session {
     pub fields: Fields,
     pub references: bool,
+    pub key_frames: u64,
+    pub others: u64,
 }
 
 // The fresh session, or the number of the refusal and its bit place.
@@ -336,6 +339,8 @@ fn read_session(packet: &[u8]) -> IdentificationAnswer
                             pf: c.pf,
                         },
                         references: false,
+                        key_frames: 0,
+                        others: 0,
                     })
                 }
             },
@@ -392,13 +397,24 @@ fn ranges_hold(f: Fields) -> bool
     (0 < f.fmbw) & (0 < f.fmbh) & across & up & (0 < f.frn) & (0 < f.frd) & (f.pf != 1)
 }
 
-// The identification part of number 8: whether the fields keep 5, 6 and their widths.
+// Whether so many packets since a key frame stay below 2 to the power KFGSHIFT.
+pub fn within_shift(f: Fields, n: u64) -> bool
+    requires { ⌜ f .kfgshift < 32 ⌝ }
+    ensures { λ r. ⌜ r ≡ withinShift f n ⌝ }
+{
+    let bound: u64 = 1 << f.kfgshift;
+    n < bound
+}
+
+// The identification part of number 8: whether the fields keep 5, 6 and their widths, and the packets since the last key frame their bound.
 pub fn session_fits(s: Session) -> bool
     ensures { λ r. ⌜ r ≡ sessionFits s ⌝ }
 {
     let f = s.fields;
     if widths_fit(f) {
-        return ranges_hold(f);
+        if ranges_hold(f) {
+            return within_shift(f, s.others);
+        }
     }
     false
 }

@@ -8,10 +8,10 @@ use Rattle.play.specs.HandOn.{HandsOn}
 
 module _ (golden previous new : List ℕ) (kind : Kind) (p : List ℕ) (b : p ≡ new) where
   pub hands-intra : (g : List ℕ) → g ≡ new → kind ≡ Intra → HandsOn kind golden previous new g p
-  hands-intra g a k s = rw (k, a, b)
+  hands-intra g a k s t = rw (k, a, b)
 
   pub hands-inter : kind ≡ Inter → HandsOn kind golden previous new golden p
-  hands-inter k s = rw (k, b)
+  hands-inter k s t = rw (k, b)
 
   pub hands-repeat : kind ≡ Repeat → HandsOn kind golden previous new golden p
-  hands-repeat k s = rw (k, b)
+  hands-repeat k s t = rw (k, b)

@@ -8,7 +8,7 @@ use Rattle.reading.specs.declared.Verdict.the-variants.{Accepted}
 use Rattle.decoding.specs.Answer.{state}
 use Rattle.theora.specs.Demand.{handedOn}
 
--- after an accepted frame of a kind: golden and previous become what the rules hand on, whatever the session
+-- after an accepted frame of a kind: golden and previous become what the rules hand on, whatever the session and the number of tokens
 abbrev pub HandsOn : Kind → (golden previous new goldenAfter previousAfter : List ℕ) → Type 0
 HandsOn kind golden previous new goldenAfter previousAfter =
-    (s : Session) → state s goldenAfter previousAfter ≡ handedOn (state s golden previous) Accepted kind s new
+    (s : Session) (tokens : ℕ) → state s goldenAfter previousAfter ≡ handedOn (state s golden previous) (Accepted tokens) kind s new

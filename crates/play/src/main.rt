@@ -155,9 +155,9 @@ fn play_packet(
             print_refused(k, place);
             next
         }
-        Verdict::Accepted => {
+        Verdict::Accepted(tokens) => {
             let kind = header.kind;
-            print_frame(header, new);
+            print_frame(header, tokens, new);
             hand_on(kind, golden, previous, new);
             next
         }

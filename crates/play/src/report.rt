@@ -80,7 +80,7 @@ pub fn print_frame_number(n: u64)
     print(b" ");
 }
 
-pub fn print_frame(header: Header, new: &[u8])
+pub fn print_frame(header: Header, tokens: usize, new: &[u8])
     ensures { λ _. ⌜ now (new .exit) ≡ now (new .entry) ⌝ }
 {
     let kind = header.kind;
@@ -89,5 +89,7 @@ pub fn print_frame(header: Header, new: &[u8])
     print_qis(qis, header.count);
     print(b" ");
     io::print_hex(STDOUT_FILENO, hash(new), 16);
+    print(b" ");
+    print_number(tokens as u64);
     print(b"\n");
 }

@@ -1,3 +1,4 @@
 pub mod Held
 pub mod Readable
 pub mod Places
+pub mod Counted

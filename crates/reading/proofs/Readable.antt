@@ -14,7 +14,7 @@ use Rattle.setup.specs.Table.{heldSetup}
 use Rattle.setup.proofs.Held.{held-reads, trees-whole}
 use Rattle.frame_packet.specs.Frame.{Frame}
 use Rattle.frame_packet.proofs.Laws.{packet-readable}
-use Rattle.reading.specs.Answer.{readBy, read}
+use Rattle.reading.specs.Answer.{counted, readBy, read}
 use Rattle.reading.proofs.Held.{trees-proper}
 
 module _ (s : Session) (fits : sessionFits s ≡ true) where
@@ -22,7 +22,7 @@ module _ (s : Session) (fits : sessionFits s ≡ true) where
   by-readable setup table packet h =
       let k = fits-macro-blocks s fits in
       let t = trees-whole table (held-reads table h) in
-      ap (λ (o : Outcome Frame). after o (λ fr e. got (record { setup = setup; frame = fr }) e))
+      ap (λ (o : Outcome Frame). after o (counted s setup))
       (packet-readable (format s) (s .fields .fmbw) (s .fields .fmbh) (setup .trees) (trees-proper (setup .trees) (t .0) (t .1)) (k .1) (k .3) (s .references) packet)
 
   pub read-readable : (table packet : List ℕ) → read s table (readable packet) ≡ read s table packet

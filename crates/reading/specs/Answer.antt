@@ -1,10 +1,12 @@
 -- What a packet asks for, what is answered for it, and what the session becomes.
-use Prim.Native.Nat.{ℕ}
-use mathlib.Core.Bool.{true}
+use Prim.Native.Nat.{ℕ, _+_, _^_}
+use mathlib.Core.Bool.{Bool, true}
 use mathlib.Core.List.{List, [], _∷_}
+use lib.Dec.{ltb}
 use lib.ListN.{getD}
-use Rattle.bitstream.specs.Reading.{Outcome, got, refused, after}
+use Rattle.bitstream.specs.Reading.{Outcome, got, refused, after, choose}
 use Rattle.headers.specs.declared.Session.{Session}
+use Rattle.headers.specs.Fits.{withinShift}
 use Rattle.headers.specs.Sizes.{format}
 use Rattle.setup.specs.Header.{Setup}
 use Rattle.setup.specs.Table.{heldSetup}
@@ -22,25 +24,35 @@ pub record Asked : Type 0 where
   pub setup : Setup
   pub frame : Frame
 
+-- "The first has 64 bits"; "KFGSHIFT bounds the second": whether the numbers stay within them after a packet of a kind
+unfoldable pub staysCounted : Kind → Session → Bool
+staysCounted Intra s = ltb (s .«key_frames» + 1) (2 ^ 64)
+staysCounted Inter s = withinShift (s .fields) (s .others + 1)
+staysCounted Repeat s = withinShift (s .fields) (s .others + 1)
+
+-- "past that the packet is refused as new number 17, after all other checks"
+abbrev pub counted : Session → Setup → Frame → ℕ → Outcome Asked
+counted s setup fr e = choose (staysCounted (fr .header .kind) s) (got (record { setup = setup; frame = fr }) e) (refused 17 0)
+
 -- a packet by a setup
 abbrev pub readBy : Session → Setup → (packet : List ℕ) → Outcome Asked
-readBy s setup packet = after (framePacket (format s) (s .fields .fmbw) (s .fields .fmbh) (setup .trees) (s .references) packet) (λ fr e. got (record { setup = setup; frame = fr }) e)
+readBy s setup packet = after (framePacket (format s) (s .fields .fmbw) (s .fields .fmbh) (setup .trees) (s .references) packet) (counted s setup)
 
 -- "the rest of 8, then the packet"
 unfoldable pub read : Session → (table packet : List ℕ) → Outcome Asked
 read s table packet = after (heldSetup table) (λ setup _. readBy s setup packet)
 
--- "Accepted inter and empty packets leave the session as it was; an intra one sets its reference flag"
+-- an intra frame sets the reference flag; "accepted key frames, and accepted other packets since the last one"; "An empty packet counts as other. A key frame sets the second to 0"
 unfoldable pub sessionAfter : Kind → Session → Session
-sessionAfter Intra s = record { fields = s .fields; references = true }
-sessionAfter Inter s = s
-sessionAfter Repeat s = s
+sessionAfter Intra s = record { fields = s .fields; references = true; «key_frames» = s .«key_frames» + 1; others = 0 }
+sessionAfter Inter s = record { fields = s .fields; references = s .references; «key_frames» = s .«key_frames»; others = s .others + 1 }
+sessionAfter Repeat s = record { fields = s .fields; references = s .references; «key_frames» = s .«key_frames»; others = s .others + 1 }
 
 -- a refusal answers its number and "the bit place of the first bit of the field at fault": the header beside them says nothing, and the session is as it was.
--- "An accepted frame answers with its kind (intra, inter, repeat) and the qi list (empty for repeat)"
+-- "An accepted frame answers with its kind (intra, inter, repeat) and the qi list (empty for repeat)"; "the number of coefficient tokens read .. the count that the reading rules themselves give"
 abbrev pub answerFor : Session → Outcome Asked → FrameAnswer
 answerFor s (refused k e) = record { verdict = Refused k e; header = repeated; session = s }
-answerFor s (got a e) = record { verdict = Accepted; header = asHeader (a .frame .header); session = sessionAfter (a .frame .header .kind) s }
+answerFor s (got a e) = record { verdict = Accepted (a .frame .body .tokens .tokens); header = asHeader (a .frame .header); session = sessionAfter (a .frame .header .kind) s }
 
 -- ---- an answer as numbers
 -- "its kind (intra, inter, repeat)" as a number
@@ -49,7 +61,7 @@ kindNumber Intra = 0
 kindNumber Inter = 1
 kindNumber Repeat = 2
 
--- 7 numbers: the number of the refusal (0 if there is none), its place, the kind, how many qi there are, and three qi, of which the others are 0. After a refusal all but the first two are 0
+-- 8 numbers: the number of the refusal (0 if there is none), its place, the kind, how many qi there are, three qi, of which the others are 0, and the number of tokens. After a refusal all but the first two are 0
 unfoldable pub answerNumbers : Verdict → Header → List ℕ
-answerNumbers Accepted h = 0 ∷ 0 ∷ kindNumber (h .kind) ∷ h .count ∷ getD (h .qis) 0 0 ∷ getD (h .qis) 1 0 ∷ getD (h .qis) 2 0 ∷ []
-answerNumbers (Refused k e) h = k ∷ e ∷ 0 ∷ 0 ∷ 0 ∷ 0 ∷ 0 ∷ []
+answerNumbers (Accepted t) h = 0 ∷ 0 ∷ kindNumber (h .kind) ∷ h .count ∷ getD (h .qis) 0 0 ∷ getD (h .qis) 1 0 ∷ getD (h .qis) 2 0 ∷ t ∷ []
+answerNumbers (Refused k e) h = k ∷ e ∷ 0 ∷ 0 ∷ 0 ∷ 0 ∷ 0 ∷ 0 ∷ []

@@ -2,15 +2,17 @@
 use frame_header::Header;
 use frame_header::Kind;
 use headers::Session;
+ghost use mathlib.Core.Bool.{true};
 ghost use mathlib.Core.Path.{_≡_};
 ghost use lib.ListN.{length};
 ghost use Rattle.bitstream.specs.Reading.{refused};
+ghost use Rattle.headers.specs.Fits.{sessionFits};
 ghost use Rattle.reading.specs.declared.Verdict.the-variants.{Accepted};
-ghost use Rattle.reading.specs.Answer.{sessionAfter, answerFor, kindNumber, answerNumbers};
+ghost use Rattle.reading.specs.Answer.{staysCounted, sessionAfter, answerFor, kindNumber, answerNumbers};
 
-// An accepted frame, or the number of the refusal and its bit place.
+// An accepted frame, with the number of its tokens; or the number of the refusal and its bit place.
 pub enum Verdict {
-    Accepted,
+    Accepted(usize),
     Refused(u32, usize),
 }
 
@@ -36,19 +38,38 @@ pub fn refusal(k: u32, place: usize, s: Session) -> FrameAnswer
     }
 }
 
-// The session after an accepted frame of a kind.
-pub fn session_after(kind: Kind, s: Session) -> Session
-    ensures { λ r. ⌜ r ≡ sessionAfter kind s ⌝ }
+// Whether the session's two numbers stay within their bounds after a packet of a kind: else it is refused by 17.
+pub fn stays_counted(kind: Kind, s: Session) -> bool
+    requires { ⌜ sessionFits s ≡ true ⌝ }
+    ensures { λ r. ⌜ r ≡ staysCounted kind s ⌝ }
 {
     match kind {
-        Kind::Intra => {
-            let mut next = s;
-            next.references = true;
-            next
-        }
-        Kind::Inter => s,
-        Kind::Repeat => s,
+        Kind::Intra => s.key_frames < 18446744073709551615,
+        Kind::Inter => headers::within_shift(s.fields, s.others + 1),
+        Kind::Repeat => headers::within_shift(s.fields, s.others + 1),
     }
+}
+
+// The session after an accepted frame of a kind.
+pub fn session_after(kind: Kind, s: Session) -> Session
+    requires { ⌜ (sessionFits s ≡ true) × (staysCounted kind s ≡ true) ⌝ }
+    ensures { λ r. ⌜ r ≡ sessionAfter kind s ⌝ }
+{
+    let mut next = s;
+    match kind {
+        Kind::Intra => {
+            next.references = true;
+            next.key_frames = s.key_frames + 1;
+            next.others = 0;
+        }
+        Kind::Inter => {
+            next.others = s.others + 1;
+        }
+        Kind::Repeat => {
+            next.others = s.others + 1;
+        }
+    }
+    next
 }
 
 // ---- an answer as numbers
@@ -63,9 +84,9 @@ fn kind_number(kind: Kind) -> u64
     }
 }
 
-fn store_header(h: Header, list: &mut [u64])
-    requires { ⌜ length (now list) ≡ 7 ⌝ }
-    ensures { λ _. ⌜ now (list .exit) ≡ answerNumbers Accepted h ⌝ }
+fn store_header(h: Header, tokens: usize, list: &mut [u64])
+    requires { ⌜ length (now list) ≡ 8 ⌝ }
+    ensures { λ _. ⌜ now (list .exit) ≡ answerNumbers (Accepted tokens) h ⌝ }
 {
     let kind = h.kind;
     let qis = h.qis;
@@ -74,21 +95,21 @@ fn store_header(h: Header, list: &mut [u64])
     let first = qis[0] as u64;
     let second = qis[1] as u64;
     let third = qis[2] as u64;
-    let numbers = [0, 0, number, count, first, second, third];
+    let numbers = [0, 0, number, count, first, second, third, tokens as u64];
     buffer::copy_longs(list, &numbers);
 }
 
 // Stores the numbers of a frame's answer.
 pub fn store_answer(verdict: Verdict, header: Header, list: &mut [u64])
-    requires { ⌜ length (now list) ≡ 7 ⌝ }
+    requires { ⌜ length (now list) ≡ 8 ⌝ }
     ensures { λ _. ⌜ now (list .exit) ≡ answerNumbers verdict header ⌝ }
 {
     match verdict {
-        Verdict::Accepted => store_header(header, list),
+        Verdict::Accepted(tokens) => store_header(header, tokens, list),
         Verdict::Refused(k, place) => {
             let number = k as u64;
             let bit = place as u64;
-            let numbers = [number, bit, 0, 0, 0, 0, 0];
+            let numbers = [number, bit, 0, 0, 0, 0, 0, 0];
             buffer::copy_longs(list, &numbers);
         }
     }

@@ -40,6 +40,8 @@ module _ (memory : Memory) where
       pf = 0;
     };
     references = false;
+    «key_frames» = 0;
+    others = 0;
   }
 
   -- a call that brings the number n as packet and as new
@@ -53,10 +55,10 @@ module _ (memory : Memory) where
   does : State → Call → Done
   does st c =
       let n = getD (c .packet) 0 0 in
-      choose (eqb n 1) (answered Accepted Intra (sessionAfter Intra (st .session)) (10 ∷ []))
-      (choose (eqb n 3) (answered Accepted Inter (st .session) (30 ∷ []))
-      (choose (eqb n 5) (answered Accepted Repeat (st .session) (st .previous))
-      (choose (eqb n 6) (answered Accepted Intra (sessionAfter Intra (st .session)) (60 ∷ []))
+      choose (eqb n 1) (answered (Accepted 0) Intra (sessionAfter Intra (st .session)) (10 ∷ []))
+      (choose (eqb n 3) (answered (Accepted 0) Inter (st .session) (30 ∷ []))
+      (choose (eqb n 5) (answered (Accepted 0) Repeat (st .session) (st .previous))
+      (choose (eqb n 6) (answered (Accepted 0) Intra (sessionAfter Intra (st .session)) (60 ∷ []))
       (answered (Refused 4 7) Repeat (st .session) (c .new)))))
 
   -- golden, previous and new after each call

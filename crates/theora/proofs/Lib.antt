@@ -4,5 +4,8 @@ pub mod Table
 pub mod LeftBySetup
 pub mod Demand
 pub mod Places
+pub mod Tokens
+pub mod KeyFrames
+pub mod Padding
 pub mod Promised
 pub mod Examples

@@ -54,21 +54,22 @@ setup-placed room p k e r = go (eqb room tableBytes) r
     go true q = inside-placed p (1 ∷ []) (place-inside setup-inside p k e q) (among-in insideNumbers (2 ∷ 4 ∷ 7 ∷ []) k (refl, (refl, (refl, tt))) (setup-refuses .by p 0 k e q))
     go false q = let z : 1 ≡ k = cc in let y : 0 ≡ e = cc in placeless p (1 ∷ []) y (rw (← z) refl)
 
-frame-placed : (st : State) (c : Call) (k e : ℕ) → said st c ≡ refused k e → Placed (c .packet) (1 ∷ 8 ∷ []) k e
+frame-placed : (st : State) (c : Call) (k e : ℕ) → said st c ≡ refused k e → Placed (c .packet) (1 ∷ 8 ∷ 17 ∷ []) k e
 unfolding said among
 frame-placed st c k e r = go (sessionFits (st .session)) (lengthsHold st c) r
   where
-    by-number : (n : ℕ) → among (1 ∷ 8 ∷ []) n ≡ true → n ≡ k → 0 ≡ e → Placed (c .packet) (1 ∷ 8 ∷ []) k e
-    by-number n a z y = placeless (c .packet) (1 ∷ 8 ∷ []) y (rw (← z) a)
+    by-number : (n : ℕ) → among (1 ∷ 8 ∷ 17 ∷ []) n ≡ true → n ≡ k → 0 ≡ e → Placed (c .packet) (1 ∷ 8 ∷ 17 ∷ []) k e
+    by-number n a z y = placeless (c .packet) (1 ∷ 8 ∷ 17 ∷ []) y (rw (← z) a)
 
-    go : (b d : Bool) → choose b (choose d (read (st .session) (c .table) (c .packet)) (refused 1 0)) (refused 8 0) ≡ refused k e → Placed (c .packet) (1 ∷ 8 ∷ []) k e
+    go : (b d : Bool) → choose b (choose d (read (st .session) (c .table) (c .packet)) (refused 1 0)) (refused 8 0) ≡ refused k e → Placed (c .packet) (1 ∷ 8 ∷ 17 ∷ []) k e
     go false d q = let z : 8 ≡ k = cc in let y : 0 ≡ e = cc in by-number 8 refl z y
     go true false q = let z : 1 ≡ k = cc in let y : 0 ≡ e = cc in by-number 1 refl z y
     go true true q =
-        read-refused (st .session) (c .table) (c .packet) q (λ z y. by-number 8 refl z y)
+        read-refused (st .session) (c .packet) (c .table) (λ z y. by-number 8 refl z y) (λ z y u. by-number 17 refl z y)
         (λ setup h.
-        inside-placed (c .packet) (1 ∷ 8 ∷ []) (packet-inside (format (st .session)) (st .session .fields .fmbw) (st .session .fields .fmbh) (setup .trees) (st .session .references) (c .packet) k e h)
+        inside-placed (c .packet) (1 ∷ 8 ∷ 17 ∷ []) (packet-inside (format (st .session)) (st .session .fields .fmbw) (st .session .fields .fmbh) (setup .trees) (st .session .references) (c .packet) k e h)
         (among-in insideNumbers packetNumbers k (refl, (refl, (refl, (refl, (refl, (refl, tt)))))) (packet-refuses (format (st .session)) (st .session .fields .fmbw) (st .session .fields .fmbh) (setup .trees) (st .session .references) (c .packet) k e h)))
+        q
 
 pub places-hold : Places
 unfolding among

@@ -25,9 +25,9 @@ use Rattle.theora.specs.Call.{Call, said, byRules, FramePromise}
 -- "After an accepted intra frame new becomes golden and previous, after another accepted packet previous; after a refusal all stay"
 abbrev pub handedOn : State → Verdict → Kind → Session → List ℕ → State
 handedOn st (Refused k e) kind s new = record { session = s; golden = st .golden; previous = st .previous }
-handedOn st Accepted Intra s new = record { session = s; golden = new; previous = new }
-handedOn st Accepted Inter s new = record { session = s; golden = st .golden; previous = new }
-handedOn st Accepted Repeat s new = record { session = s; golden = st .golden; previous = new }
+handedOn st (Accepted t) Intra s new = record { session = s; golden = new; previous = new }
+handedOn st (Accepted t) Inter s new = record { session = s; golden = st .golden; previous = new }
+handedOn st (Accepted t) Repeat s new = record { session = s; golden = st .golden; previous = new }
 
 -- one call of a list: what it got, what it brought, what it left, and what is handed on
 pub record Turn : Type 0 where

@@ -8,4 +8,7 @@ pub mod Call
 pub mod LeftBySetup
 pub mod Demand
 pub mod Places
+pub mod Tokens
+pub mod KeyFrames
+pub mod Padding
 pub mod Table

@@ -25,4 +25,4 @@ pub record Placed (packet : List ℕ) (others : List ℕ) (k e : ℕ) : Type 0 w
 pub record Places : Type 0 where
   pub of-identification : (p : List ℕ) (k e : ℕ) → identification p 0 ≡ refused k e → Placed p [] k e
   pub of-setup : (room : ℕ) (p : List ℕ) (k e : ℕ) → setupOutcome room p ≡ refused k e → Placed p (1 ∷ []) k e
-  pub of-frame : (st : State) (c : Call) (k e : ℕ) → said st c ≡ refused k e → Placed (c .packet) (1 ∷ 8 ∷ []) k e
+  pub of-frame : (st : State) (c : Call) (k e : ℕ) → said st c ≡ refused k e → Placed (c .packet) (1 ∷ 8 ∷ 17 ∷ []) k e

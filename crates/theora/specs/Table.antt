@@ -51,6 +51,8 @@ framed w h = record {
     pf = 0;
   };
   references = false;
+  «key_frames» = 0;
+  others = 0;
 }
 
 -- the number that a question finds; no number of a block is negative

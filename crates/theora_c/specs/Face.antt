@@ -49,11 +49,11 @@ abbrev pub flag : Bool → ℕ
 flag true = 1
 flag false = 0
 
--- a session as 17 numbers, and 17 numbers as a session
+-- a session as 19 numbers, and 19 numbers as a session
 unfoldable pub numbersOf : Session → List ℕ
 numbersOf s =
     s .fields .vrev ∷ s .fields .fmbw ∷ s .fields .fmbh ∷ s .fields .picw ∷ s .fields .pich ∷ s .fields .picx ∷ s .fields .picy ∷ s .fields .frn ∷ s .fields .frd ∷ s .fields .parn ∷ s .fields .pard ∷ s .fields .cs
-    ∷ s .fields .nombr ∷ s .fields .qual ∷ s .fields .kfgshift ∷ s .fields .pf ∷ flag (s .references) ∷ []
+    ∷ s .fields .nombr ∷ s .fields .qual ∷ s .fields .kfgshift ∷ s .fields .pf ∷ flag (s .references) ∷ s .«key_frames» ∷ s .others ∷ []
 
 unfoldable pub sessionOf : List ℕ → Session
 sessionOf l = record {
@@ -76,6 +76,8 @@ sessionOf l = record {
     pf = getD l 15 0;
   };
   references = not (eqb (getD l 16 0) 0);
+  «key_frames» = getD l 17 0;
+  others = getD l 18 0;
 }
 
 -- the sizes as 16 numbers
@@ -126,12 +128,12 @@ sized lengths old x = choose lengths x (gives 1 old)
 
 -- the identification call: a packet, and the lists of the session and of the place. "a lent length differs from the published one" is 1, and then nothing is written
 unfoldable pub identificationCall : (packet session place : List ℕ) → Answered
-identificationCall packet session place = choose (eqb (length session) 17 && eqb (length place) 1) (sessionReturned session (asIdentification (identification packet 0))) (answers 1 session place)
+identificationCall packet session place = choose (eqb (length session) 19 && eqb (length place) 1) (sessionReturned session (asIdentification (identification packet 0))) (answers 1 session place)
 
--- by what the lists of a call on a session are refused before it is made, 0 if by nothing. A session's list of another length than 17 is 1: there is no
+-- by what the lists of a call on a session are refused before it is made, 0 if by nothing. A session's list of another length than 19 is 1: there is no
 -- session to judge. A list for the answer that has not the n numbers wanted is 1 behind "that" (the identification part of 8); where it has them, the call itself says 8
 unfoldable pub listsNumber : (n : ℕ) → (session : List ℕ) → (room : ℕ) → ℕ
-listsNumber n session room = choose (eqb (length session) 17) (choose (eqb room n) 0 (choose (sessionFits (sessionOf session)) 1 8)) 1
+listsNumber n session room = choose (eqb (length session) 19) (choose (eqb room n) 0 (choose (sessionFits (sessionOf session)) 1 8)) 1
 
 -- the calls on a session, whose answer has n numbers
 unfoldable pub onList : ℕ → List ℕ → List ℕ → (Session → Returned) → Returned
@@ -213,19 +215,20 @@ lengthsReturned old (WorkAnswer.Refused k) = gives k old
 abbrev pub workLengthsCall : List ℕ → List ℕ → Returned
 workLengthsCall session old = onList 11 session old (λ s. lengthsReturned old (workLengths s))
 
--- "Accepted inter and empty packets leave the session as it was; an intra one sets its reference flag": the flag's number, from what it was
+-- an intra frame sets the reference flag, other packets leave it: the flag's number, from what it was
 abbrev pub referenceNumber : Kind → ℕ → ℕ
 referenceNumber Intra old = 1
 referenceNumber Inter old = old
 referenceNumber Repeat old = old
 
-abbrev pub sessionNumbers : Kind → List ℕ → List ℕ
-sessionNumbers kind session = set session 16 (referenceNumber kind (getD session 16 0))
+-- the session's list after an accepted packet of a kind, which leaves the session s
+abbrev pub sessionNumbers : Kind → Session → List ℕ → List ℕ
+sessionNumbers kind s session = set (set (set session 16 (referenceNumber kind (getD session 16 0))) 17 (s .«key_frames»)) 18 (s .others)
 
--- the numbers of the answer, also of a refusal; the session with its flag set anew, or as it was
-abbrev pub verdictReturned : (session : List ℕ) → Header → Verdict → Answered
-verdictReturned session h Verdict.Accepted = answers 0 (sessionNumbers (h .kind) session) (answerNumbers Verdict.Accepted h)
-verdictReturned session h (Verdict.Refused k e) = answers k session (answerNumbers (Verdict.Refused k e) h)
+-- the numbers of the answer, also of a refusal; the session with its flag and its two numbers set anew, or as it was
+abbrev pub verdictReturned : (session : List ℕ) → Header → Session → Verdict → Answered
+verdictReturned session h s (Verdict.Accepted t) = answers 0 (sessionNumbers (h .kind) s session) (answerNumbers (Verdict.Accepted t) h)
+verdictReturned session h s (Verdict.Refused k e) = answers k session (answerNumbers (Verdict.Refused k e) h)
 
 -- the same, and all else that is lent to be written: new and work memory
 pub record FrameReturned : Type 0 where
@@ -242,12 +245,12 @@ stateOf session golden previous = state (sessionOf session) golden previous
 
 -- what the rules leave, as a frame call returns it
 abbrev pub doneReturned : (session : List ℕ) → Done → FrameReturned
-doneReturned session d = frameGives (verdictReturned session (d .answer .header) (d .answer .verdict)) (d .new) (d .memory)
+doneReturned session d = frameGives (verdictReturned session (d .answer .header) (d .answer .session) (d .answer .verdict)) (d .new) (d .memory)
 
 -- a frame call: the lists of the session and of the answer, then the rules
 unfoldable pub frameCall : (session old golden previous : List ℕ) → Call → FrameReturned
 frameCall session old golden previous c =
-    let k = listsNumber 7 session (length old) in
+    let k = listsNumber 8 session (length old) in
     choose (eqb k 0)
     (doneReturned session (byRules firstWay (stateOf session golden previous) c))
     (frameGives (answers k session old) (c .new) (c .memory))

@@ -14,10 +14,10 @@ pub record FaceCall : Type 0 where
   pub rules : Call
   pub answer : List ℕ
 
--- every list for an answer has its 7 numbers
+-- every list for an answer has its 8 numbers
 unfoldable pub AnswersFit : List FaceCall → Type 0
 AnswersFit [] = Unit {0}
-AnswersFit (c ∷ cs) = (length (c .answer) ≡ 7) × AnswersFit cs
+AnswersFit (c ∷ cs) = (length (c .answer) ≡ 8) × AnswersFit cs
 
 -- each call gets the session's list as the call before left it, and golden and previous as the rules hand them on. It returns and leaves what the
 -- turn left, and its list says the session that the turn hands on
@@ -29,7 +29,7 @@ SameTurns session (c ∷ cs) (t ∷ ts) =
     let r = frameCall session (c .answer) (t .before .golden) (t .before .previous) (c .rules) in
     (r ≡ doneReturned session (t .done)) × (sessionOf (r .answered .lent) ≡ t .after .session) × SameTurns (r .answered .lent) cs ts
 
--- from any list of 17 numbers, golden and previous: the calls of the face are the turns of demand 3
+-- from any list of 19 numbers, golden and previous: the calls of the face are the turns of demand 3
 abbrev pub FaceTurns : Type 0
-FaceTurns = (session golden previous : List ℕ) → length session ≡ 17 → (cs : List FaceCall) → AnswersFit cs
+FaceTurns = (session golden previous : List ℕ) → length session ≡ 19 → (cs : List FaceCall) → AnswersFit cs
     → SameTurns session cs (turns (byRules firstWay) (stateOf session golden previous) (map (λ c. c .rules) cs))

@@ -26,9 +26,9 @@ fn flag_number(b: bool) -> u64
     if b { 1 } else { 0 }
 }
 
-// The session that a list of 17 numbers says.
+// The session that a list of 19 numbers says.
 fn session_of(list: &[u64]) -> Session
-    requires { ⌜ length (now list) ≡ 17 ⌝ }
+    requires { ⌜ length (now list) ≡ 19 ⌝ }
     ensures { λ r. ⌜ r ≡ sessionOf (now (list .entry)) ⌝ }
 {
     Session {
@@ -51,6 +51,8 @@ fn session_of(list: &[u64]) -> Session
             pf: list[15],
         },
         references: list[16] != 0,
+        key_frames: list[17],
+        others: list[18],
     }
 }
 
@@ -59,7 +61,7 @@ fn session_of(list: &[u64]) -> Session
 fn lists_refusal(session: &[u64], room: usize, wanted: usize) -> u32
     ensures { λ r. ⌜ r ≡ listsNumber wanted (now (session .entry)) room ⌝ }
 {
-    if session.len() != 17 {
+    if session.len() != 19 {
         return 1;
     }
     if room == wanted {
@@ -97,7 +99,7 @@ fn widen(list: &mut [u64], numbers: &[u16]) -> u32
 // ---- what an answer returns and leaves
 
 fn return_session(answer: IdentificationAnswer, list: &mut [u64], place: &mut [u64]) -> u32
-    requires { ⌜ (length (now list) ≡ 17) × (length (now place) ≡ 1) ⌝ }
+    requires { ⌜ (length (now list) ≡ 19) × (length (now place) ≡ 1) ⌝ }
     ensures { λ r. ⌜ answers r (now (list .exit)) (now (place .exit)) ≡ sessionReturned (now (list .entry)) answer ⌝ }
 {
     match answer {
@@ -121,6 +123,8 @@ fn return_session(answer: IdentificationAnswer, list: &mut [u64], place: &mut [u
                 s.fields.kfgshift,
                 s.fields.pf,
                 references,
+                s.key_frames,
+                s.others,
             ];
             place[0] = 0;
             store(list, &numbers)
@@ -257,17 +261,20 @@ fn reference_number(kind: Kind, before: u64) -> u64
 }
 
 fn return_frame(answer: FrameAnswer, session: &mut [u64], list: &mut [u64]) -> u32
-    requires { ⌜ (length (now session) ≡ 17) × (length (now list) ≡ 7) ⌝ }
-    ensures { λ r. ⌜ answers r (now (session .exit)) (now (list .exit)) ≡ verdictReturned (now (session .entry)) (answer .header) (answer .verdict) ⌝ }
+    requires { ⌜ (length (now session) ≡ 19) × (length (now list) ≡ 8) ⌝ }
+    ensures { λ r. ⌜ answers r (now (session .exit)) (now (list .exit)) ≡ verdictReturned (now (session .entry)) (answer .header) (answer .session) (answer .verdict) ⌝ }
 {
     let header = answer.header;
     let kind = header.kind;
+    let next = answer.session;
     let verdict = answer.verdict;
     reading::store_answer(verdict, header, list);
     match verdict {
-        Verdict::Accepted => {
+        Verdict::Accepted(_) => {
             let before = session[16];
             session[16] = reference_number(kind, before);
+            session[17] = next.key_frames;
+            session[18] = next.others;
             0
         }
         Verdict::Refused(k, _) => k,
@@ -285,7 +292,7 @@ pub extern "C" fn wedgepetal_identification(
 ) -> u32
     ensures { λ r. ⌜ answers r (now (session .exit)) (now (place .exit)) ≡ identificationCall (now (packet .entry)) (now (session .entry)) (now (place .entry)) ⌝ }
 {
-    if (session.len() == 17) & (place.len() == 1) {
+    if (session.len() == 19) & (place.len() == 1) {
         return return_session(theora::identification(packet), session, place);
     }
     1
@@ -513,7 +520,7 @@ pub extern "C" fn wedgepetal_frame(
         ≡ frameCall (now (session .entry)) (now (answer .entry)) (now (golden .entry)) (now (previous .entry))
         (call (now (packet .entry)) (now (table .entry)) (memory (now (records .entry)) (now (coded .entry)) (now (coefs .entry)) (now (dc .entry)) (now (lasts .entry)) (now (flags .entry)) (now (bits .entry)) (now (supers .entry)) (now (modes .entry)) (now (active .entry))) (now (new .entry))) ⌝ }
 {
-    let k = lists_refusal(session, answer.len(), 7);
+    let k = lists_refusal(session, answer.len(), 8);
     if k == 0 {
         let s = session_of(session);
         let done = theora::frame(

@@ -22,6 +22,8 @@ pub fn session(fmbw: u64, fmbh: u64, pf: u64) -> Session {
         kfgshift: 6,
         pf,
         references: false,
+        key_frames: 0,
+        others: 0,
     }
 }
 

@@ -31,9 +31,11 @@ impl Case {
         Case::of(random, fields, header)
     }
 
-    /// A case of a frame of so many macro blocks; its trees have all tokens.
+    /// A case of a frame of so many macro blocks; its trees have all tokens, and
+    /// packets may follow a key frame.
     pub fn of_size(random: &mut Random, fmbw: u64, fmbh: u64) -> Case {
-        let fields = fields::of_size(random, fmbw, fmbh);
+        let mut fields = fields::of_size(random, fmbw, fmbh);
+        fields.kfgshift = fields.kfgshift.max(1);
         let header = accepted_with(random, false, Trees::Full);
         Case::of(random, fields, header.bytes().to_vec())
     }

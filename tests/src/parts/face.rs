@@ -79,36 +79,6 @@ mod library {
             h: u64,
         );
         pub fn parts_copy(dst: *mut u8, dst_length: usize, src: *const u8, src_length: usize);
-        pub fn parts_read_frame(
-            packet: *const u8,
-            packet_length: usize,
-            references: bool,
-            table: *const u8,
-            table_length: usize,
-            pf: u64,
-            w: u64,
-            h: u64,
-            records: *mut u32,
-            records_length: usize,
-            coded: *mut u64,
-            coded_length: usize,
-            coefs: *mut i16,
-            coefs_length: usize,
-            lasts: *mut u8,
-            lasts_length: usize,
-            flags: *mut u8,
-            flags_length: usize,
-            bits: *mut u8,
-            bits_length: usize,
-            supers: *mut u8,
-            supers_length: usize,
-            modes: *mut u8,
-            modes_length: usize,
-            active: *mut u64,
-            active_length: usize,
-            answer: *mut u64,
-            answer_length: usize,
-        ) -> u32;
     }
 }
 
@@ -363,72 +333,5 @@ pub fn copy(dst: &mut [u8], src: &[u8]) {
     // SAFETY: as in `residual`.
     unsafe {
         library::parts_copy(dst.as_mut_ptr(), dst.len(), src.as_ptr(), src.len());
-    }
-}
-
-/// The work memory that a frame packet is read into.
-pub struct Work<'a> {
-    /// Each block's packed record, in raster order.
-    pub records: &'a mut [u32],
-    /// The raster numbers of the coded blocks, and zeros behind them.
-    pub coded: &'a mut [u64],
-    /// 64 coefficients for each coded block, and zeros behind them.
-    pub coefs: &'a mut [i16],
-    /// The position of each coded block's last visit, and zeros behind them.
-    pub lasts: &'a mut [u8],
-    /// Scratch, as are those below.
-    pub flags: &'a mut [u8],
-    /// Scratch.
-    pub bits: &'a mut [u8],
-    /// Scratch.
-    pub supers: &'a mut [u8],
-    /// Scratch.
-    pub modes: &'a mut [u8],
-    /// Scratch.
-    pub active: &'a mut [u64],
-}
-
-/// Reads a frame packet and leaves work memory as read. It answers 0 or the
-/// number of the refusal; all lists may have any length and any contents.
-pub fn read_frame(
-    frame: Frame,
-    packet: &[u8],
-    references: bool,
-    table: &[u8],
-    work: Work,
-    answer: &mut [u64],
-) -> u32 {
-    // SAFETY: as in `residual`; nothing is required.
-    unsafe {
-        library::parts_read_frame(
-            packet.as_ptr(),
-            packet.len(),
-            references,
-            table.as_ptr(),
-            table.len(),
-            frame.pf,
-            frame.w,
-            frame.h,
-            work.records.as_mut_ptr(),
-            work.records.len(),
-            work.coded.as_mut_ptr(),
-            work.coded.len(),
-            work.coefs.as_mut_ptr(),
-            work.coefs.len(),
-            work.lasts.as_mut_ptr(),
-            work.lasts.len(),
-            work.flags.as_mut_ptr(),
-            work.flags.len(),
-            work.bits.as_mut_ptr(),
-            work.bits.len(),
-            work.supers.as_mut_ptr(),
-            work.supers.len(),
-            work.modes.as_mut_ptr(),
-            work.modes.len(),
-            work.active.as_mut_ptr(),
-            work.active.len(),
-            answer.as_mut_ptr(),
-            answer.len(),
-        )
     }
 }

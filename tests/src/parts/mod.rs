@@ -1,6 +1,5 @@
-//! Each part of making a frame, and what is read of a frame packet, held by
-//! itself to the independent implementation, over a static library that is
-//! there for this alone.
+//! Each part of making a frame, held by itself to the independent
+//! implementation, over a static library that is there for this alone.
 
 mod dc;
 mod face;
@@ -8,7 +7,6 @@ mod filter;
 mod frames;
 mod lent;
 mod material;
-pub mod packet;
 mod prediction;
 mod residual;
 pub mod time;

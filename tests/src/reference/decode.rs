@@ -6,20 +6,11 @@ use super::frame::reader::FrameFault;
 use super::frame::{FramePacket, Kind, read};
 use super::layout::Layout;
 use super::samples::ways::{Source, Way, make};
-use super::session::Fields;
+use super::session::{Fields, Session};
 use super::setup::Setup;
 use super::sizes::{Sizes, sizes};
 use super::table_face::Table;
 use super::work_memory::{self, SLICES};
-
-/// "The session record holds the identification fields and whether references exist"
-#[derive(Clone, Debug, PartialEq, Eq)]
-pub struct Session {
-    /// The identification fields.
-    pub fields: Fields,
-    /// Whether references exist.
-    pub references: bool,
-}
 
 /// "An accepted frame answers with its kind (intra, inter, repeat) and the qi list"
 #[derive(Clone, Debug, PartialEq, Eq)]
@@ -44,7 +35,7 @@ pub enum Work {
 /// What a frame call answers and leaves, beside new.
 #[derive(Clone, Debug, PartialEq, Eq)]
 pub struct Outcome {
-    /// The answer; 1 and 8 have place 0.
+    /// The answer; 1, 8 and 17 have place 0.
     pub answer: Result<Accepted, Fault>,
     /// The session afterwards.
     pub session: Session,
@@ -66,7 +57,8 @@ pub struct Lent<'a> {
 }
 
 /// The frame call: "identification part of 8, then 1, the rest of 8, then the
-/// packet". Writes new, made in one of the two ways, if the packet is accepted.
+/// packet", and 17 "after all other checks". Writes new, made in one of the two
+/// ways, if the packet is accepted.
 pub fn frame_call(
     session: &Session,
     packet: &[u8],
@@ -80,7 +72,7 @@ pub fn frame_call(
         work,
     };
     let refused = |number| Err(Fault { number, place: 0 });
-    if !session.fields.sound() {
+    if !session.sound() {
         return outcome(refused(8), Work::Untouched);
     }
     if !lengths_are_right(&sizes(&session.fields), lent, new.len()) {
@@ -94,9 +86,12 @@ pub fn frame_call(
         Ok(read) => read,
         Err(fault) => return outcome(Err(fault.fault), Work::Zero),
     };
+    let Some(after) = session.after(read.kind) else {
+        return outcome(refused(17), Work::Zero);
+    };
     decoder.make(way, &read, lent.golden, lent.previous, new);
     Outcome {
-        session: session.after(read.kind),
+        session: after,
         ..outcome(Ok(Accepted::of(&read)), Work::Zero)
     }
 }
@@ -107,17 +102,6 @@ fn lengths_are_right(sizes: &Sizes, lent: Lent, new: usize) -> bool {
     !matches!(lent.table, Table::OtherLength)
         && lent.work == work_memory::lengths(sizes)
         && planes.iter().all(|length| *length as u64 == sizes.buffer)
-}
-
-impl Session {
-    /// "Accepted inter and empty packets leave the session as it was; an intra
-    /// one sets its reference flag."
-    pub fn after(&self, kind: Kind) -> Session {
-        Session {
-            fields: self.fields.clone(),
-            references: self.references || kind == Kind::Intra,
-        }
-    }
 }
 
 impl Accepted {
@@ -184,10 +168,24 @@ mod tests {
     use crate::reference::setup::setup;
     use recording::bit_writer::BitWriter;
 
-    /// One macro block in 4:2:0.
+    /// One macro block in 4:2:0; at most one packet may follow a key frame.
     fn session(references: bool) -> Session {
-        let fields = Fields::of_frame(1, 1, 0);
-        Session { fields, references }
+        let fields = Fields {
+            kfgshift: 1,
+            ..Fields::of_frame(1, 1, 0)
+        };
+        Session {
+            references,
+            ..Session::fresh(fields)
+        }
+    }
+
+    /// The session after a packet that is no key frame.
+    fn one_more(session: Session) -> Session {
+        Session {
+            others: session.others + 1,
+            ..session
+        }
     }
 
     /// Lone leaves: tree t has token t % 32.
@@ -258,7 +256,8 @@ mod tests {
         let (outcome, new) = call(&given(false), &packet);
         let accepted = outcome.answer.unwrap();
         assert_eq!((accepted.kind, accepted.qis), (Kind::Intra, vec![63]));
-        assert!(outcome.session.references);
+        let after = outcome.session;
+        assert!(after.references && (after.key_frames, after.others) == (1, 0));
         assert_eq!(outcome.work, Work::Zero);
         assert!(new.iter().any(|sample| *sample != 7));
     }
@@ -277,7 +276,7 @@ mod tests {
         let accepted = outcome.answer.unwrap();
         assert_eq!((accepted.kind, accepted.tokens), (Kind::Repeat, 0));
         assert!(accepted.qis.is_empty());
-        assert_eq!(outcome.session, session(true));
+        assert_eq!(outcome.session, one_more(session(true)));
         assert_eq!(new, [50; 384]);
         assert_refused(&given(false), &[], 9, 0, Work::Zero);
     }
@@ -292,9 +291,30 @@ mod tests {
             .for_each(|(value, width)| bits.put(value, width));
         let (outcome, new) = call(&given(true), bits.bytes());
         assert_eq!(outcome.answer.unwrap().kind, Kind::Inter);
-        assert_eq!(outcome.session, session(true));
+        assert_eq!(outcome.session, one_more(session(true)));
         assert_eq!(new, [50; 384]);
         assert_refused(&given(false), bits.bytes(), 9, 1, Work::Zero);
+    }
+
+    #[test]
+    fn seventeen_comes_after_all_else() {
+        let mut far = given(true);
+        far.session.others = 1;
+        assert_refused(&far, &[], 17, 0, Work::Zero);
+        assert_refused(&far, &[0x40], 4, 8, Work::Zero);
+        assert_refused(&far, &[0x80], 10, 0, Work::Zero);
+        far.session.references = false;
+        assert_refused(&far, &[], 9, 0, Work::Zero);
+        far.session.key_frames = u64::MAX;
+        let dc_only = intra([0, 0, 0, 0]);
+        assert_refused(&far, &dc_only, 17, 0, Work::Zero);
+        assert_refused(&far, &dc_only[..2], 4, 16, Work::Zero);
+        far.session.key_frames -= 1;
+        assert!(call(&far, &dc_only).0.answer.is_ok());
+        far.session.others = 2;
+        assert_refused(&far, &dc_only, 8, 0, Work::Untouched);
+        far.lengths[0] += 1;
+        assert_refused(&far, &dc_only, 8, 0, Work::Untouched);
     }
 
     #[test]

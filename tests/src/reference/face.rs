@@ -9,7 +9,7 @@ use super::identification::identification;
 use super::members::{Block, macro_block_of};
 use super::order::{Grid, Place};
 use super::samples::sample_offset;
-use super::session::{Fields, SESSION_NUMBERS};
+use super::session::{Fields, SESSION_NUMBERS, Session};
 use super::sizes::{Plane, Sizes, sizes};
 use super::work_memory;
 
@@ -161,14 +161,14 @@ pub fn answer(call: Call, session: &[u64], output_length: usize) -> Answer {
     let Ok(list) = session.try_into() else {
         return Answer::Refused(1);
     };
-    let fields = Fields::of_session(list);
-    if !fields.sound() {
+    let session = Session::of_list(list);
+    if !session.sound() {
         return Answer::Refused(8);
     }
     if !fits {
         return Answer::Refused(1);
     }
-    answer_for(call, &fields).unwrap_or(Answer::Refused(255))
+    answer_for(call, &session.fields).unwrap_or(Answer::Refused(255))
 }
 
 /// What a call on a sound session answers, or none if the frame has no such thing.
@@ -235,6 +235,7 @@ fn block_number(frame: &Sizes, (plane, place): Block) -> Option<u64> {
 
 #[cfg(test)]
 mod tests {
+    use super::super::session::OTHERS;
     use super::*;
 
     /// A session of 3 by 2 macro blocks in 4:2:0.
@@ -244,10 +245,15 @@ mod tests {
 
     #[test]
     fn the_session_comes_before_the_other_lengths() {
-        assert_eq!(answer(Call::Sizes, &[0; 16], 16), Answer::Refused(1));
-        assert_eq!(answer(Call::Sizes, &[0; 17], 16), Answer::Refused(8));
-        assert_eq!(answer(Call::Sizes, &[0; 17], 15), Answer::Refused(8));
+        assert_eq!(answer(Call::Sizes, &[0; 18], 16), Answer::Refused(1));
+        assert_eq!(answer(Call::Sizes, &[0; 19], 16), Answer::Refused(8));
+        assert_eq!(answer(Call::Sizes, &[0; 19], 15), Answer::Refused(8));
         assert_eq!(answer(Call::Sizes, &session(), 15), Answer::Refused(1));
+        let mut too_many = session();
+        too_many[OTHERS] = 1;
+        assert_eq!(answer(Call::Sizes, &too_many, 15), Answer::Refused(8));
+        too_many[14] = 1;
+        assert_eq!(answer(Call::Sizes, &too_many, 16).number(), 0);
     }
 
     #[test]
@@ -258,7 +264,7 @@ mod tests {
             session: None,
             place: None,
         };
-        for (session, place) in [(16, 1), (18, 1), (17, 0), (17, 2), (0, 0)] {
+        for (session, place) in [(18, 1), (20, 1), (19, 0), (19, 2), (0, 0)] {
             assert_eq!(lengths(session, place), nothing);
         }
         let refused = Identified {
@@ -266,7 +272,7 @@ mod tests {
             place: Some(8),
             ..nothing
         };
-        assert_eq!(lengths(17, 1), refused);
+        assert_eq!(lengths(19, 1), refused);
     }
 
     #[test]

@@ -7,15 +7,15 @@
 //! wrong, or 1.
 
 use super::bits::Fault;
-use super::decode::{Accepted, Lent, Outcome, Session, Work, frame_call};
+use super::decode::{Accepted, Lent, Outcome, Work, frame_call};
 use super::frame::Kind;
 use super::samples::ways::Way;
-use super::session::{Fields, SESSION_NUMBERS};
+use super::session::{KEY_FRAMES, OTHERS, REFERENCES, SESSION_NUMBERS, Session};
 use super::table_face::Table;
 use super::work_memory::SLICES;
 
 /// How many numbers the answer of a frame has.
-pub const ANSWER_NUMBERS: usize = 7;
+pub const ANSWER_NUMBERS: usize = 8;
 
 /// Where the kind of an accepted frame stands among them, before how many qi it
 /// has and the qi.
@@ -75,17 +75,14 @@ pub struct Left {
 
 impl Lists<'_> {
     /// The session that the list says, or by what the lists of session and
-    /// answer are refused. "references: 0 is no, any other number is yes"
+    /// answer are refused.
     pub fn session(&self) -> Result<Session, u32> {
         let list: &[u64; SESSION_NUMBERS] = self.session.try_into().map_err(|_| 1u32)?;
-        let fields = Fields::of_session(list);
+        let session = Session::of_list(list);
         if self.answer.len() != ANSWER_NUMBERS {
-            return Err(if fields.sound() { 1 } else { 8 });
+            return Err(if session.sound() { 1 } else { 8 });
         }
-        Ok(Session {
-            fields,
-            references: list[SESSION_NUMBERS - 1] != 0,
-        })
+        Ok(session)
     }
 
     /// What is lent by the rules, but new.
@@ -132,11 +129,18 @@ impl Lists<'_> {
         }
     }
 
-    /// What an accepted call leaves: an intra frame sets the reference number to 1.
+    /// What an accepted call leaves: an intra frame sets the reference number to
+    /// 1, is one key frame more and sets the others to 0; another packet is one of
+    /// these.
     pub fn accepted(&self, accepted: &Accepted, new: Vec<u8>) -> Left {
         let mut session = self.session.to_vec();
-        if accepted.kind == Kind::Intra {
-            session[SESSION_NUMBERS - 1] = 1;
+        match accepted.kind {
+            Kind::Intra => {
+                session[REFERENCES] = 1;
+                session[KEY_FRAMES] += 1;
+                session[OTHERS] = 0;
+            }
+            Kind::Inter | Kind::Repeat => session[OTHERS] += 1,
         }
         Left {
             number: 0,
@@ -158,7 +162,7 @@ fn refused(fault: Fault) -> [u64; ANSWER_NUMBERS] {
 
 impl Accepted {
     /// As numbers: 0 and 0, since nothing is refused, the kind, how many qi there
-    /// are, and three qi, of which the others are 0.
+    /// are, three qi, of which the others are 0, and how many tokens were read.
     pub fn list(&self) -> [u64; ANSWER_NUMBERS] {
         let kind = match self.kind {
             Kind::Intra => 0,
@@ -166,20 +170,35 @@ impl Accepted {
             Kind::Repeat => 2,
         };
         let qi = |index: usize| self.qis.get(index).map_or(0, |qi| *qi as u64);
-        [0, 0, kind, self.qis.len() as u64, qi(0), qi(1), qi(2)]
+        let count = self.qis.len() as u64;
+        [0, 0, kind, count, qi(0), qi(1), qi(2), self.tokens]
     }
 }
 
 #[cfg(test)]
 mod tests {
+    use super::super::session::Fields;
     use super::super::setup::setup;
     use super::super::setup::tests::small;
     use super::super::table_memory::left_by;
     use super::*;
 
-    /// One macro block in 4:2:0, with this reference number.
+    /// One macro block in 4:2:0, with this reference number; at most one packet
+    /// may follow a key frame.
     fn session(references: u64) -> [u64; SESSION_NUMBERS] {
-        Fields::of_frame(1, 1, 0).session(references)
+        let fields = Fields {
+            kfgshift: 1,
+            ..Fields::of_frame(1, 1, 0)
+        };
+        fields.session(references)
+    }
+
+    /// The same with these numbers at its end.
+    fn counted(references: u64, key_frames: u64, others: u64) -> [u64; SESSION_NUMBERS] {
+        let mut list = session(references);
+        list[KEY_FRAMES] = key_frames;
+        list[OTHERS] = others;
+        list
     }
 
     /// A call with this session and so many numbers for the answer; what it
@@ -206,29 +225,31 @@ mod tests {
 
     #[test]
     fn numbers_of_accepted_frames() {
-        let repeat = vec![0, 0, 2, 0, 0, 0, 0];
-        let expected = (0, session(5).to_vec(), repeat, true);
-        assert_eq!(call(&session(5), &[], 7), expected);
+        let repeat = vec![0, 0, 2, 0, 0, 0, 0, 0];
+        let expected = (0, counted(5, 0, 1).to_vec(), repeat, true);
+        assert_eq!(call(&session(5), &[], 8), expected);
         let mut intra = INTRA.to_vec();
         intra.extend([0; 9]);
         for references in [0, 1, 7] {
-            let answer = vec![0, 0, 0, 2, 63, 1, 0];
-            let expected = (0, session(1).to_vec(), answer, true);
-            assert_eq!(call(&session(references), &intra, 7), expected);
+            let answer = vec![0, 0, 0, 2, 63, 1, 0, 6];
+            let expected = (0, counted(1, 8, 0).to_vec(), answer, true);
+            assert_eq!(call(&counted(references, 7, 1), &intra, 8), expected);
         }
     }
 
     #[test]
     fn a_refused_call_leaves_number_and_place() {
         let refused = |list: &[u64], packet, number: u32, place| {
-            let answer = vec![number.into(), place, 0, 0, 0, 0, 0];
+            let answer = vec![number.into(), place, 0, 0, 0, 0, 0, 0];
             let expected = (number, list.to_vec(), answer, false);
-            assert_eq!(call(list, packet, 7), expected);
+            assert_eq!(call(list, packet, 8), expected);
         };
         refused(&session(0), &[], 9, 0);
         refused(&session(0), &[0x40], 9, 1);
         refused(&session(3), &[0x80], 10, 0);
         refused(&session(3), &[63], 4, 8);
+        refused(&counted(3, 0, 1), &[], 17, 0);
+        refused(&counted(3, 0, 2), &[], 8, 0);
         let mut unsound = session(0);
         unsound[15] = 1;
         refused(&unsound, &[], 8, 0);
@@ -242,10 +263,11 @@ mod tests {
         };
         let mut unsound = session(0);
         unsound[15] = 1;
-        left(&unsound[..16], 7, 1);
-        left(&unsound[..16], 6, 1);
-        left(&unsound, 6, 8);
-        left(&session(0), 6, 1);
-        left(&session(0), 8, 1);
+        left(&unsound[..18], 8, 1);
+        left(&unsound[..18], 7, 1);
+        left(&counted(0, 0, 2), 7, 8);
+        left(&unsound, 7, 8);
+        left(&session(0), 7, 1);
+        left(&session(0), 9, 1);
     }
 }

@@ -1,7 +1,16 @@
-//! The identification fields that a session holds, and when they are sound.
+//! The session record: the identification fields and when they are sound,
+//! whether references exist, and the numbers that give a frame its place.
 
-/// How many numbers stand for a session: 16 fields and whether references exist.
-pub const SESSION_NUMBERS: usize = 17;
+use super::frame::Kind;
+
+/// How many numbers stand for a session: 16 fields, whether references exist,
+/// accepted key frames, and accepted others since the last.
+pub const SESSION_NUMBERS: usize = 19;
+
+/// Where the last three stand.
+pub const REFERENCES: usize = 16;
+pub const KEY_FRAMES: usize = 17;
+pub const OTHERS: usize = 18;
 
 /// The fields' names, in the order of a session's list.
 pub const NAMES: [&str; SESSION_NUMBERS] = [
@@ -22,6 +31,8 @@ pub const NAMES: [&str; SESSION_NUMBERS] = [
     "KFGSHIFT",
     "PF",
     "references",
+    "key frames",
+    "others",
 ];
 
 /// The fields' widths in bits, in the order of a session's list.
@@ -100,10 +111,11 @@ impl Fields {
         ]
     }
 
-    /// The session's list with these fields.
+    /// The session's list with these fields, in which nothing is counted yet.
     pub fn session(&self, references: u64) -> [u64; SESSION_NUMBERS] {
-        let mut list = [references; SESSION_NUMBERS];
+        let mut list = [0; SESSION_NUMBERS];
         list[..16].copy_from_slice(&self.numbers());
+        list[REFERENCES] = references;
         list
     }
 
@@ -153,9 +165,107 @@ impl Fields {
     }
 }
 
+/// "The session record holds the identification fields and whether references
+/// exist"; it "gains two numbers"
+#[derive(Clone, Debug, PartialEq, Eq)]
+pub struct Session {
+    /// The identification fields.
+    pub fields: Fields,
+    /// Whether references exist.
+    pub references: bool,
+    /// "accepted key frames"
+    pub key_frames: u64,
+    /// "accepted other packets since the last one"
+    pub others: u64,
+}
+
+impl Session {
+    /// "Both start at 0".
+    pub fn fresh(fields: Fields) -> Session {
+        Session {
+            fields,
+            references: false,
+            key_frames: 0,
+            others: 0,
+        }
+    }
+
+    /// The session that a list says. "references: 0 is no, any other number is
+    /// yes"
+    pub fn of_list(list: &[u64; SESSION_NUMBERS]) -> Session {
+        Session {
+            fields: Fields::of_session(list),
+            references: list[REFERENCES] != 0,
+            key_frames: list[KEY_FRAMES],
+            others: list[OTHERS],
+        }
+    }
+
+    /// The bound of the second number, "2 to the power KFGSHIFT". The fields are
+    /// sound.
+    pub fn bound(&self) -> u64 {
+        2_u64.pow(self.fields.kfgshift as u32)
+    }
+
+    /// Whether the session breaks no part of 8: neither its fields, nor "a
+    /// session whose second number breaks this".
+    pub fn sound(&self) -> bool {
+        self.fields.sound() && self.others < self.bound()
+    }
+
+    /// The session after an accepted packet, or none where the packet is refused
+    /// by 17. "A key frame sets the second to 0. The first has 64 bits, and a key
+    /// frame that would pass them is refused"; "An empty packet counts as other";
+    /// the second "must stay below" its bound.
+    pub fn after(&self, kind: Kind) -> Option<Session> {
+        match kind {
+            Kind::Intra => Some(Session {
+                fields: self.fields.clone(),
+                references: true,
+                key_frames: self.key_frames.checked_add(1)?,
+                others: 0,
+            }),
+            Kind::Inter | Kind::Repeat => {
+                let others = self.others + 1;
+                (others < self.bound()).then(|| Session {
+                    others,
+                    ..self.clone()
+                })
+            }
+        }
+    }
+}
+
 #[cfg(test)]
 mod tests {
     use super::*;
+
+    #[test]
+    fn places_among_key_frames() {
+        let mut fields = small();
+        fields.kfgshift = 1;
+        let session = Session::fresh(fields);
+        let at = |session: &Session| (session.references, session.key_frames, session.others);
+        let key = session.after(Kind::Intra).unwrap();
+        assert_eq!(at(&key), (true, 1, 0));
+        let other = key.after(Kind::Repeat).unwrap();
+        assert_eq!(at(&other), (true, 1, 1));
+        assert_eq!(other.after(Kind::Inter), None);
+        assert_eq!(other.after(Kind::Repeat), None);
+        assert_eq!(at(&other.after(Kind::Intra).unwrap()), (true, 2, 0));
+        let last = Session {
+            key_frames: u64::MAX,
+            ..key.clone()
+        };
+        assert_eq!(last.after(Kind::Intra), None);
+        assert!(last.after(Kind::Inter).is_some());
+        let mut none = key;
+        none.fields.kfgshift = 0;
+        assert_eq!(none.after(Kind::Inter), None);
+        assert!(none.sound());
+        none.others = 1;
+        assert!(!none.sound());
+    }
 
     /// Fields of 3 by 2 macro blocks.
     fn small() -> Fields {
@@ -181,7 +291,10 @@ mod tests {
     #[test]
     fn lists_go_both_ways() {
         let list: [u64; SESSION_NUMBERS] = std::array::from_fn(|i| i as u64 + 100);
-        assert_eq!(Fields::of_session(&list).session(116), list);
+        let again = Fields::of_session(&list).session(116);
+        assert_eq!((&again[..17], &again[17..]), (&list[..17], &[0, 0][..]));
+        let session = Session::of_list(&list);
+        assert_eq!((session.key_frames, session.others), (117, 118));
     }
 
     #[test]

@@ -35,6 +35,8 @@ pub fn session() -> Session {
         kfgshift: 6,
         pf: 0,
         references: false,
+        key_frames: 0,
+        others: 0,
     }
 }
 

@@ -9,8 +9,9 @@ use Rattle.headers.proofs.Fitting.{fits-macro-blocks}
 use Rattle.work_memory.specs.Memory.{Memory}
 use Rattle.work_memory.specs.Lengths.{blocks, published, cleared}
 use Rattle.reading.proofs.Held.{tables-held, trees-held}
-use Rattle.decoding.proofs.Decoded.{on-refused, lent, header-few, on-accepted}
+use Rattle.decoding.proofs.Decoded.{on-refused, on-17, lent, header-few, on-accepted}
 use borrow.Author.Needs.{needs}
+use borrow.Author.Tests.{not-true, not-false}
 use Rattle.decoding.proofs.decode_packet.Statement.{statement}
 use Rattle.decoding.proofs.decode_packet.Tie as tie
 
@@ -38,103 +39,148 @@ refusal-requires c κs = search needs
 enum-known-read-2 : tie.Need-enum-known-read-2
 enum-known-read-2 c = search needs
 
+stays-counted-requires : tie.Need-stays-counted-requires
+stays-counted-requires c κs = c .before .before .before .before .before .before .before .before .before .before .before .before .before .before .before .before .before .before .before .before .before .before .before .before .before .before .before .before .before .before .before .before .before .before .before .before .before .before .before .before .before .before .before .before .before .before .before .before .pre .0 .0
+
+clear-read-requires : tie.Need-clear-read-requires
+clear-read-requires c κs = search needs
+
+refusal-requires-2 : tie.Need-refusal-requires-2
+refusal-requires-2 c κs = search needs
+
+same-length : tie.Need-same-length
+same-length c = c .before .before .before .before .before .before .before .records2 .given ∙ c .before .before .before .before .before .before .before .before .before .before .before .before .before .before .before .before .before .before .before .before .before .before .before .before .before .before .before .before .before .before .before .before .before .before .before .records .given
+
+same-length-2 : tie.Need-same-length-2
+same-length-2 c = c .before .before .before .before .before .coded2 .given ∙ c .before .before .before .before .before .before .before .before .before .before .before .before .before .before .before .before .before .before .before .before .before .before .before .before .before .before .before .before .before .before .before .before .before .coded .given
+
+same-length-3 : tie.Need-same-length-3
+same-length-3 c = c .before .before .before .coefs2 .given ∙ c .before .before .before .before .before .before .before .before .before .before .before .before .before .before .before .before .before .before .before .before .before .before .before .before .before .before .before .before .before .before .before .coefs .given
+
+same-length-4 : tie.Need-same-length-4
+same-length-4 c = c .before .before .lasts2 .given ∙ c .before .before .before .before .before .before .before .before .before .before .before .before .before .before .before .before .before .before .before .before .before .before .before .before .before .before .before .before .before .before .lasts .given
+
+same-length-5 : tie.Need-same-length-5
+same-length-5 c = c .before .before .before .before .before .before .before .before .before .before .before .before .before .before .before .before .before .before .before .before .before .before .before .before .before .before .before .before .flags .given
+
+same-length-6 : tie.Need-same-length-6
+same-length-6 c = c .before .before .before .before .before .before .before .before .before .before .before .before .before .before .before .before .before .before .before .before .before .before .before .before .before .before .bits .given
+
+same-length-7 : tie.Need-same-length-7
+same-length-7 c = c .before .before .before .before .before .before .before .before .before .before .before .before .before .before .before .before .before .before .before .before .before .before .before .before .supers .given
+
+same-length-8 : tie.Need-same-length-8
+same-length-8 c = c .before .before .before .before .before .before .before .before .before .before .before .before .before .before .before .before .before .before .before .before .before .before .modes .given
+
+same-length-9 : tie.Need-same-length-9
+same-length-9 c = c .before .before .before .before .before .before .before .before .before .before .before .before .before .before .before .before .before .before .before .before .active .given
+
+returns : tie.Need-returns
+returns c = λ setup h.
+    let z = c .before .before .before .before .before .before .before .before .before .before .before .before .before .before .before .before .before .before .before .before .before .before .before .before .before .before .before .before .before .before .before .before .before .before .before .before .before .before .before .before .before .before .before .before .before .before .before .before .before .before .before .before .before .before .before .before .before .before .before .before .before .before .before in
+    let a = z .args in
+    let r = c .before .before .before .before .before .before .before .before .before .before .before .before .before .before .before .before .before .before .before .before .before .before .before .before .before .before .before .before .before .before .before .before .before .before .before .before .read-frame in
+    on-17 (a .s) setup (a .packet .now) (a .t4 .nodes) (trees-held (a .table .now) (a .t4) h) (c .before .before .before .before .before .before .before .before .before .before .before .before .before .before .before .before .before .before .before .before .before .before .before .before .before .before .before .before .before .before .before .before .before .before .before .before .before .before .before .before .before .before .before .before .before .before .before .before .before .pixel-format .ensures) (r .ensures .0) (r .ensures .1) (c .before .before .before .before .before .before .before .before .before .before .before .before .before .before .before .before .before .read2 .given .1)
+    (a .golden .now) (a .previous .now) (a .new .now) _ _ _ (a .dc .now) _ (ap (λ (m : Memory). m .dc) (z .pre .1 .0)) (c .before .before .before .before .before .before .before .before .clear-read .ensures)
+    (sym (c .before .before .before .before .before .before .before .before .before .before .before .before .before .before .stays-counted .ensures) ∙ not-true _ (c .before .before .before .before .before .before .before .before .before .before .before .before .before .if1 .taken)) (c .refusal2 .result) (c .refusal2 .ensures)
+
 make-requires : tie.Need-make-requires
 make-requires c κs =
-    let z = c .before .before .before .before .before .before .before .before .before .before .before .before .before .before .before .before .before .before .before .before .before .before .before .before .before .before .before .before .before .before .before .before .before .before .before .before .before .before .before .before .before .before .before .before .before .before .before .before .before .before .before .before .before .before in
+    let z = c .before .before .before .before .before .before .before .before .before .before .before .before .before .before .before .before .before .before .before .before .before .before .before .before .before .before .before .before .before .before .before .before .before .before .before .before .before .before .before .before .before .before .before .before .before .before .before .before .before .before .before .before .before .before .before .before in
     let a = z .args in
-    let r = c .before .before .before .before .before .before .before .before .before .before .before .before .before .before .before .before .before .before .before .before .before .before .before .before .before .before .before .read-frame in
+    let r = c .before .before .before .before .before .before .before .before .before .before .before .before .before .before .before .before .before .before .before .before .before .before .before .before .before .before .before .before .before .read-frame in
     let setup = z .pre .0 .3 .0 in
     let t = trees-held (a .table .now) (a .t4) (z .pre .0 .3 .1) in
-    let ef = c .before .before .before .before .before .before .before .before .before .before .before .before .before .before .before .before .before .before .before .before .before .before .before .before .before .before .before .before .before .before .before .before .before .before .before .before .before .before .before .before .pixel-format .ensures in
+    let ef = c .before .before .before .before .before .before .before .before .before .before .before .before .before .before .before .before .before .before .before .before .before .before .before .before .before .before .before .before .before .before .before .before .before .before .before .before .before .before .before .before .before .before .pixel-format .ensures in
     let k = fits-macro-blocks (a .s) (z .pre .0 .0) in
-    let q = header-few (a .s) setup (a .packet .now) (a .t4 .nodes) t ef (r .ensures .0) (r .ensures .1) (c .before .before .before .before .before .before .before .before .read2 .given .1) in
-    let b = lent (a .s) setup (a .packet .now) (a .t4 .nodes) t ef (r .ensures .0) (r .ensures .1) (c .before .before .before .before .before .before .before .before .read2 .given .1) in
+    let q = header-few (a .s) setup (a .packet .now) (a .t4 .nodes) t ef (r .ensures .0) (r .ensures .1) (c .before .before .before .before .before .before .before .before .before .before .read2 .given .1) in
+    let b = lent (a .s) setup (a .packet .now) (a .t4 .nodes) t ef (r .ensures .0) (r .ensures .1) (c .before .before .before .before .before .before .before .before .before .before .read2 .given .1) in
     let m = z .pre .1 in
-    let n : 64 * blocks (a .s) ≡ 64 * blocksOf (c .before .before .before .before .before .before .before .before .before .before .before .before .before .before .before .before .before .before .before .before .before .before .before .before .before .before .before .before .before .before .before .before .before .before .before .before .before .before .before .before .pixel-format .result) (a .s .fields .fmbw) (a .s .fields .fmbh) = ap (λ (f : PixelFormat). 64 * blocksOf f (a .s .fields .fmbw) (a .s .fields .fmbh)) (sym ef) in (
+    let n : 64 * blocks (a .s) ≡ 64 * blocksOf (c .before .before .before .before .before .before .before .before .before .before .before .before .before .before .before .before .before .before .before .before .before .before .before .before .before .before .before .before .before .before .before .before .before .before .before .before .before .before .before .before .before .before .pixel-format .result) (a .s .fields .fmbw) (a .s .fields .fmbh) = ap (λ (f : PixelFormat). 64 * blocksOf f (a .s .fields .fmbw) (a .s .fields .fmbh)) (sym ef) in (
       (z .pre .0 .2, z .pre .0 .3, q .1, q .0, k .1, k .3),
       (b, ap (λ (m : Memory). m .dc) (m .0) ∙ ap (λ (f : PixelFormat). replicate (blocksOf f (a .s .fields .fmbw) (a .s .fields .fmbh)) (pos 0)) (sym ef), m .1 ∙ n, m .2 ∙ n, m .3 ∙ n),
     )
 
 session-after-requires : tie.Need-session-after-requires
-session-after-requires c κs = search needs
+session-after-requires c κs = (c .before .before .before .before .before .before .before .before .before .before .before .before .before .before .before .before .before .before .before .before .before .before .before .before .before .before .before .before .before .before .before .before .before .before .before .before .before .before .before .before .before .before .before .before .before .before .before .before .before .before .before .before .before .before .before .before .before .before .before .before .before .before .before .before .before .before .before .pre .0 .0, sym (c .before .before .before .before .before .before .before .before .before .before .before .before .before .before .before .before .before .before .stays-counted .ensures) ∙ not-false _ (c .before .before .before .before .before .before .before .before .before .before .before .before .before .before .before .before .before .if1 .left))
 
-same-length : tie.Need-same-length
-same-length c = search needs
+same-length-10 : tie.Need-same-length-10
+same-length-10 c = c .before .before .before .before .before .before .before .before .before .before .before .before .before .before .before .before .before .before .before .before .records .given
 
-same-length-2 : tie.Need-same-length-2
-same-length-2 c = search needs
+same-length-11 : tie.Need-same-length-11
+same-length-11 c = c .before .before .before .before .before .before .before .before .before .before .before .before .before .before .before .before .before .before .coded .given
 
-same-length-3 : tie.Need-same-length-3
-same-length-3 c = search needs
+same-length-12 : tie.Need-same-length-12
+same-length-12 c = c .before .before .before .before .before .before .before .before .before .before .before .before .before .before .before .before .coefs .given
 
-same-length-4 : tie.Need-same-length-4
-same-length-4 c = search needs
+same-length-13 : tie.Need-same-length-13
+same-length-13 c = c .before .before .before .before .before .before .before .before .before .before .before .before .before .before .before .lasts .given
 
-same-length-5 : tie.Need-same-length-5
-same-length-5 c = search needs
+same-length-14 : tie.Need-same-length-14
+same-length-14 c = c .before .before .before .before .before .before .before .before .before .before .before .before .before .flags .given
 
-same-length-6 : tie.Need-same-length-6
-same-length-6 c = search needs
+same-length-15 : tie.Need-same-length-15
+same-length-15 c = c .before .before .before .before .before .before .before .before .before .before .before .bits .given
 
-same-length-7 : tie.Need-same-length-7
-same-length-7 c = search needs
+same-length-16 : tie.Need-same-length-16
+same-length-16 c = c .before .before .before .before .before .before .before .before .before .supers .given
 
-same-length-8 : tie.Need-same-length-8
-same-length-8 c = search needs
+same-length-17 : tie.Need-same-length-17
+same-length-17 c = c .before .before .before .before .before .before .before .modes .given
 
-same-length-9 : tie.Need-same-length-9
-same-length-9 c = search needs
+same-length-18 : tie.Need-same-length-18
+same-length-18 c = c .before .before .before .before .before .active .given
 
-returns : tie.Need-returns
-returns c = λ setup h.
+returns-2 : tie.Need-returns-2
+returns-2 c = λ setup h.
     let z = c .before .before .before .before .before .before .before .before .before .before .before .before .before .before .before .before .before .before .before .before .before .before .before .before .before .before .before .before .before .before .before .before .before .before .before .before .before .before .before .before .before .before .before .before .before .before .before .before in
     let a = z .args in
     let r = c .before .before .before .before .before .before .before .before .before .before .before .before .before .before .before .before .before .before .before .before .before .read-frame in
     on-refused (a .s) setup (a .packet .now) (a .t4 .nodes) (trees-held (a .table .now) (a .t4) h) (c .before .before .before .before .before .before .before .before .before .before .before .before .before .before .before .before .before .before .before .before .before .before .before .before .before .before .before .before .before .before .before .before .before .before .pixel-format .ensures) (r .ensures .0) (r .ensures .1) (a .golden .now) (a .previous .now) (a .new .now)
     (c .before .before .read .given .1) (c .refusal .result) (c .refusal .ensures) (a .dc .now) (ap (λ (m : Memory). m .dc) (z .pre .1 .0))
 
-same-length-10 : tie.Need-same-length-10
-same-length-10 c = c .before .before .before .before .before .before .before .before .before .before .records2 .given ∙ c .before .before .before .before .before .before .before .before .before .before .before .before .before .before .before .before .before .before .before .before .before .before .before .before .before .before .before .before .before .before .before .before .before .before .before .before .before .before .records .given
-
-same-length-11 : tie.Need-same-length-11
-same-length-11 c = c .before .before .before .before .before .before .before .before .coded2 .given ∙ c .before .before .before .before .before .before .before .before .before .before .before .before .before .before .before .before .before .before .before .before .before .before .before .before .before .before .before .before .before .before .before .before .before .before .before .before .coded .given
-
-same-length-12 : tie.Need-same-length-12
-same-length-12 c = c .before .before .before .before .before .before .coefs2 .given ∙ c .before .before .before .before .before .before .before .before .before .before .before .before .before .before .before .before .before .before .before .before .before .before .before .before .before .before .before .before .before .before .before .before .before .before .coefs .given
-
-same-length-13 : tie.Need-same-length-13
-same-length-13 c = search needs
-
-same-length-14 : tie.Need-same-length-14
-same-length-14 c = c .before .before .before .before .lasts2 .given ∙ c .before .before .before .before .before .before .before .before .before .before .before .before .before .before .before .before .before .before .before .before .before .before .before .before .before .before .before .before .before .before .before .before .before .lasts .given
-
-same-length-15 : tie.Need-same-length-15
-same-length-15 c = c .before .before .before .before .before .before .before .before .before .before .before .before .before .before .before .before .before .before .before .before .before .before .before .before .before .before .before .before .before .before .before .flags .given
-
-same-length-16 : tie.Need-same-length-16
-same-length-16 c = c .before .before .before .before .before .before .before .before .before .before .before .before .before .before .before .before .before .before .before .before .before .before .before .before .before .before .before .before .before .bits .given
-
-same-length-17 : tie.Need-same-length-17
-same-length-17 c = c .before .before .before .before .before .before .before .before .before .before .before .before .before .before .before .before .before .before .before .before .before .before .before .before .before .before .before .supers .given
-
-same-length-18 : tie.Need-same-length-18
-same-length-18 c = c .before .before .before .before .before .before .before .before .before .before .before .before .before .before .before .before .before .before .before .before .before .before .before .before .before .modes .given
-
 same-length-19 : tie.Need-same-length-19
-same-length-19 c = c .before .before .before .before .before .before .before .before .before .before .before .before .before .before .before .before .before .before .before .before .before .before .before .active .given
+same-length-19 c = c .before .before .before .before .before .before .before .before .before .before .records3 .given ∙ c .before .before .before .before .before .before .before .before .before .before .before .before .before .before .before .before .before .before .before .before .before .before .before .before .before .before .before .before .before .before .before .before .before .before .before .before .before .before .before .before .records .given
 
 same-length-20 : tie.Need-same-length-20
-same-length-20 c = search needs
+same-length-20 c = c .before .before .before .before .before .before .before .before .coded3 .given ∙ c .before .before .before .before .before .before .before .before .before .before .before .before .before .before .before .before .before .before .before .before .before .before .before .before .before .before .before .before .before .before .before .before .before .before .before .before .before .before .coded .given
 
-returns-2 : tie.Need-returns-2
-returns-2 c = λ setup h.
-    let z = c .before .before .before .before .before .before .before .before .before .before .before .before .before .before .before .before .before .before .before .before .before .before .before .before .before .before .before .before .before .before .before .before .before .before .before .before .before .before .before .before .before .before .before .before .before .before .before .before .before .before .before .before .before .before .before .before .before .before .before .before .before .before .before .before .before .before in
+same-length-21 : tie.Need-same-length-21
+same-length-21 c = c .before .before .before .before .before .before .coefs3 .given ∙ c .before .before .before .before .before .before .before .before .before .before .before .before .before .before .before .before .before .before .before .before .before .before .before .before .before .before .before .before .before .before .before .before .before .before .before .before .coefs .given
+
+same-length-22 : tie.Need-same-length-22
+same-length-22 c = c .before .before .before .before .before .dc .given
+
+same-length-23 : tie.Need-same-length-23
+same-length-23 c = c .before .before .before .before .lasts3 .given ∙ c .before .before .before .before .before .before .before .before .before .before .before .before .before .before .before .before .before .before .before .before .before .before .before .before .before .before .before .before .before .before .before .before .before .before .before .lasts .given
+
+same-length-24 : tie.Need-same-length-24
+same-length-24 c = c .before .before .before .before .before .before .before .before .before .before .before .before .before .before .before .before .before .before .before .before .before .before .before .before .before .before .before .before .before .before .before .before .before .flags .given
+
+same-length-25 : tie.Need-same-length-25
+same-length-25 c = c .before .before .before .before .before .before .before .before .before .before .before .before .before .before .before .before .before .before .before .before .before .before .before .before .before .before .before .before .before .before .before .bits .given
+
+same-length-26 : tie.Need-same-length-26
+same-length-26 c = c .before .before .before .before .before .before .before .before .before .before .before .before .before .before .before .before .before .before .before .before .before .before .before .before .before .before .before .before .before .supers .given
+
+same-length-27 : tie.Need-same-length-27
+same-length-27 c = c .before .before .before .before .before .before .before .before .before .before .before .before .before .before .before .before .before .before .before .before .before .before .before .before .before .before .before .modes .given
+
+same-length-28 : tie.Need-same-length-28
+same-length-28 c = c .before .before .before .before .before .before .before .before .before .before .before .before .before .before .before .before .before .before .before .before .before .before .before .before .before .active .given
+
+same-length-29 : tie.Need-same-length-29
+same-length-29 c = c .before .before .new .given
+
+returns-3 : tie.Need-returns-3
+returns-3 c = λ setup h.
+    let z = c .before .before .before .before .before .before .before .before .before .before .before .before .before .before .before .before .before .before .before .before .before .before .before .before .before .before .before .before .before .before .before .before .before .before .before .before .before .before .before .before .before .before .before .before .before .before .before .before .before .before .before .before .before .before .before .before .before .before .before .before .before .before .before .before .before .before .before .before in
     let a = z .args in
-    let r = c .before .before .before .before .before .before .before .before .before .before .before .before .before .before .before .before .before .before .before .before .before .before .before .before .before .before .before .before .before .before .before .before .before .before .before .before .before .before .before .read-frame in
+    let r = c .before .before .before .before .before .before .before .before .before .before .before .before .before .before .before .before .before .before .before .before .before .before .before .before .before .before .before .before .before .before .before .before .before .before .before .before .before .before .before .before .before .read-frame in
     let k = c .before .before .before .before .before .before .before .before .before .before .before .make in
-    on-accepted (a .s) setup (a .packet .now) (a .t4 .nodes) (trees-held (a .table .now) (a .t4) h) (c .before .before .before .before .before .before .before .before .before .before .before .before .before .before .before .before .before .before .before .before .before .before .before .before .before .before .before .before .before .before .before .before .before .before .before .before .before .before .before .before .before .before .before .before .before .before .before .before .before .before .before .before .pixel-format .ensures) (r .ensures .0) (r .ensures .1) (c .before .before .before .before .before .before .before .before .before .before .before .before .before .before .before .before .before .before .before .before .read2 .given .1)
+    on-accepted (a .s) setup (a .packet .now) (a .t4 .nodes) (trees-held (a .table .now) (a .t4) h) (c .before .before .before .before .before .before .before .before .before .before .before .before .before .before .before .before .before .before .before .before .before .before .before .before .before .before .before .before .before .before .before .before .before .before .before .before .before .before .before .before .before .before .before .before .before .before .before .before .before .before .before .before .before .before .pixel-format .ensures) (r .ensures .0) (r .ensures .1) (c .before .before .before .before .before .before .before .before .before .before .before .before .before .before .before .before .before .before .before .before .before .before .read2 .given .1)
     (a .golden .now) (a .previous .now) _ (k .ensures .0 setup h) _ _ _ _ (a .dc .now) _ (ap (λ (m : Memory). m .dc) (z .pre .1 .0)) (k .ensures .1)
-    (a .new .now) (c .session-after .result) (c .session-after .ensures)
+    (a .new .now) (c .session-after .result) (sym (c .before .before .before .before .before .before .before .before .before .before .before .before .before .before .before .before .before .before .before .stays-counted .ensures) ∙ not-false _ (c .before .before .before .before .before .before .before .before .before .before .before .before .before .before .before .before .before .before .if1 .left)) (c .session-after .ensures)
 
 pub decode-packet-spec : {M : Type 1} → statement M
 decode-packet-spec =
@@ -145,8 +191,9 @@ decode-packet-spec =
     enum-known-read
     refusal-requires
     enum-known-read-2
-    make-requires
-    session-after-requires
+    stays-counted-requires
+    clear-read-requires
+    refusal-requires-2
     same-length
     same-length-2
     same-length-3
@@ -157,6 +204,8 @@ decode-packet-spec =
     same-length-8
     same-length-9
     returns
+    make-requires
+    session-after-requires
     same-length-10
     same-length-11
     same-length-12
@@ -166,6 +215,16 @@ decode-packet-spec =
     same-length-16
     same-length-17
     same-length-18
+    returns-2
     same-length-19
     same-length-20
-    returns-2)
+    same-length-21
+    same-length-22
+    same-length-23
+    same-length-24
+    same-length-25
+    same-length-26
+    same-length-27
+    same-length-28
+    same-length-29
+    returns-3)

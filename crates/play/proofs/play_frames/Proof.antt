@@ -83,7 +83,7 @@ loop-again c =
       length-front (u .loop .golden) (e .0) n (c .before .before .golden2 .given) ∙ u .loop .inv .1,
       length-front (u .loop .previous) (e .1 .0) n (c .before .previous2 .given) ∙ u .loop .inv .2,
       length-front (u .loop .new) (e .1 .1 .0) n (c .new2 .given) ∙ u .loop .inv .3,
-      search needs,
+      c .before .before .before .before .before .before .before .before .before .before .before .buffer .given ∙ u .loop .inv .4,
     )
 
 same-length-2 : tie.Need-same-length-2 Inv-loop μ-loop

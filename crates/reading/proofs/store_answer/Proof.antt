@@ -6,14 +6,14 @@ use Rattle.reading.specs.Answer.{answerNumbers}
 use Rattle.reading.proofs.store_answer.Statement.{statement}
 use Rattle.reading.proofs.store_answer.Tie as tie
 
-enum-told : tie.Need-enum-told
-enum-told c = search needs
+enum-known-verdict : tie.Need-enum-known-verdict
+enum-known-verdict c = search needs
 
 store-header-requires : tie.Need-store-header-requires
 store-header-requires c κs = search needs
 
-enum-known-verdict : tie.Need-enum-known-verdict
-enum-known-verdict c = search needs
+enum-known-verdict-2 : tie.Need-enum-known-verdict-2
+enum-known-verdict-2 c = search needs
 
 cast-number : tie.Need-cast-number
 cast-number c = search needs
@@ -28,22 +28,22 @@ same-length : tie.Need-same-length
 same-length c = search needs
 
 returns : tie.Need-returns
-returns c = let a = c .before .before .before .before .before .before .before .args in c .before .before .store-header .ensures ∙ sym (ap (λ (v : Verdict). answerNumbers v (a .header)) (c .before .before .before .before .enum-told .given .1))
+returns c = c .before .before .store-header .ensures ∙ sym (ap (λ (v : Verdict). answerNumbers v (c .before .before .before .before .before .before .before .before .args .header)) (c .before .before .before .before .before .verdict .given .1))
 
 same-length-2 : tie.Need-same-length-2
 same-length-2 c = search needs
 
 returns-2 : tie.Need-returns-2
 unfolding answerNumbers
-returns-2 c = let a = c .before .before .before .before .before .before .before .before .before .args in c .before .before .copy-longs .ensures ∙ sym (ap (λ (v : Verdict). answerNumbers v (a .header)) (c .before .before .before .before .before .before .verdict .given .1))
+returns-2 c = c .before .before .copy-longs .ensures ∙ sym (ap (λ (v : Verdict). answerNumbers v (c .before .before .before .before .before .before .before .before .before .args .header)) (c .before .before .before .before .before .before .verdict2 .given .1))
 
 pub store-answer-spec : {M : Type 1} → statement M
 store-answer-spec =
     tie.close
     (tie.spec
-    enum-told
-    store-header-requires
     enum-known-verdict
+    store-header-requires
+    enum-known-verdict-2
     cast-number
     slice-aggregate-copy-longs
     copy-longs-requires

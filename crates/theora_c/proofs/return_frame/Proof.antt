@@ -1,5 +1,7 @@
 -- `theora_c::return_frame` meets its contract. Assumes nothing.
 use borrow.Author.Needs.{needs}
+use native.Mathlib.Omega.{arith}
+use lib.ListN.{length-set}
 use Rattle.theora_c.proofs.Calls.{frame-accepted, frame-refused}
 use Rattle.theora_c.proofs.return_frame.Statement.{statement}
 use Rattle.theora_c.proofs.return_frame.Tie as tie
@@ -19,6 +21,12 @@ reference-number-requires c κs = search needs
 slice-write-session : tie.Need-slice-write-session
 slice-write-session c = search needs
 
+slice-write-session-2 : tie.Need-slice-write-session-2
+slice-write-session-2 c = simp length-set (omega (arith, c .before .before .before .before .before .before .before .before .before .before .before .before .pre .0))
+
+slice-write-session-3 : tie.Need-slice-write-session-3
+slice-write-session-3 c = simp length-set (omega (arith, c .before .before .before .before .before .before .before .before .before .before .before .before .pre .0))
+
 enum-known-verdict : tie.Need-enum-known-verdict
 enum-known-verdict c = search needs
 
@@ -29,13 +37,13 @@ same-length-2 : tie.Need-same-length-2
 same-length-2 c = search needs
 
 returns : tie.Need-returns
-returns c = frame-accepted (c .before .before .before .before .before .before .before .before .before .before .before .args .session .now) (c .before .before .before .before .before .before .before .before .before .before .before .args .answer .header) (c .before .before .before .before .before .before .store-answer .ensures) (c .before .before .enum-told .given .1) (c .reference-number .ensures)
+returns c = frame-accepted (c .before .before .before .before .before .before .before .before .before .before .before .before .args .session .now) (c .before .before .before .before .before .before .before .before .before .before .before .before .args .answer .header) (c .before .before .before .before .before .before .before .before .before .before .before .before .args .answer .session) (c .before .before .before .before .before .before .store-answer .ensures) (c .before .before .enum-told .given .1) (c .reference-number .ensures)
 
 same-length-3 : tie.Need-same-length-3
 same-length-3 c = search needs
 
 returns-2 : tie.Need-returns-2
-returns-2 c = frame-refused (c .before .before .before .before .before .before .before .before .before .before .args .session .now) (c .before .before .before .before .before .before .before .before .before .before .args .answer .header) (c .before .before .before .before .before .store-answer .ensures) (c .before .verdict .given .1)
+returns-2 c = frame-refused (c .before .before .before .before .before .before .before .before .before .before .before .args .session .now) (c .before .before .before .before .before .before .before .before .before .before .before .args .answer .header) (c .before .before .before .before .before .before .before .before .before .before .before .args .answer .session) (c .before .before .before .before .before .store-answer .ensures) (c .before .verdict .given .1)
 
 pub return-frame-spec : {M : Type 1} → statement M
 return-frame-spec =
@@ -46,6 +54,8 @@ return-frame-spec =
     slice-read-before
     reference-number-requires
     slice-write-session
+    slice-write-session-2
+    slice-write-session-3
     enum-known-verdict
     same-length
     same-length-2

@@ -56,6 +56,12 @@ shared-slice-read-t33 c = search needs
 shared-slice-read-t36 : tie.Need-shared-slice-read-t36
 shared-slice-read-t36 c = search needs
 
+shared-slice-read-t39 : tie.Need-shared-slice-read-t39
+shared-slice-read-t39 c = search needs
+
+shared-slice-read-t41 : tie.Need-shared-slice-read-t41
+shared-slice-read-t41 c = search needs
+
 returns : tie.Need-returns
 unfolding sessionOf
 returns c = refl
@@ -81,4 +87,6 @@ session-of-spec =
     shared-slice-read-t31
     shared-slice-read-t33
     shared-slice-read-t36
+    shared-slice-read-t39
+    shared-slice-read-t41
     returns)

@@ -12,7 +12,7 @@ lists-refusal-requires c κs = search needs
 session-of-requires : tie.Need-session-of-requires
 session-of-requires c κs =
     let a = c .before .before .before .before .before .before .before .before .before .before .before .before .before .before .before .before .before .before .before .args in
-    lengths 7 (a .session .now) (length (a .answer .now)) (sym (c .before .before .lists-refusal .ensures) ∙ c .before .if1 .taken) .0
+    lengths 8 (a .session .now) (length (a .answer .now)) (sym (c .before .before .lists-refusal .ensures) ∙ c .before .if1 .taken) .0
 
 frame-requires : tie.Need-frame-requires
 frame-requires c κs = search needs
@@ -20,7 +20,7 @@ frame-requires c κs = search needs
 return-frame-requires : tie.Need-return-frame-requires
 return-frame-requires c κs =
     let a = c .before .before .before .before .before .before .before .before .before .before .before .before .before .before .before .before .before .before .before .before .before .before .before .before .before .before .before .before .before .before .before .before .before .before .before .before .before .before .before .before .before .before .before .before .before .before .before .before .before .before .before .before .before .before .args in
-    lengths 7 (a .session .now) (length (a .answer .now)) (sym (c .before .before .before .before .before .before .before .before .before .before .before .before .before .before .before .before .before .before .before .before .before .before .before .before .before .before .before .before .before .before .before .before .before .before .before .before .before .lists-refusal .ensures) ∙ c .before .before .before .before .before .before .before .before .before .before .before .before .before .before .before .before .before .before .before .before .before .before .before .before .before .before .before .before .before .before .before .before .before .before .before .before .if1 .taken)
+    lengths 8 (a .session .now) (length (a .answer .now)) (sym (c .before .before .before .before .before .before .before .before .before .before .before .before .before .before .before .before .before .before .before .before .before .before .before .before .before .before .before .before .before .before .before .before .before .before .before .before .before .lists-refusal .ensures) ∙ c .before .before .before .before .before .before .before .before .before .before .before .before .before .before .before .before .before .before .before .before .before .before .before .before .before .before .before .before .before .before .before .before .before .before .before .before .if1 .taken)
 
 same-length : tie.Need-same-length
 same-length c = search needs
