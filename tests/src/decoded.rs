@@ -7,6 +7,7 @@ use crate::frame_calls::{Caller, answer};
 use crate::frames::{self, Frame};
 use crate::generate::cases::buffer;
 use crate::library;
+use crate::padding;
 use crate::random::Random;
 use crate::reference::decode::{Accepted, Decoder};
 use crate::reference::frame::{FramePacket, Kind};
@@ -96,9 +97,11 @@ pub fn compare(files: &[String]) -> Result<(), String> {
         total.reached
     );
     println!("{}", run.four);
-    println!("damaged packets:\n{}", run.damaged);
+    println!("damaged packets, and all packets padded:\n{}", run.damaged);
     println!("lists with other calls among the packets:\n{}", run.lists);
-    crate::all_tried(&run.four.missed(), files.len() >= ENOUGH_RECORDINGS)
+    let padded = run.damaged.padded.missed_of_frames(padding::OF_FRAME);
+    let missed = [run.four.missed(), padded].concat();
+    crate::all_tried(&missed, files.len() >= ENOUGH_RECORDINGS)
 }
 
 /// What is compared beside the frames.
@@ -106,7 +109,7 @@ struct Run {
     random: Random,
     /// Cases of four vectors in the packets as they are.
     four: FourCases,
-    /// Damaged packets.
+    /// Damaged packets, and all packets with bytes behind them.
     damaged: frames::Report,
     /// Lists of calls.
     lists: call_lists::Report,
@@ -136,7 +139,9 @@ impl Run {
             let cut = cut.contains(&(number as u64));
             let frame = self
                 .damaged(&players.reference, &caller, packet, cut)
-                .and_then(|()| players.feed(&mut self.random, &caller, packet))
+                .and_then(|()| {
+                    players.feed(&mut self.random, &mut self.damaged.padded, &caller, packet)
+                })
                 .and_then(|frame| counts.compare(frame, &libtheoras, &mut said.ffmpeg))
                 .map_err(|text| format!("frame {number}: {text}"))?;
             self.four.count(&decoder.layout, &frame);
@@ -267,6 +272,7 @@ impl<'a> Players<'a> {
     fn feed(
         &mut self,
         random: &mut Random,
+        padded: &mut padding::Counts,
         caller: &Caller,
         packet: &[u8],
     ) -> Result<Decoded, String> {
@@ -280,6 +286,7 @@ impl<'a> Players<'a> {
         let lists = self.library.lists(caller, &brought);
         let expected = lists.accepted(&Accepted::of(&read), self.reference.previous.clone());
         let left = library::hold(random, &lists, &expected)?;
+        padded.frame(random, self.reference.decoder, &lists, &left)?;
         let frame = Decoded {
             line: said::frame(read.kind, &read.qis, &left.new),
             packet: read,
