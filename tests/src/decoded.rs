@@ -84,6 +84,7 @@ pub fn compare(files: &[String]) -> Result<(), String> {
         four: FourCases::default(),
         damaged: frames::Report::default(),
         lists: call_lists::Report::default(),
+        headers: padding::Counts::default(),
     };
     for file in files {
         let counts = run.recording(Path::new(file));
@@ -97,10 +98,11 @@ pub fn compare(files: &[String]) -> Result<(), String> {
         total.reached
     );
     println!("{}", run.four);
+    println!("headers:\n{}", run.headers);
     println!("damaged packets, and all packets padded:\n{}", run.damaged);
     println!("lists with other calls among the packets:\n{}", run.lists);
     let padded = run.damaged.padded.missed_of_frames(padding::OF_FRAME);
-    let missed = [run.four.missed(), padded].concat();
+    let missed = [run.four.missed(), padded, run.headers.missed(&[])].concat();
     crate::all_tried(&missed, files.len() >= ENOUGH_RECORDINGS)
 }
 
@@ -113,6 +115,8 @@ struct Run {
     damaged: frames::Report,
     /// Lists of calls.
     lists: call_lists::Report,
+    /// The headers, with bytes behind them.
+    headers: padding::Counts,
 }
 
 impl Run {
@@ -127,6 +131,8 @@ impl Run {
         };
         let fields = identification(first).map_err(|fault| format!("{fault:?}"))?;
         let setup = setup(third).map_err(|fault| format!("{fault:?}"))?;
+        self.headers.identification(&mut self.random, first)?;
+        self.headers.setup(&mut self.random, third)?;
         let decoder = Decoder::new(&fields, &setup);
         let caller = Caller::new(&fields, third)?;
         let session = library::session(first)?;
