@@ -6,5 +6,6 @@ pub mod Demand
 pub mod Places
 pub mod Tokens
 pub mod KeyFrames
+pub mod Padding
 pub mod Promised
 pub mod Examples

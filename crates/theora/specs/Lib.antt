@@ -10,4 +10,5 @@ pub mod Demand
 pub mod Places
 pub mod Tokens
 pub mod KeyFrames
+pub mod Padding
 pub mod Table
