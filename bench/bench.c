@@ -3,109 +3,21 @@
  *
  *   bench RECORDING.ogv..
  *
- * All packets are read into memory first; only decoding is timed. Each decoder goes over the whole recording in turn,
+ * All packets are read into memory first; only decoding is timed, by the processor's time. Each decoder goes over the whole recording in turn,
  * several rounds, and its fastest round counts. One line of a table for each recording: the frame's size in macro blocks,
  * the number of frames, microseconds per frame of each decoder, the ratios, and which share of our time the test of table
  * memory and the clearing of work memory take.
  */
-#define _POSIX_C_SOURCE 199309L
+#define _POSIX_C_SOURCE 200809L
+#include "common.h"
 #include "wedgepetal.h"
 
 #include <libavcodec/avcodec.h>
-#include <ogg/ogg.h>
-#include <stdio.h>
-#include <stdlib.h>
-#include <string.h>
 #include <theora/theoradec.h>
-#include <time.h>
 
-enum { HEADERS = 3, LEAST_ROUNDS = 3, MOST_ROUNDS = 400 };
+enum { LEAST_ROUNDS = 3, MOST_ROUNDS = 400 };
+_Static_assert(AV_INPUT_BUFFER_PADDING_SIZE <= BEHIND, "FFmpeg reads further");
 static const double ENOUGH_SECONDS = 1.0;
-
-struct recording {
-    unsigned char **packets;
-    size_t *lengths;
-    size_t count;
-};
-
-static void fail(const char *what)
-{
-    fprintf(stderr, "bench: %s\n", what);
-    exit(1);
-}
-
-static void *memory(size_t bytes)
-{
-    void *m = calloc(bytes > 0 ? bytes : 1, 1);
-    if (m == NULL) {
-        fail("no memory");
-    }
-    return m;
-}
-
-static double now(void)
-{
-    struct timespec t;
-    clock_gettime(CLOCK_MONOTONIC, &t);
-    return (double)t.tv_sec + (double)t.tv_nsec * 1e-9;
-}
-
-/* ---- the packets of a recording's Theora stream */
-
-static void add_packet(struct recording *r, const ogg_packet *p)
-{
-    size_t n = r->count + 1;
-    r->packets = realloc(r->packets, n * sizeof *r->packets);
-    r->lengths = realloc(r->lengths, n * sizeof *r->lengths);
-    if (r->packets == NULL || r->lengths == NULL) {
-        fail("no memory");
-    }
-    /* FFmpeg reads past the end of its packets. */
-    r->packets[r->count] = memory((size_t)p->bytes + AV_INPUT_BUFFER_PADDING_SIZE);
-    memcpy(r->packets[r->count], p->packet, (size_t)p->bytes);
-    r->lengths[r->count] = (size_t)p->bytes;
-    r->count = n;
-}
-
-static struct recording read_recording(const char *path)
-{
-    struct recording r = {0};
-    ogg_sync_state sync;
-    ogg_stream_state stream;
-    ogg_page page;
-    ogg_packet packet;
-    int have = 0;
-    size_t got;
-    FILE *in = fopen(path, "rb");
-    if (in == NULL) {
-        fail(path);
-    }
-    ogg_sync_init(&sync);
-    do {
-        got = fread(ogg_sync_buffer(&sync, 65536), 1, 65536, in);
-        ogg_sync_wrote(&sync, (long)got);
-        while (ogg_sync_pageout(&sync, &page) == 1) {
-            if (!have && ogg_page_bos(&page) && page.body_len >= 7 && memcmp(page.body, "\200theora", 7) == 0) {
-                have = 1;
-                ogg_stream_init(&stream, ogg_page_serialno(&page));
-            }
-            if (have && ogg_stream_pagein(&stream, &page) == 0) {
-                while (ogg_stream_packetout(&stream, &packet) == 1) {
-                    add_packet(&r, &packet);
-                }
-            }
-        }
-    } while (got > 0);
-    fclose(in);
-    if (have) {
-        ogg_stream_clear(&stream);
-    }
-    ogg_sync_clear(&sync);
-    if (r.count <= HEADERS) {
-        fail("no Theora stream");
-    }
-    return r;
-}
 
 /* ---- this decoder */
 
@@ -275,12 +187,6 @@ static double ffmpeg_round(const struct recording *r)
 
 /* ---- side by side */
 
-static const char *base_name(const char *path)
-{
-    const char *slash = strrchr(path, '/');
-    return slash == NULL ? path : slash + 1;
-}
-
 static void compare(const char *path)
 {
     struct recording r = read_recording(path);
@@ -303,11 +209,7 @@ static void compare(const char *path)
     }
     printf(" %.0f | %.0f |\n", 100 * shares.table * frames / best[0], 100 * shares.clearing * frames / best[0]);
     fflush(stdout);
-    for (size_t i = 0; i < r.count; i++) {
-        free(r.packets[i]);
-    }
-    free(r.packets);
-    free(r.lengths);
+    forget(&r);
 }
 
 int main(int count, char **words)

@@ -1,13 +1,13 @@
 -- Numbers of whole bytes, and fields as parts of them. Assumes nothing.
 use Prim.Native.Nat.{ℕ, zero, suc, _+_, _-_, _*_, _/_, _%_, _^_, _≤_, _<_}
 use native.Mathlib.Omega.{arith}
-use native.Mathlib.Nat.{one-mul, mod-lt}
+use native.Mathlib.Nat.{one-mul, mod-lt, add-zero}
 use native.Mathlib.Numerals.{add-one}
-use mathlib.Core.Path.{_≡_, sym, ap, _∙_}
+use mathlib.Core.Path.{_≡_, refl, sym, ap, _∙_}
 use mathlib.Core.List.{List}
-use lib.ListN.{getD}
-use lib.Pow.{pow-mono, pow-pos, shl-exact, shr-shr, mod-pow-add}
-use Rattle.bitstream.specs.Bits.{bitAt, number}
+use lib.ListN.{length, getD, List·getD-eq-default}
+use lib.Pow.{pow-mono, pow-pos, shl-exact, shr-le, shr-shr, mod-pow-add}
+use Rattle.bitstream.specs.Bits.{bits, bitAt, number}
 use Rattle.bitstream.proofs.Numbers.{number-lt, number-add, number-part}
 
 byte-step : (b s m : ℕ) → (b / 2 ^ (s + 1) % 2 ^ m) * 2 + b / 2 ^ s % 2 ≡ b / 2 ^ s % 2 ^ (m + 1)
@@ -39,6 +39,32 @@ byte-more p i k h =
 -- at most 8 bytes fit a u64
 pub bytes-fit : (p : List ℕ) (i k : ℕ) → k ≤ 8 → number p i (k * 8) < 2 ^ 64
 bytes-fit p i k h = let l : k * 8 ≤ 64 = omega arith in omega (arith, number-lt p i (k * 8), pow-mono l)
+
+-- ---- past the end all bits are 0
+bit-past : (p : List ℕ) (i : ℕ) → bits p ≤ i → bitAt p i ≡ 0
+unfolding bitAt
+bit-past p i h = rw (List·getD-eq-default p 0 {n = i / 8} (omega arith)) (omega (arith, shr-le 0 (7 - i % 8)))
+
+pub number-past : (p : List ℕ) (i n : ℕ) → bits p ≤ i → number p i n ≡ 0
+unfolding number
+number-past p i zero h = refl
+number-past p i (suc n) h = omega (arith, number-past p i n h, bit-past p (i + n) (omega arith))
+
+-- ---- the 64 bits from a byte on, out of the packet's last bytes
+pub window-of-last : (p : List ℕ) (first count : ℕ) → first + count ≡ length p → count ≤ 8
+    → number p (first * 8) (count * 8) * 2 ^ (64 - count * 8) % 2 ^ 64 ≡ number p (first * 8) 64
+window-of-last p first count e h =
+    let x = number p (first * 8) (count * 8) in
+    let s : count * 8 + (64 - count * 8) ≡ 64 = omega arith in
+    let z = number-past p (first * 8 + count * 8) (64 - count * 8) (omega arith) in
+    shl-exact (count * 8) (64 - count * 8) 64 (number-lt p (first * 8) (count * 8)) (omega arith)
+    ∙ sym (ap (λ (n : ℕ). number p (first * 8) n) (sym s) ∙ number-add p (first * 8) (count * 8) (64 - count * 8) ∙ ap (λ (y : ℕ). x * 2 ^ (64 - count * 8) + y) z ∙ add-zero _)
+
+-- w bits of it, with b bits behind
+pub bits-of-window : (p : List ℕ) (at w b : ℕ) → at % 8 + w + b ≡ 64 → number p (at / 8 * 8) 64 / 2 ^ b % 2 ^ w ≡ number p at w
+bits-of-window p at w b h =
+    let e : at / 8 * 8 + at % 8 ≡ at = omega arith in
+    rw (← h, number-part p (at / 8 * 8) (at % 8) w b, e)
 
 -- ---- the lowest w bits of a number, as the code takes them
 one-shifted : (w : ℕ) → w ≤ 32 → 1 * 2 ^ w % 2 ^ 64 ≡ 2 ^ w

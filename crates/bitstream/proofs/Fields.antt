@@ -1,16 +1,18 @@
 -- What the outcome of a field says, and the answer of `read`. Assumes nothing.
 use Prim.Native.Nat.{ℕ, _+_, _^_, _≤_, _<_}
 use native.Mathlib.Omega.{arith}
-use mathlib.Core.Path.{_≡_, refl, sym, _∙_}
+use mathlib.Core.Path.{_≡_, refl, sym, ap, ap₂, _∙_}
 use mathlib.Core.List.{List}
 use mathlib.Core.Bool.{Bool, true, false}
 use lib.Dec.{leb}
 use borrow.Author.Tests.{lt-leb, le-leb, leb-true, leb-false}
 use Rattle.bitstream.specs.Bits.{bits, number}
-use Rattle.bitstream.specs.Reading.{Outcome, got, refused, choose, field, judged}
-use Rattle.bitstream.specs.Answer.{asField}
+use Rattle.bitstream.specs.Reading.{Outcome, got, refused, after, choose, field, twoFields, judged}
+use Rattle.bitstream.specs.Answer.{asField, saidPlace, twoOf, asTwo}
 use Rattle.bitstream.specs.declared.Field.{Field}
 use Rattle.bitstream.specs.declared.Field.the-variants.{Got, Refused}
+use Rattle.bitstream.specs.declared.Two.{Two}
+use Rattle.bitstream.specs.declared.Two.the-variants as two
 use Rattle.bitstream.proofs.Numbers.{number-lt}
 
 -- no outcome is both
@@ -50,6 +52,31 @@ read-got (refused k d) s g = let z : _≡_ {A = ℕ} 0 1 = cc in absurd (omega a
 pub read-refused : (o : Outcome ℕ) {r : Field} {k e : ℕ} → r ≡ asField o → r ≡ Refused k e → o ≡ refused k e
 read-refused (got a d) s g = let z : _≡_ {A = ℕ} 0 1 = cc in absurd (omega arith)
 read-refused (refused k d) s g = cc
+
+-- the same of two fields
+pub two-got : (o : Outcome (ℕ × ℕ)) {r : Two} {a b e : ℕ} → r ≡ asTwo o → r ≡ two.Got a b e → o ≡ got (a, b) e
+two-got (got v d) {r} {a} {b} {e} s g =
+    let x : v .0 ≡ a = cc in
+    let y : v .1 ≡ b = cc in
+    let z : d ≡ e = cc in
+    λ i. got (x i, y i) (z i)
+two-got (refused k d) s g = let z : _≡_ {A = ℕ} 0 1 = cc in absurd (omega arith)
+
+pub two-refused : (o : Outcome (ℕ × ℕ)) {r : Two} {k e : ℕ} → r ≡ asTwo o → r ≡ two.Refused k e → o ≡ refused k e
+two-refused (got v d) s g = let z : _≡_ {A = ℕ} 0 1 = cc in absurd (omega arith)
+two-refused (refused k d) s g = cc
+
+-- two fields, by the answers of both, the second where the first ends
+pub two-is : (n m : ℕ) (p : List ℕ) (i : ℕ) {s t : Field} {j : ℕ} → s ≡ asField (field n p i) → j ≡ saidPlace s → t ≡ asField (field m p j) → twoOf s t ≡ asTwo (twoFields n m p i)
+two-is n m p i a b c = ap₂ twoOf a (c ∙ ap (λ (k : ℕ). asField (field m p k)) (b ∙ ap saidPlace a)) ∙ go (field n p i)
+  where
+    last : (a e : ℕ) (o : Outcome ℕ) → twoOf (Got a e) (asField o) ≡ asTwo (after o (λ b d. got (a, b) d))
+    last a e (got b d) = refl
+    last a e (refused k d) = refl
+
+    go : (o : Outcome ℕ) → twoOf (asField o) (asField (field m p (saidPlace (asField o)))) ≡ asTwo (after o (λ a e. after (field m p e) (λ b d. got (a, b) d)))
+    go (refused k e) = refl
+    go (got a e) = last a e (field m p e)
 
 -- a judged field: a failing read; a value that fails the test; one that passes it
 module _ (n : ℕ) (test : ℕ → Bool) (k : ℕ) (p : List ℕ) (i : ℕ) where

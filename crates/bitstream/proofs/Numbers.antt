@@ -23,6 +23,11 @@ pub number-more : (p : List ℕ) (i n : ℕ) → number p i (n + 1) ≡ number p
 unfolding number
 number-more p i n = rw add-one
 
+-- one bit
+pub number-one : (p : List ℕ) (i : ℕ) → number p i 1 ≡ bitAt p i
+unfolding number
+number-one p i = let e : bitAt p (i + 0) ≡ bitAt p i = ap (λ (k : ℕ). bitAt p k) (add-zero i) in omega (arith, e)
+
 -- packets that agree up to the field's end have the same number there
 pub number-same : (p q : List ℕ) (i n : ℕ) → ((k : ℕ) → k < i + n → bitAt p k ≡ bitAt q k) → number p i n ≡ number q i n
 unfolding number

@@ -62,6 +62,10 @@ pick false m n = n
 unfoldable pub field : ℕ → Parse ℕ
 field n p i = choose (leb (i + n) (bits p)) (got (number p i n) (i + n)) (refused 4 i)
 
+-- two fields, one behind the other
+abbrev pub twoFields : ℕ → ℕ → Parse (ℕ × ℕ)
+twoFields n m = bind (field n) (λ a. bind (field m) (λ b. pure (a, b)))
+
 -- "a failing read is 4 before its value is judged; header fields are judged at once": n bits whose value must pass the test, else number k at the field's first bit
 unfoldable pub judged : ℕ → (ℕ → Bool) → ℕ → Parse ℕ
 judged n test k = do

@@ -1,14 +1,20 @@
 // The bits of a packet, read as fields of up to 32 bits.
 ghost use mathlib.Core.Path.{_≡_};
-ghost use Prim.Native.Nat.{ℕ, _+_, _*_, _≤_, _^_};
+ghost use Prim.Native.Nat.{ℕ, _+_, _*_, _/_, _≤_, _^_};
 ghost use lib.ListN.{length};
-ghost use Rattle.bitstream.specs.Reading.{field};
+ghost use Rattle.bitstream.specs.Reading.{field, twoFields};
 ghost use Rattle.bitstream.specs.Bits.{number};
-ghost use Rattle.bitstream.specs.Answer.{asField, readable};
+ghost use Rattle.bitstream.specs.Answer.{asField, saidPlace, asTwo, twoOf, readable};
 
 // A field's value and the bit place behind it, or the number of the refusal and the place of the field at fault.
 pub enum Field {
     Got(u32, usize),
+    Refused(u32, usize),
+}
+
+// Two fields, one behind the other, and the place behind them; or the refusal of the first that is not there.
+pub enum Two {
+    Got(u32, u32, usize),
     Refused(u32, usize),
 }
 
@@ -47,6 +53,22 @@ fn bytes_from(packet: &[u8], first: usize, count: usize) -> u64
     value
 }
 
+// The 64 bits from the byte of the bit place `at` on; past the end they are 0.
+pub fn window(packet: &[u8], at: usize) -> u64
+    ensures { λ r. ⌜ r ≡ number (now (packet .entry)) (at / 8 * 8) 64 ⌝ }
+{
+    let size = packet.len();
+    let first = at / 8;
+    if first + 8 <= size {
+        return bytes_from(packet, first, 8);
+    }
+    if size <= first {
+        return 0;
+    }
+    let count = size - first;
+    bytes_from(packet, first, count) << (64 - count * 8)
+}
+
 // The field of `width` bits at the bit place `at`: out of eight bytes at once, near the end of the packet out of its own.
 fn field_at(packet: &[u8], at: usize, width: usize) -> Field
     requires { ⌜ (length (now packet) ≤ 2 ^ 58) × (width ≤ 32) ⌝ }
@@ -80,6 +102,16 @@ pub fn reader_at<'a>(packet: &'a [u8], place: usize) -> BitReader<'a>
     BitReader { packet, place }
 }
 
+// The same reader, moved to another bit place.
+pub fn moved<'a>(reader: BitReader<'a>, place: usize) -> BitReader<'a>
+    ensures { λ r. ⌜ (r .packet ≡ reader .entry .packet) × (r .place ≡ place) ⌝ }
+{
+    BitReader {
+        packet: reader.packet,
+        place,
+    }
+}
+
 // The field of `width` bits at the reader's place.
 pub fn next_field<'a>(reader: BitReader<'a>, width: usize) -> Field
     requires { ⌜ (length (now (reader .packet)) ≤ 2 ^ 58) × (width ≤ 32) ⌝ }
@@ -94,4 +126,52 @@ pub fn read(packet: &[u8], at: usize, width: usize) -> Field
     ensures { λ r. ⌜ r ≡ asField (field width (now (packet .entry)) at) ⌝ }
 {
     next_field(reader_at(packet, at), width)
+}
+
+// The place that a field's answer says.
+fn said_place(field: Field) -> usize
+    ensures { λ r. ⌜ r ≡ saidPlace field ⌝ }
+{
+    match field {
+        Field::Got(_, next) => next,
+        Field::Refused(_, fault) => fault,
+    }
+}
+
+// Two answers as one.
+fn two_of(first: Field, second: Field) -> Two
+    ensures { λ r. ⌜ r ≡ twoOf first second ⌝ }
+{
+    match first {
+        Field::Refused(number, fault) => Two::Refused(number, fault),
+        Field::Got(a, _) => match second {
+            Field::Refused(number, fault) => Two::Refused(number, fault),
+            Field::Got(b, next) => Two::Got(a, b, next),
+        },
+    }
+}
+
+// The field of `width` bits at another place: the reader is moved there.
+pub fn field_from<'a>(reader: BitReader<'a>, place: usize, width: usize) -> Field
+    requires { ⌜ (length (now (reader .packet)) ≤ 2 ^ 58) × (width ≤ 32) ⌝ }
+    ensures { λ r. ⌜ r ≡ asField (field width (now (reader .entry .packet)) place) ⌝ }
+{
+    next_field(moved(reader, place), width)
+}
+
+// Two fields, of `first` and of `second` bits, from the reader's place on.
+pub fn next_two<'a>(reader: BitReader<'a>, first: usize, second: usize) -> Two
+    requires { ⌜ (length (now (reader .packet)) ≤ 2 ^ 58) × (first ≤ 32) × (second ≤ 32) ⌝ }
+    ensures { λ r. ⌜ r ≡ asTwo (twoFields first second (now (reader .entry .packet)) (reader .entry .place)) ⌝ }
+{
+    let one = next_field(reader, first);
+    two_of(one, field_from(reader, said_place(one), second))
+}
+
+// Two fields, of `first` and of `second` bits, at the bit place `at`, by a reader that stands there.
+pub fn read_two(packet: &[u8], at: usize, first: usize, second: usize) -> Two
+    requires { ⌜ (length (now packet) ≤ 2 ^ 58) × (first ≤ 32) × (second ≤ 32) ⌝ }
+    ensures { λ r. ⌜ r ≡ asTwo (twoFields first second (now (packet .entry)) at) ⌝ }
+{
+    next_two(reader_at(packet, at), first, second)
 }

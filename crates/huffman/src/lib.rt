@@ -1,9 +1,9 @@
 // Huffman trees: one is read from a setup packet into a table of 64 nodes, and tokens are read by the codes of such a table.
 use bitstream::Field;
 ghost use mathlib.Core.Path.{_≡_};
-ghost use Prim.Native.Nat.{ℕ, _+_, _-_, _*_, _/_, _<_, _≤_, _^_};
+ghost use Prim.Native.Nat.{ℕ, _+_, _-_, _*_, _/_, _%_, _<_, _≤_, _^_};
 ghost use lib.ListN.{length, getD, take};
-ghost use Rattle.bitstream.specs.Bits.{bits, bitAt, number};
+ghost use Rattle.bitstream.specs.Bits.{bits, number};
 ghost use Rattle.bitstream.specs.Answer.{asField};
 ghost use Rattle.huffman.specs.Tree.{tree, huffmanTree};
 ghost use Rattle.huffman.specs.Code.{tokenCode, treeOf, Formed};
@@ -116,12 +116,12 @@ pub fn read_tree(packet: &[u8], at: usize, nodes: &mut [u8]) -> Place
     Place::Next(place)
 }
 
-// The bit at a place.
-fn bit(packet: &[u8], at: usize) -> u8
-    requires { ⌜ at < bits (now packet) ⌝ }
-    ensures { λ r. ⌜ r ≡ bitAt (now (packet .entry)) at ⌝ }
+// The bit k of a window, the first the most significant.
+fn bit_of(window: u64, k: usize) -> u8
+    requires { ⌜ k < 64 ⌝ }
+    ensures { λ r. ⌜ r ≡ window / 2 ^ (63 - k) % 2 ⌝ }
 {
-    (packet[at / 8] >> (7 - at % 8)) % 2
+    ((window >> (63 - k)) % 2) as u8
 }
 
 // The node after the bit `b` at the fork `node` with the entry `value`.
@@ -164,11 +164,13 @@ pub fn fill_lookup(nodes: &[u8], lookup: &mut [u16])
 }
 
 // The token whose code stands at the bit place `at`, by the table of nodes, from an entry of its first bits on; a code that is cut is refused by 4 at its first bit.
-fn walk_from(packet: &[u8], at: usize, nodes: &[u8], start: usize) -> Field
-    requires { ⌜ (length (now packet) ≤ 2 ^ 58) × Formed (now nodes) × Begun (now nodes) (now packet) at start ⌝ }
+// The window begins with the byte of `at` and holds the whole code, which has at most 31 bits.
+fn walk_from(packet: &[u8], at: usize, window: u64, nodes: &[u8], start: usize) -> Field
+    requires { ⌜ (length (now packet) ≤ 2 ^ 58) × Formed (now nodes) × Begun (now nodes) (now packet) at start × (window ≡ number (now packet) (at / 8 * 8) 64) ⌝ }
     ensures { λ r. ⌜ r ≡ asField (tokenCode (treeOf (now (nodes .entry))) (now (packet .entry)) at) ⌝ }
 {
     let total = packet.len() * 8;
+    let first = at / 8 * 8;
     let mut node = start % 64;
     let mut place = at + start / 64;
     let mut value = nodes[node];
@@ -176,7 +178,7 @@ fn walk_from(packet: &[u8], at: usize, nodes: &[u8], start: usize) -> Field
         if total <= place {
             return Field::Refused(4, at);
         }
-        node = next_node(node, value, bit(packet, place));
+        node = next_node(node, value, bit_of(window, place - first));
         place += 1;
         value = nodes[node];
     }
@@ -189,17 +191,7 @@ pub fn read_code(packet: &[u8], at: usize, nodes: &[u8]) -> Field
     requires { ⌜ (length (now packet) ≤ 2 ^ 58) × Formed (now nodes) ⌝ }
     ensures { λ r. ⌜ r ≡ asField (tokenCode (treeOf (now (nodes .entry))) (now (packet .entry)) at) ⌝ }
 {
-    walk_from(packet, at, nodes, 0)
-}
-
-// The six bits from the bit place `at` on, out of two bytes.
-fn six_bits(packet: &[u8], at: usize) -> usize
-    requires { ⌜ at / 8 + 1 < length (now packet) ⌝ }
-    ensures { λ r. ⌜ (r ≡ number (now (packet .entry)) at 6) × (r < 64) ⌝ }
-{
-    let first = packet[at / 8] as usize;
-    let second = packet[at / 8 + 1] as usize;
-    ((first * 256 + second) >> (10 - at % 8)) % 64
+    walk_from(packet, at, bitstream::window(packet, at), nodes, 0)
 }
 
 // The same as `read_code`: the first six bits by the lookup of the tree, but for a code in the packet's last byte.
@@ -210,6 +202,8 @@ pub fn read_code_by(packet: &[u8], at: usize, nodes: &[u8], lookup: &[u16]) -> F
     if packet.len() <= at / 8 + 1 {
         return read_code(packet, at, nodes);
     }
-    let entry = lookup[64 + six_bits(packet, at)];
-    walk_from(packet, at, nodes, entry as usize)
+    let window = bitstream::window(packet, at);
+    let six = ((window >> (58 - at % 8)) % 64) as usize;
+    let entry = lookup[64 + six];
+    walk_from(packet, at, window, nodes, entry as usize)
 }

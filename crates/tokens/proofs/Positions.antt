@@ -10,7 +10,7 @@ use lib.Dec.{ltb}
 use lib.ListN.{length, getD, set, take, drop}
 use lib.Seq.{take-suc-set, take-all, take-at, drop-at}
 use borrow.Author.Tests.{lt-ltb, le-ltb}
-use Rattle.bitstream.specs.Reading.{Outcome, got, refused, bind, pure, pick, field}
+use Rattle.bitstream.specs.Reading.{Outcome, got, refused, after, bind, pure, pick, field, twoFields}
 use Rattle.bitstream.proofs.Fields.{field-lt}
 use Rattle.bitstream.proofs.Laws.{bind-got}
 use Rattle.huffman.specs.Tree.{Tree}
@@ -48,17 +48,24 @@ module _ (k : ℕ) (ch : Choices) (p : List ℕ) (i : ℕ) where
   unfolding choices
   choices-kept h = rw (le-ltb k 2 h)
 
-  pub choices-first : k < 2 → {n e : ℕ} → field 4 p i ≡ refused n e → choices k ch p i ≡ refused n e
+  -- new ones are two fields
+  choices-two : k < 2 → choices k ch p i ≡ after (twoFields 4 4 p i) (λ v e. got (choicesOf (v .0) (v .1)) e)
   unfolding choices
-  choices-first h f = rw (lt-ltb k 2 h, f)
+  choices-two h = rw (lt-ltb k 2 h) (go (field 4 p i))
+    where
+      last : (a : ℕ) (o : Outcome ℕ) → after o (λ b e. got (choicesOf a b) e) ≡ after {A = ℕ × ℕ} (after o (λ b e. got (a, b) e)) (λ v e. got (choicesOf (v .0) (v .1)) e)
+      last a (got b e) = refl
+      last a (refused n e) = refl
 
-  pub choices-second : k < 2 → {a d n e : ℕ} → field 4 p i ≡ got a d → field 4 p d ≡ refused n e → choices k ch p i ≡ refused n e
-  unfolding choices
-  choices-second h f g = rw (lt-ltb k 2 h, f, g)
+      go : (o : Outcome ℕ) → after o (λ a e. after (field 4 p e) (λ b d. got (choicesOf a b) d)) ≡ after {A = ℕ × ℕ} (after o (λ a e. after (field 4 p e) (λ b d. got (a, b) d))) (λ v e. got (choicesOf (v .0) (v .1)) e)
+      go (got a e) = last a (field 4 p e)
+      go (refused n e) = refl
 
-  pub choices-read : k < 2 → {a e b d : ℕ} → field 4 p i ≡ got a e → field 4 p e ≡ got b d → choices k ch p i ≡ got (choicesOf a b) d
-  unfolding choices
-  choices-read h f g = rw (lt-ltb k 2 h, f, g)
+  pub choices-refused : k < 2 → {n e : ℕ} → twoFields 4 4 p i ≡ refused n e → choices k ch p i ≡ refused n e
+  choices-refused h f = choices-two h ∙ ap (λ (o : Outcome (ℕ × ℕ)). after o (λ v e. got (choicesOf (v .0) (v .1)) e)) f
+
+  pub choices-read : k < 2 → {a b e : ℕ} → twoFields 4 4 p i ≡ got (a, b) e → choices k ch p i ≡ got (choicesOf a b) e
+  choices-read h f = choices-two h ∙ ap (λ (o : Outcome (ℕ × ℕ)). after o (λ v e. got (choicesOf (v .0) (v .1)) e)) f
 
   -- a choice is below 16
   pub choices-small : ch .luma < 16 → ch .chroma < 16 → {ch′ : Choices} {e : ℕ} → choices k ch p i ≡ got ch′ e → (ch′ .luma < 16) × (ch′ .chroma < 16)

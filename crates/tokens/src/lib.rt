@@ -1,5 +1,6 @@
 // Reads the tokens of a frame into the coefficients of its coded blocks, which are named by their rank in coded order.
 use bitstream::Field;
+use bitstream::Two;
 use token::Token;
 ghost use mathlib.Core.Path.{_≡_};
 ghost use Prim.Native.Nat.{_+_, _-_, _*_, _<_, _≤_, _^_};
@@ -306,15 +307,13 @@ fn read_choices(packet: &[u8], at: usize, k: usize, luma: usize, chroma: usize) 
     if 2 <= k {
         return Chosen::Tables(luma, chroma, at);
     }
-    let first = bitstream::read(packet, at, 4);
-    match first {
-        Field::Refused(number, place) => Chosen::Refused(number, place),
-        Field::Got(a, next) => {
-            let second = bitstream::read(packet, next, 4);
-            match second {
-                Field::Refused(number, place) => Chosen::Refused(number, place),
-                Field::Got(b, end) => Chosen::Tables(a as usize, b as usize, end),
-            }
+    let both = bitstream::read_two(packet, at, 4, 4);
+    match both {
+        Two::Refused(number, place) => Chosen::Refused(number, place),
+        Two::Got(a, b, end) => {
+            let lumas = a as usize;
+            let chromas = b as usize;
+            Chosen::Tables(lumas, chromas, end)
         }
     }
 }

@@ -8,21 +8,25 @@ use Rattle.bitstream.specs.Bits.{bits}
 use Rattle.bitstream.specs.Answer.{asField}
 use Rattle.bitstream.specs.declared.Field.{Field}
 use Rattle.huffman.specs.Answer.{branch}
-use Rattle.huffman.proofs.Codes.{Left, left-end, left-leaf, left-on}
+use Rattle.huffman.proofs.Codes.{Left, left-end, left-leaf, left-on, left-room}
+use Rattle.huffman.proofs.Two.{bit-of-window}
 use Rattle.huffman.proofs.Lookups.{begun-left}
 use Rattle.huffman.proofs.Nodes.{formed-length}
 use Rattle.huffman.proofs.walk_from.Statement.{statement}
 use Rattle.huffman.proofs.walk_from.Tie as tie
 
 abbrev Inv-loop : tie.InvT-loop
-Inv-loop packet at nodes start total node₀ place₀ value₀ node place value =
-    (total ≡ length packet * 8) × (value ≡ getD nodes node 0) × (node < 64) × (length nodes ≡ 64) × Left nodes packet at node place
+Inv-loop packet at window nodes start total first node₀ place₀ value₀ node place value =
+    (total ≡ length packet * 8) × (value ≡ getD nodes node 0) × (node < 64) × (length nodes ≡ 64) × Left nodes packet at node place × (at ≤ place)
 
 abbrev μ-loop : tie.MeasureT-loop
-μ-loop packet at nodes start total node₀ place₀ value₀ node place value = length nodes - node
+μ-loop packet at window nodes start total first node₀ place₀ value₀ node place value = length nodes - node
 
 mul-total : tie.Need-mul-total Inv-loop μ-loop
 mul-total c = search needs
+
+mul-first : tie.Need-mul-first Inv-loop μ-loop
+mul-first c = search needs
 
 -- the entry leads to a node, and to a place that the packet has
 begun : (c : tie.Start Inv-loop μ-loop) → let a = c .args in Left (a .nodes .now) (a .packet .now) (a .at) (a .start % 64) (a .at + a .start / 64) × (a .start / 64 ≤ bits (a .packet .now) - a .at)
@@ -35,7 +39,7 @@ shared-slice-read-value : tie.Need-shared-slice-read-value Inv-loop μ-loop
 shared-slice-read-value c = omega (arith, formed-length (c .before .before .before .pre .1))
 
 loop-holds : tie.Need-loop-holds Inv-loop μ-loop
-loop-holds c = (refl, refl, omega arith, formed-length (c .before .before .before .pre .1), begun (c .before .before .before) .0)
+loop-holds c = (refl, refl, omega arith, formed-length (c .before .before .before .pre .1), begun (c .before .before .before) .0, omega arith)
 
 returns : tie.Need-returns Inv-loop μ-loop
 returns c =
@@ -43,8 +47,18 @@ returns c =
     let a = c .before .before .before .before .before .before .args in
     sym (ap asField (left-end (a .nodes .now) (a .packet .now) (a .at) (l .node) (l .place) (l .inv .4) (omega arith) (omega arith)))
 
-bit-requires : tie.Need-bit-requires Inv-loop μ-loop
-bit-requires c κs = search needs
+-- the window has the next bit
+near : (c : tie.Else1 Inv-loop μ-loop) → let a = c .before .before .before .before .before .before .args in let l = c .before .before .loop in (a .at / 8 * 8 ≤ l .place) × (l .place < a .at / 8 * 8 + 64)
+near c =
+    let a = c .before .before .before .before .before .before .args in
+    let l = c .before .before .loop in
+    (omega arith, omega (arith, left-room (a .nodes .now) (a .packet .now) (a .at) (l .node) (l .place) (l .inv .4)))
+
+sub-bit-of : tie.Need-sub-bit-of Inv-loop μ-loop
+sub-bit-of c = omega (arith, near c .0)
+
+bit-of-requires : tie.Need-bit-of-requires Inv-loop μ-loop
+bit-of-requires c κs = omega (arith, near c)
 
 next-node-requires : tie.Need-next-node-requires Inv-loop μ-loop
 next-node-requires c κs = search needs
@@ -58,7 +72,9 @@ onward c =
     let l = c .before .before .before .before .loop in
     let a = c .before .before .before .before .before .before .before .before .args in
     left-on (a .nodes .now) (a .packet .now) (a .at) (l .node) (l .place) (l .value) _ (l .inv .4) (l .inv .1) (c .before .before .before .loop-test .taken) (omega arith)
-    (c .next-node .ensures ∙ ap (λ (b : ℕ). branch (l .node) (l .value) b) (c .before .bit .ensures))
+    (c .next-node .ensures
+    ∙ ap (λ (b : ℕ). branch (l .node) (l .value) b)
+    (c .before .bit-of .ensures ∙ bit-of-window (a .packet .now) (a .at / 8 * 8) (l .place) _ (c .before .before .before .before .before .before .before .before .pre .3) (near (c .before .before) .0) (near (c .before .before) .1)))
 
 shared-slice-read-value-2 : tie.Need-shared-slice-read-value-2 Inv-loop μ-loop
 shared-slice-read-value-2 c = omega (arith, onward (c .before) .1)
@@ -70,7 +86,7 @@ loop-again : tie.Need-loop-again Inv-loop μ-loop
 loop-again c =
     let o = onward (c .before) in
     let l = c .before .before .before .before .before .loop in
-    (l .inv .0, refl, omega (arith, o .1), l .inv .3, o .2)
+    (l .inv .0, refl, omega (arith, o .1), l .inv .3, o .2, omega arith)
 
 cast-token : tie.Need-cast-token Inv-loop μ-loop
 cast-token c = search needs
@@ -88,11 +104,13 @@ walk-from-spec =
     Inv-loop
     μ-loop
     mul-total
+    mul-first
     add-place
     shared-slice-read-value
     loop-holds
     returns
-    bit-requires
+    sub-bit-of
+    bit-of-requires
     next-node-requires
     add-place-2
     shared-slice-read-value-2

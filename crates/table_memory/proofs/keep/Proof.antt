@@ -1,70 +1,66 @@
--- `table_memory::keep` meets its contract. Assumes nothing.
-use Prim.Native.Nat.{ℕ, _-_, _≤_}
-use native.Mathlib.Omega.{arith}
-use mathlib.Core.Path.{_≡_, refl, ap, sym, _∙_}
-use mathlib.Core.List.{List}
-use lib.ListN.{length, getD, set, length-set}
-use Rattle.table_memory.proofs.Steps.{copied, copied-more}
-use Rattle.table_memory.specs.Kept.{kept}
-use Rattle.table_memory.proofs.KeptLaws.{kept-length, kept-at}
-use Rattle.table_memory.proofs.Steps.{copied-all}
+-- `table_memory::keep` meets its contract: whole bytes are copied, over zeros, and a part of one is put behind them. Assumes nothing.
 use borrow.Author.Needs.{needs}
+use Prim.Native.Nat.{ℕ, zero, _/_}
+use native.Mathlib.Omega.{arith}
+use mathlib.Core.Path.{_≡_, refl, ap, _∙_}
+use mathlib.Core.List.{List}
+use lib.ListN.{length, set, replicate, length-set, length-replicate}
+use Rattle.table_memory.proofs.Steps.{copied, copied-length, kept-whole, kept-part}
 use Rattle.table_memory.proofs.keep.Statement.{statement}
 use Rattle.table_memory.proofs.keep.Tie as tie
 
-abbrev Inv-loop : tie.InvT-loop
-Inv-loop packet end table₀ k₀ table k = (k ≤ length table₀) × (length table ≡ length table₀) × (table ≡ copied table₀ (kept packet end (length table₀)) k)
+copy-front-requires : tie.Need-copy-front-requires
+copy-front-requires c κs = search needs
 
-abbrev μ-loop : tie.MeasureT-loop
-μ-loop packet end table₀ k₀ table k = length table₀ - k
-
-loop-holds : tie.Need-loop-holds Inv-loop μ-loop
-loop-holds c = (search needs, refl, refl)
-
-kept-byte-requires : tie.Need-kept-byte-requires Inv-loop μ-loop
-kept-byte-requires c κs = search needs
-
-slice-write-table : tie.Need-slice-write-table Inv-loop μ-loop
-slice-write-table c = search needs
-
-add-k : tie.Need-add-k Inv-loop μ-loop
-add-k c = search needs
-
-loop-less : tie.Need-loop-less Inv-loop μ-loop
-loop-less c = search needs
-
-loop-again : tie.Need-loop-again Inv-loop μ-loop
-loop-again c =
-    let l = c .before .before .loop in
-    let a = c .before .before .before .before .before .args in
-    let n = length (a .table .now) in
-    let t = kept (a .packet .now) (a .end) n in
-    let v : c .kept-byte .result ≡ getD t (l .k) 0 = c .kept-byte .ensures ∙ sym (kept-at (a .packet .now) (a .end) n (l .k) (omega arith)) in (
-      search needs,
-      simp length-set (l .inv .1),
-      ap (λ (x : ℕ). set (l .table) (l .k) x) v ∙ ap (λ (xs : List ℕ). set xs (l .k) (getD t (l .k) 0)) (l .inv .2) ∙ copied-more (a .table .now) t (l .k) (omega arith) (omega (arith, kept-length (a .packet .now) (a .end) n)),
-    )
-
-same-length : tie.Need-same-length Inv-loop μ-loop
+same-length : tie.Need-same-length
 same-length c = search needs
 
-returns : tie.Need-returns Inv-loop μ-loop
+returns : tie.Need-returns
 returns c =
-    let l = c .before .loop in
-    let a = c .before .before .before .before .args in
-    l .inv .2 ∙ copied-all (a .table .now) (kept (a .packet .now) (a .end) (length (a .table .now))) (l .k) (omega arith) (kept-length (a .packet .now) (a .end) (length (a .table .now)))
+    let a = c .before .before .before .before .before .before .before .args in
+    c .before .before .copy-front .ensures ∙ kept-whole (a .packet .now) (a .end) (length (a .table .now)) (c .before .before .before .before .before .before .before .pre .0) (λ k. c .before .before .before .before .before .before .shared-slice-known .given k .fits) (a .table .now) refl (c .before .before .before .before .if1 .taken)
+
+clear-requires : tie.Need-clear-requires
+clear-requires c κs = search needs
+
+copy-front-requires-2 : tie.Need-copy-front-requires-2
+copy-front-requires-2 c κs = (omega (arith, c .before .before .before .before .before .before .before .before .pre .0), rw (c .before .before .before .clear .ensures, length-replicate) (omega (arith, c .before .before .before .before .before .if1 .left)))
+
+part-byte-requires : tie.Need-part-byte-requires
+part-byte-requires c κs = search needs
+
+-- the bytes that were copied stand over zeros
+front : (c : tie.After-part-byte) → let a = c .before .before .before .before .before .before .before .before .before .before .before .before .args in c .before .before .before .copy-front2 .last .1 .1 .0 ≡ copied (replicate (length (a .table .now)) 0) (a .packet .now) (a .end / 8)
+front c = let a = c .before .before .before .before .before .before .before .before .before .before .before .before .args in c .before .before .before .copy-front2 .ensures ∙ ap (λ (xs : List ℕ). copied xs (a .packet .now) (a .end / 8)) (c .before .before .before .before .before .before .before .clear .ensures)
+
+front-length : (c : tie.After-part-byte) → length (c .before .before .before .copy-front2 .last .1 .1 .0) ≡ length (c .before .before .before .before .before .before .before .before .before .before .before .before .args .table .now)
+front-length c =
+    let a = c .before .before .before .before .before .before .before .before .before .before .before .before .args in
+    let n = length (a .table .now) in
+    ap (λ (xs : List ℕ). length xs) (front c) ∙ copied-length (replicate n 0) (a .packet .now) (a .end / 8) (rw (length-replicate n (zero)) (omega (arith, c .before .before .before .before .before .before .before .before .before .if1 .left))) (omega (arith, c .before .before .before .before .before .before .before .before .before .before .before .before .pre .0)) ∙ length-replicate n 0
+
+slice-write-table : tie.Need-slice-write-table
+slice-write-table c = omega (arith, front-length c, c .before .before .before .before .before .before .before .before .before .if1 .left)
+
+same-length-2 : tie.Need-same-length-2
+same-length-2 c = simp length-set (front-length c)
+
+returns-2 : tie.Need-returns-2
+returns-2 c =
+    let a = c .before .before .before .before .before .before .before .before .before .before .before .before .args in
+    ap (λ (xs : List ℕ). set xs (a .end / 8) (c .part-byte .result)) (front c)
+    ∙ kept-part (a .packet .now) (a .end) (length (a .table .now)) (c .before .before .before .before .before .before .before .before .before .before .before .before .pre .0) (λ k. c .before .before .before .before .before .before .before .before .before .before .before .shared-slice-known .given k .fits) _ (omega (arith, c .before .before .before .before .before .before .before .before .before .if1 .left)) (c .part-byte .ensures)
 
 pub keep-spec : {M : Type 1} → statement M
 keep-spec =
     tie.close
     (tie.spec
-    Inv-loop
-    μ-loop
-    loop-holds
-    kept-byte-requires
-    slice-write-table
-    add-k
-    loop-less
-    loop-again
+    copy-front-requires
     same-length
-    returns)
+    returns
+    clear-requires
+    copy-front-requires-2
+    part-byte-requires
+    slice-write-table
+    same-length-2
+    returns-2)
