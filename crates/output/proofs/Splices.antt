@@ -1,16 +1,16 @@
 -- Bytes that are written into a slice from a place on, one after the other. Assumes nothing.
 use Prim.Native.Nat.{ℕ, zero, suc, _+_, _-_, _≤_, _<_}
 use native.Mathlib.Omega.{arith}
-use native.Mathlib.Nat.{add-assoc, zero-add, le-of-eq}
+use native.Mathlib.Nat.{add-assoc, zero-add}
 use mathlib.Core.Path.{_≡_, refl, sym, ap, _∙_, subst}
 use mathlib.Core.Bool.{Bool, true, false}
 use mathlib.Core.List.{List, [], _∷_, _++_, append-nil, append-assoc}
 use lib.Dec.{leb}
 use lib.ListN.{length, take, drop, set, length-append, length-drop, take-append-drop}
-use lib.Seq.{length-take-le, take-at, drop-at, drop-drop, take-append-add, drop-append-add, drop-append-le, set-split}
+use lib.Seq.{length-take-le, take-at, drop-at, drop-drop, take-append-add, drop-append-add, take-append-le, take-take, set-split}
 use borrow.Author.Tests.{le-leb, lt-leb}
 use borrow.Rule.Slice.PartMut.{putMid, post-is}
-use Rattle.output.specs.Output.{Output, gives, refused, leftBy, within, spliced}
+use Rattle.output.specs.Output.{Output, gives, refused, leftBy, within, part, spliced}
 
 -- the slice keeps its length
 pub spliced-length : (at : ℕ) (t l : List ℕ) → at + length t ≤ length l → length (spliced at t l) ≡ length l
@@ -19,7 +19,11 @@ spliced-length at t l h =
     length-append (take at l) (t ++ drop (at + length t) l)
     ∙ omega (arith, h, length-take-le at l (omega arith), length-append t (drop (at + length t) l), length-drop (at + length t) l)
 
--- what stands in front, and what stands in front with the bytes
+-- a part has the length that was asked for
+pub part-length : (l : List ℕ) (at n : ℕ) → at + n ≤ length l → length (part l at n) ≡ n
+part-length l at n h = length-take-le n (drop at l) (subst (λ (m : ℕ). n ≤ m) (sym (length-drop at l)) (omega arith))
+
+-- what stands in front, with the bytes
 pub spliced-take : (at : ℕ) (t l : List ℕ) → at + length t ≤ length l → take (at + length t) (spliced at t l) ≡ take at l ++ t
 unfolding spliced
 spliced-take at t l h =
@@ -39,6 +43,20 @@ spliced-drop at t l k h =
     ∙ drop-append-add (take at l) (t ++ tail) (length t + k)
     ∙ drop-append-add t tail k
     ∙ drop-drop k (at + length t) l
+
+-- u is written first, and t in front of it
+pub spliced-before : (at : ℕ) (t u l : List ℕ) → at + length t + length u ≤ length l → spliced at t (spliced (at + length t) u l) ≡ spliced at (t ++ u) l
+unfolding spliced
+spliced-before at t u l h =
+    let mid = take (at + length t) l in
+    let tail = drop (at + length t + length u) l in
+    let n : length mid ≡ at + length t = length-take-le (at + length t) l (omega arith) in
+    let a = take-append-le at mid (u ++ tail) (omega (arith, n)) ∙ take-take at (at + length t) l (omega arith) in
+    let b = drop-at mid (u ++ tail) (at + length t) n in
+    let k : at + length t + length u ≡ at + length (t ++ u) = omega (arith, length-append t u) in
+    (λ i. a i ++ (t ++ b i))
+    ∙ ap (λ (x : List ℕ). take at l ++ x) (sym (append-assoc t u tail))
+    ∙ ap (λ (m : ℕ). take at l ++ ((t ++ u) ++ drop m l)) k
 
 -- nothing is written
 pub spliced-none : (at : ℕ) (l : List ℕ) → spliced at [] l ≡ l
@@ -76,6 +94,12 @@ spliced-part at e t l h =
 pub spliced-byte : (at b : ℕ) (l : List ℕ) → at < length l → set l at b ≡ spliced at (b ∷ []) l
 unfolding spliced
 spliced-byte at b l h = let e : suc at ≡ at + 1 = omega arith in set-split l at b h ∙ ap (λ (n : ℕ). take at l ++ b ∷ drop n l) e
+
+-- the last byte is written first
+pub spliced-last : (at b i : ℕ) (t l : List ℕ) → length t ≡ i → at + i < length l → spliced at t (set l (at + i) b) ≡ spliced at (t ++ b ∷ []) l
+spliced-last at b i t l e h =
+    ap (λ (m : List ℕ). spliced at t m) (spliced-byte (at + i) b l h ∙ ap (λ (n : ℕ). spliced (at + n) (b ∷ []) l) (sym e))
+    ∙ spliced-before at t (b ∷ []) l (omega arith)
 
 -- what a call leaves that wrote from the slice's beginning
 pub spliced-first : (t l : List ℕ) → spliced 0 t l ≡ leftBy (gives t) l

@@ -26,6 +26,10 @@ abbrev pub asWritten : Output → Written
 asWritten (gives t) = Bytes (length t)
 asWritten (refused k) = Refused k 0
 
+-- n bytes of a list from `at` on
+abbrev pub part : List ℕ → ℕ → ℕ → List ℕ
+part l at n = take n (drop at l)
+
 -- a slice with the bytes t in it from place `at` on
 unfoldable pub spliced : ℕ → List ℕ → List ℕ → List ℕ
 spliced at t l = take at l ++ (t ++ drop (at + length t) l)
