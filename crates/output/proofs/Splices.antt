@@ -10,7 +10,8 @@ use lib.ListN.{length, take, drop, set, length-append, length-drop, take-append-
 use lib.Seq.{length-take-le, take-at, drop-at, drop-drop, take-append-add, drop-append-add, take-append-le, take-take, set-split}
 use borrow.Author.Tests.{le-leb, lt-leb}
 use borrow.Rule.Slice.PartMut.{putMid, post-is}
-use Rattle.output.specs.Output.{Output, gives, refused, leftBy, within, part, spliced}
+use Rattle.output.specs.Output.{Output, gives, refused, leftBy, within, asWritten, part, spliced}
+use Rattle.output.specs.declared.Written.the-variants.{Bytes, Refused}
 
 -- the slice keeps its length
 pub spliced-length : (at : ℕ) (t l : List ℕ) → at + length t ≤ length l → length (spliced at t l) ≡ length l
@@ -112,3 +113,11 @@ within-fits room t h = rw (le-leb (length t) room h)
 
 pub within-short : (room : ℕ) (t : List ℕ) → room < length t → within room t ≡ refused 14
 within-short room t h = rw (lt-leb (length t) room h)
+
+-- what a call answers and leaves that wrote all of t, or nothing
+pub written-whole : (t out new : List ℕ) (k : ℕ) → length t ≤ length out → k ≡ length t → new ≡ spliced 0 t out
+    → (Bytes k ≡ asWritten (within (length out) t)) × (new ≡ leftBy (within (length out) t) out)
+written-whole t out new k h e s = rw (within-fits (length out) t h) (ap Bytes e, s ∙ spliced-first t out)
+
+pub written-nothing : (t out : List ℕ) → length out < length t → (Refused 14 0 ≡ asWritten (within (length out) t)) × (out ≡ leftBy (within (length out) t) out)
+written-nothing t out h = rw (within-short (length out) t h) (refl, refl)
