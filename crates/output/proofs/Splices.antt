@@ -11,6 +11,7 @@ use lib.Seq.{length-take-le, take-at, drop-at, drop-drop, take-append-add, drop-
 use borrow.Author.Tests.{le-leb, lt-leb}
 use borrow.Rule.Slice.PartMut.{putMid, post-is}
 use Rattle.output.specs.Output.{Output, gives, refused, leftBy, within, asWritten, part, spliced}
+use Rattle.output.specs.declared.Written.{Written}
 use Rattle.output.specs.declared.Written.the-variants.{Bytes, Refused}
 
 -- the slice keeps its length
@@ -121,3 +122,7 @@ written-whole t out new k h e s = rw (within-fits (length out) t h) (ap Bytes e,
 
 pub written-nothing : (t out : List ℕ) → length out < length t → (Refused 14 0 ≡ asWritten (within (length out) t)) × (out ≡ leftBy (within (length out) t) out)
 written-nothing t out h = rw (within-short (length out) t h) (refl, refl)
+
+-- an answer and what is left, where what is to be written is known
+pub answered : (o p : Output) (r : Written) (out new : List ℕ) → o ≡ p → r ≡ asWritten p → new ≡ leftBy p out → (r ≡ asWritten o) × (new ≡ leftBy o out)
+answered o p r out new e a s = (a ∙ ap asWritten (sym e), s ∙ ap (λ (x : Output). leftBy x out) (sym e))

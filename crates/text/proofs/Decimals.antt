@@ -88,7 +88,7 @@ trimmed-all [] a = a
 trimmed-all (d ∷ []) a = a
 trimmed-all (d ∷ e ∷ l) a = either AllDigits (eqb d 48) (trimmed (e ∷ l)) (d ∷ e ∷ l) (trimmed-all (e ∷ l) (a .1)) a
 
-trimmed-length : (l : List ℕ) → length (trimmed l) ≤ length l
+pub trimmed-length : (l : List ℕ) → length (trimmed l) ≤ length l
 unfolding trimmed
 trimmed-length [] = omega arith
 trimmed-length (d ∷ []) = omega arith

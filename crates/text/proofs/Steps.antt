@@ -14,7 +14,7 @@ use Rattle.bitstream.specs.Reading.{choose}
 use Rattle.output.specs.Output.{spliced}
 use Rattle.output.proofs.Splices.{spliced-none, spliced-last}
 use Rattle.text.specs.Decimal.{digits, trimmed, decimal, isDigit, Scanned, scanned, scan, number, FoundAt}
-use Rattle.text.proofs.Decimals.{length-digits}
+use Rattle.text.proofs.Decimals.{length-digits, trimmed-length}
 use Rattle.text.proofs.Texts.{and-left, and-right}
 
 -- ---- how many digits a number has
@@ -44,6 +44,23 @@ trimmed-shorter : (k n : ℕ) → n < 10 ^ suc k → trimmed (digits (suc (suc k
 trimmed-shorter k n h =
     ap trimmed (head-digit (suc k) n)
     ∙ trimmed-zero (48 + n / 10 ^ suc k % 10) k n (ap (λ (m : ℕ). 48 + m % 10) (div-eq-of-lt h))
+
+-- zeros in front
+trimmed-to : (j k n : ℕ) → n < 10 ^ suc k → trimmed (digits (j + suc k) n) ≡ trimmed (digits (suc k) n)
+trimmed-to zero k n h = let e : 0 + suc k ≡ suc k = omega arith in ap (λ (m : ℕ). trimmed (digits m n)) e
+trimmed-to (suc j) k n h =
+    let e : suc j + suc k ≡ suc (suc (j + k)) = omega arith in
+    let g : suc (j + k) ≡ j + suc k = omega arith in
+    let w : n < 10 ^ suc (j + k) = omega (arith, pow-le-pow-right {n = 10} (omega arith) {i = suc k} {j = suc (j + k)} (omega arith)) in
+    ap (λ (m : ℕ). trimmed (digits m n)) e ∙ trimmed-shorter (j + k) n w ∙ ap (λ (m : ℕ). trimmed (digits m n)) g ∙ trimmed-to j k n h
+
+-- a number below a power of ten has no more digits than that
+pub decimal-most : (k n : ℕ) → k < 10 → n < 10 ^ suc k → length (decimal n) ≤ suc k
+unfolding decimal
+decimal-most k n l h =
+    let e : 10 ≡ 9 - k + suc k = omega arith in
+    let s = ap (λ (m : ℕ). trimmed (digits m n)) e ∙ trimmed-to (9 - k) k n h in
+    omega (arith, ap (λ (x : List ℕ). length x) s, trimmed-length (digits (suc k) n), length-digits (suc k) n)
 
 -- none in front
 trimmed-full : (k n : ℕ) → 10 ^ k ≤ n → n < 10 ^ suc k → trimmed (digits (suc k) n) ≡ digits (suc k) n

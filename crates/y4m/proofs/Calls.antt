@@ -9,18 +9,13 @@ use lib.ListN.{length}
 use Rattle.bitstream.specs.Reading.{choose}
 use Rattle.headers.specs.declared.Session.{Session}
 use Rattle.headers.specs.Fits.{sessionFits}
-use Rattle.output.specs.Output.{Output, refused, leftBy, within, asWritten, spliced}
-use Rattle.output.specs.declared.Written.{Written}
-use Rattle.output.specs.declared.Written.the-variants.{Bytes, Refused}
+use Rattle.output.specs.Output.{refused, leftBy, within, asWritten, spliced}
+use Rattle.output.specs.declared.Written.the-variants.{Bytes}
 use Rattle.output.proofs.Splices.{written-whole, written-nothing}
 use Rattle.y4m.specs.declared.Numbers.{Numbers}
 use Rattle.y4m.specs.Stream.{numbersOf, headerText, frameBytes, frameText, framesText, streamText, countOf, streamWith, streamFor, headerFor, frameWith, frameFor}
 use Rattle.y4m.specs.Film.{numbersFit, step}
 use Rattle.y4m.proofs.FrameLaws.{count-fits, stream-length, stream-written, room-enough, room-short}
-
--- an answer and what is left, where what is to be written is known
-pub answered : (o p : Output) (r : Written) (out new : List ℕ) → o ≡ p → r ≡ asWritten p → new ≡ leftBy p out → (r ≡ asWritten o) × (new ≡ leftBy o out)
-answered o p r out new e a s = (a ∙ ap asWritten (sym e), s ∙ ap (λ (x : Output). leftBy x out) (sym e))
 
 module _ (s : Session) where
   pub stream-8 : (frames : List ℕ) (room : ℕ) → sessionFits s ≡ false → streamFor s frames room ≡ refused 8

@@ -5,9 +5,10 @@ use mathlib.Core.Path.{_≡_, refl, sym, ap, _∙_}
 use mathlib.Core.List.{List}
 use borrow.Author.Tests.{not-true, not-false}
 use lib.ListN.{length}
+use Rattle.output.proofs.Splices.{answered}
 use Rattle.y4m.specs.Film.{numbersFit}
 use Rattle.y4m.proofs.Sessions.{numbers-fit}
-use Rattle.y4m.proofs.Calls.{answered, stream-8, stream-1, stream-is}
+use Rattle.y4m.proofs.Calls.{stream-8, stream-1, stream-is}
 use borrow.Author.Needs.{needs}
 use Rattle.y4m.proofs.write.Statement.{statement}
 use Rattle.y4m.proofs.write.Tie as tie

@@ -7,10 +7,10 @@ use borrow.Author.Tests.{not-true, not-false}
 use lib.ListN.{length}
 use Rattle.y4m.specs.Film.{numbersFit}
 use Rattle.y4m.proofs.Sessions.{numbers-fit}
-use Rattle.output.proofs.Splices.{written-nothing, written-whole}
+use Rattle.output.proofs.Splices.{answered, written-nothing, written-whole}
 use Rattle.y4m.specs.Stream.{frameText}
 use Rattle.y4m.proofs.FrameLaws.{text-length}
-use Rattle.y4m.proofs.Calls.{answered, frame-8, frame-1, frame-is}
+use Rattle.y4m.proofs.Calls.{frame-8, frame-1, frame-is}
 use borrow.Author.Needs.{needs}
 use Rattle.y4m.proofs.write_frame.Statement.{statement}
 use Rattle.y4m.proofs.write_frame.Tie as tie

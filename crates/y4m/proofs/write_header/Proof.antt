@@ -8,10 +8,10 @@ use lib.ListN.{length}
 use Rattle.y4m.specs.Film.{numbersFit}
 use Rattle.y4m.proofs.Sessions.{numbers-fit}
 use Rattle.output.specs.Output.{spliced}
-use Rattle.output.proofs.Splices.{written-nothing, written-whole}
+use Rattle.output.proofs.Splices.{answered, written-nothing, written-whole}
 use Rattle.y4m.specs.Stream.{headerText}
 use Rattle.y4m.proofs.HeaderLaws.{line-room, line-taken}
-use Rattle.y4m.proofs.Calls.{answered, header-8, header-is}
+use Rattle.y4m.proofs.Calls.{header-8, header-is}
 use borrow.Author.Needs.{needs}
 use Rattle.y4m.proofs.write_header.Statement.{statement}
 use Rattle.y4m.proofs.write_header.Tie as tie
