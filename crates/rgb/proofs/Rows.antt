@@ -12,6 +12,8 @@ use Rattle.geometry.specs.declared.PixelFormat.the-variants.{Chroma420, Chroma4
 use Rattle.geometry.specs.declared.Plane.{Plane}
 use Rattle.geometry.specs.Sizes.{across, up, planeBlocks, blocksOf, blocksBefore, planeOf}
 use Rattle.geometry.specs.Order.{inTurn}
+use Rattle.geometry.specs.Frame.{block}
+use Rattle.geometry.specs.Sample.{sampleIn, sampleAt}
 use Rattle.geometry.proofs.Lists.{turn-same}
 use Rattle.geometry.proofs.SizeLaws.{before-next, before-to, sizes-small}
 use Rattle.output.specs.Output.{spliced}
@@ -159,3 +161,11 @@ module _ (f : PixelFormat) (w h : ℕ) (planes : List ℕ) where
         ∙ ap (λ (v : List ℕ). spliced 0 (inTurn rowFrom n ++ v) l) (ed ∙ ap (pictureRow f w h planes) back)
         ∙ ap (λ (v : List ℕ). spliced 0 v l) (sym (turn-more rowFrom n))
         ∙ ap (λ (k : ℕ). spliced 0 (inTurn rowFrom k) l) (sym down)
+
+-- ---- the samples are those of the specification: column x % 8 and row y % 8 of block (x / 8, y / 8)
+pub sample-lies : (f : PixelFormat) (w h : ℕ) (planes : List ℕ) (p x y : ℕ) → sample f w h planes p x y ≡ getD planes (sampleAt f w h (block p (x / 8) (y / 8)) (x % 8) (y % 8)) 0
+unfolding sampleAt sampleIn
+sample-lies f w h planes p x y =
+    let ex : x ≡ 8 * (x / 8) + x % 8 = omega arith in
+    let ey : y ≡ 8 * (y / 8) + y % 8 = omega arith in
+    λ i. getD planes (64 * blocksBefore f w h p + (ey i * (8 * across f w p) + ex i)) 0

@@ -1,4 +1,5 @@
--- The five tables behind one another: what stands where (`luma-at` ..), and that no entry is large, found by one test. Assumes nothing.
+-- The five tables behind one another: what stands where (`luma-at` ..), that no entry is large, found by one test, and that each is a nearest
+-- integer to its rule (`luma-nearest` ..). Assumes nothing.
 use Prim.Native.Nat.{ℕ, zero, suc, _+_, _≤_, _<_, _^_}
 use native.Mathlib.Nat.{zero-add, suc-add, le-of-suc-le-suc, not-suc-le-zero}
 use native.Mathlib.Omega.{arith}
@@ -10,7 +11,9 @@ use lib.IntN.{ℤ, pos, natAbs}
 use lib.ListN.{length, getD, length-append, List·getD-append}
 use lib.Seq.{getD-append-add}
 use Rattle.numeric.specs.Divide.{roundOver}
-use Rattle.rgb.specs.Rule.{Rule, luma, redCr, greenCb, greenCr, blueCb, entry, entriesFrom, table, contributions}
+use Rattle.rgb.specs.Rule.{Rule, luma, redCr, greenCb, greenCr, blueCb, ruled, entry, entriesFrom, table, contributions}
+use Rattle.rgb.specs.Exact.{Nearest}
+use Rattle.rgb.proofs.Nearest.{entry-nearest}
 
 entries-length : (r : Rule) (v n : ℕ) → length (entriesFrom r v n) ≡ n
 unfolding entriesFrom
@@ -117,3 +120,23 @@ module _ (v : ℕ) (h : v < 256) where
       at (1024 + v)
       (behind luma from2 (1024 + v) (768 + v) (omega arith) ∙ behind redCr from3 (768 + v) (512 + v) (omega arith) ∙ behind greenCb from4 (512 + v) (256 + v) (omega arith)
       ∙ behind greenCr (table blueCb) (256 + v) v refl ∙ entries-at blueCb 0 256 v h ∙ ap (entry blueCb) (zero-add v))
+
+-- ---- "each entry .. rounded to nearest": each number of the tables is a nearest integer to its rule
+nearest-at : (i : ℕ) (r : Rule) (v : ℕ) → 0 < r .over → Stands i (entry r v) → Nearest (getD contributions i (pos 0)) (ruled r v) (r .over)
+nearest-at i r v h t = subst (λ (z : ℤ). Nearest z (ruled r v) (r .over)) (sym (t .there)) (entry-nearest r v h)
+
+module _ (v : ℕ) (h : v < 256) where
+  pub luma-nearest : Nearest (getD contributions v (pos 0)) (ruled luma v) (luma .over)
+  luma-nearest = nearest-at v luma v (omega arith) (luma-at v h)
+
+  pub red-nearest : Nearest (getD contributions (256 + v) (pos 0)) (ruled redCr v) (redCr .over)
+  red-nearest = nearest-at (256 + v) redCr v (omega arith) (red-at v h)
+
+  pub green-cb-nearest : Nearest (getD contributions (512 + v) (pos 0)) (ruled greenCb v) (greenCb .over)
+  green-cb-nearest = nearest-at (512 + v) greenCb v (omega arith) (green-cb-at v h)
+
+  pub green-cr-nearest : Nearest (getD contributions (768 + v) (pos 0)) (ruled greenCr v) (greenCr .over)
+  green-cr-nearest = nearest-at (768 + v) greenCr v (omega arith) (green-cr-at v h)
+
+  pub blue-nearest : Nearest (getD contributions (1024 + v) (pos 0)) (ruled blueCb v) (blueCb .over)
+  blue-nearest = nearest-at (1024 + v) blueCb v (omega arith) (blue-at v h)
