@@ -64,6 +64,8 @@ enum {
     WEDGEPETAL_FRAME_RESERVED = 11, /* an intra frame's 3 reserved bits are not 0 */
     WEDGEPETAL_RUN = 12,            /* a run exceeds the bits still wanted */
     WEDGEPETAL_TOKEN = 13,          /* a token moves its block past position 64 */
+    WEDGEPETAL_OUTPUT = 14,         /* the lent output is too short */
+    WEDGEPETAL_COLOUR_SPACE = 18,   /* CS is neither 1 nor 2 */
     WEDGEPETAL_ABSENT = 255         /* the frame has no such block, macro block or sample, or there is
                                        no such type, plane or qi */
 };
@@ -258,6 +260,28 @@ uint32_t wedgepetal_frame(uint64_t *session, size_t session_length,
                           const uint8_t *previous, size_t previous_length,
                           uint8_t *new_frame, size_t new_frame_length,
                           uint64_t *answer, size_t answer_length);
+
+/* ---- What is made of a decoded frame. */
+
+/* A frame in red, green and blue, by Rec. 470M: three bytes a pixel, R, G, B,
+ * the whole coded frame (16 FMBW by 16 FMBH), the top row first; subsampled
+ * chroma is repeated. A chroma and a luma contribution are each rounded to
+ * 1/65536 of a step before they are added, so that a byte lies within 6/10 of
+ * the exact value.
+ *
+ * session  (17 numbers) CS must be 1 or 2. Where a recording says 0 (unknown),
+ *          the caller may put the number in that he knows to be right
+ * planes   (64 NBS bytes) the planes of a frame, as wedgepetal_frame leaves them
+ * out      at least 768 NMBS bytes; those behind the picture stay
+ * written  (1 number) receives how many bytes were written, 768 NMBS
+ *
+ * Refusals, in the order in which they are found: 1 for the session's list, 8
+ * for its fields, 1 for the list of the answer, 1 for planes, 18, 14. A refused
+ * call writes nothing. */
+uint32_t wedgepetal_rgb(const uint64_t *session, size_t session_length,
+                        const uint8_t *planes, size_t planes_length,
+                        uint8_t *out, size_t out_length,
+                        uint64_t *written, size_t written_length);
 
 /* ---- For callers that lend work memory in one piece. Nothing is allocated. */
 

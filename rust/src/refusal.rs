@@ -37,6 +37,10 @@ impl Refusal {
     pub const RUN: Refusal = Refusal(12);
     /// A token moves its block past position 64.
     pub const TOKEN: Refusal = Refusal(13);
+    /// The lent output is too short.
+    pub const OUTPUT: Refusal = Refusal(14);
+    /// CS is neither 1 nor 2.
+    pub const COLOUR_SPACE: Refusal = Refusal(18);
     /// The frame has no such block, macro block or sample, or there is no such
     /// type, plane or qi.
     pub const ABSENT: Refusal = Refusal(255);
@@ -63,6 +67,8 @@ impl Refusal {
             11 => "an intra frame's 3 reserved bits are not 0",
             12 => "a run exceeds the bits still wanted",
             13 => "a token moves its block past position 64",
+            14 => "the lent output is too short",
+            18 => "CS is neither 1 nor 2",
             255 => {
                 "the frame has no such block, macro block or sample, \
                  or there is no such type, plane or qi"

@@ -28,7 +28,7 @@ fn flag_number(b: bool) -> u64
 }
 
 // The session that a list of 17 numbers says.
-fn session_of(list: &[u64]) -> Session
+pub fn session_of(list: &[u64]) -> Session
     requires { ⌜ length (now list) ≡ 17 ⌝ }
     ensures { λ r. ⌜ r ≡ sessionOf (now (list .entry)) ⌝ }
 {
@@ -57,7 +57,7 @@ fn session_of(list: &[u64]) -> Session
 
 // By what the lists of a call on a session are refused, 0 if by nothing: 1 for a session's list of another length, 8 for its fields, then 1
 // for a list for the answer that has another length than the one wanted.
-fn lists_refusal(session: &[u64], room: usize, wanted: usize) -> u32
+pub fn lists_refusal(session: &[u64], room: usize, wanted: usize) -> u32
     ensures { λ r. ⌜ r ≡ listsNumber wanted (now (session .entry)) room ⌝ }
 {
     if session.len() != 17 {
