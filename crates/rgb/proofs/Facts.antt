@@ -1,5 +1,5 @@
 -- Facts for the loops over pixels. Assumes nothing.
-use Prim.Native.Nat.{ℕ, zero, suc, _+_, _*_, _≤_, _<_}
+use Prim.Native.Nat.{ℕ, zero, suc, _+_, _*_, _/_, _%_, _≤_, _<_}
 use native.Mathlib.Nat.{zero-mul, suc-mul}
 use native.Mathlib.Omega.{arith}
 use mathlib.Core.Path.{_≡_, refl, sym, ap, _∙_, subst}
@@ -8,14 +8,15 @@ use lib.IntN.{ℤ, pos, _+ℤ_, +ℤ-assoc, +ℤ-comm}
 use lib.ListN.{length, getD, take, drop, set, length-append, length-set}
 use lib.Seq.{take-suc-set, drop-length}
 use Rattle.numeric.specs.Clamp.{clamp255}
+use Rattle.geometry.specs.declared.PixelFormat.{PixelFormat}
 use Rattle.geometry.specs.Order.{inTurn}
 use Rattle.geometry.proofs.Lists.{turn-same, turn-add}
 use Rattle.output.specs.Output.{leftBy, gives, spliced}
 use Rattle.output.proofs.Splices.{spliced-first, spliced-next}
 use Rattle.rgb.specs.declared.Chroma.{Chroma}
 use Rattle.rgb.specs.Pixel.{chromaOf, sumOf, toByte, colours}
-use Rattle.rgb.specs.Picture.{rowOf}
-use Rattle.rgb.specs.Sums.{sums, threeAt, sumsAt}
+use Rattle.rgb.specs.Picture.{chromaColumn, rowOf}
+use Rattle.rgb.specs.Sums.{sums, threeAt, sumsAt, Reaches}
 
 -- the half may come first
 pub half-last : (a c : ℤ) → a +ℤ pos 32768 +ℤ c ≡ a +ℤ c +ℤ pos 32768
@@ -121,3 +122,44 @@ module _ (column : ℕ → ℕ) (luma cb cr : List ℕ) where
   pub row-done : (x : ℕ) (l m : List ℕ) → x ≡ length luma → length l ≡ 3 * length luma → m ≡ spliced 0 (inTurn pixelAt x) l → m ≡ rowOf column luma cb cr
   unfolding rowOf
   row-done x l m e h em = em ∙ spliced-whole (inTurn pixelAt x) l (omega (arith, pixels-length x, e, h)) ∙ ap (λ (n : ℕ). inTurn pixelAt n) e
+
+-- the sums of two pixels more, which share their chroma samples
+pub pair-more : (luma cb cr : List ℕ) (at k : ℕ) (c : Chroma) (l m new : List ℤ) → 6 * k + 6 ≤ length l → length m ≡ length l → c ≡ chromaOf (getD cb (at + k) 0) (getD cr (at + k) 0)
+    → m ≡ threeAt (6 * k) (getD luma (2 * (at + k)) 0) c l → new ≡ threeAt (6 * k + 3) (getD luma (2 * (at + k) + 1) 0) c m
+    → take (6 * k) l ≡ inTurn (λ j. sumsAt (λ x. x / 2) luma cb cr (2 * at + j)) (2 * k) → take (6 * (k + 1)) new ≡ inTurn (λ j. sumsAt (λ x. x / 2) luma cb cr (2 * at + j)) (2 * (k + 1))
+pair-more luma cb cr at k c l m new h n ec em en e =
+    let f : ℕ → List ℤ = λ j. sumsAt (λ x. x / 2) luma cb cr (2 * at + j) in
+    let p : 6 * k ≡ 3 * (2 * k) = omega arith in
+    let q : 6 * k + 3 ≡ 3 * (2 * k + 1) = omega arith in
+    let x : 2 * (at + k) ≡ 2 * at + 2 * k = omega arith in
+    let y : 2 * (at + k) + 1 ≡ 2 * at + (2 * k + 1) = omega arith in
+    let u : at + k ≡ (2 * at + 2 * k) / 2 = omega arith in
+    let v : at + k ≡ (2 * at + (2 * k + 1)) / 2 = omega arith in
+    let all : 6 * (k + 1) ≡ 3 * (2 * k + 1 + 1) = omega arith in
+    let two : 2 * k + 1 + 1 ≡ 2 * (k + 1) = omega arith in
+    let one = sums-more (λ x. x / 2) luma cb cr (2 * at) (2 * k) (at + k) c l m (omega arith) u ec (em ∙ (λ i. threeAt (p i) (getD luma (x i) 0) c l)) (sym (ap (λ (z : ℕ). take z l) p) ∙ e) in
+    let more = sums-more (λ x. x / 2) luma cb cr (2 * at) (2 * k + 1) (at + k) c m new (omega arith) v ec (en ∙ (λ i. threeAt (q i) (getD luma (y i) 0) c m)) one in
+    ap (λ (z : ℕ). take z new) all ∙ more ∙ ap (inTurn f) two
+
+-- the sums of 16 pixels, by the format
+module _ (luma cb cr : List ℕ) (at : ℕ) (r : List ℤ) where
+  pub pairs-are : (f : PixelFormat) → ((x : ℕ) → chromaColumn f x ≡ x / 2) → at % 16 ≡ 0 → r ≡ inTurn (λ k. sumsAt (λ x. x / 2) luma cb cr (2 * (at / 2) + k)) 16
+      → r ≡ inTurn (λ k. sumsAt (chromaColumn f) luma cb cr (at + k)) 16
+  unfolding sumsAt
+  pairs-are f col even e =
+      let w : 2 * (at / 2) ≡ at = omega arith in
+      e ∙ ap (λ (n : ℕ). inTurn (λ k. sumsAt (λ x. x / 2) luma cb cr (n + k)) 16) w
+      ∙ turn-same _ _ 16 (λ k h. ap (λ (n : ℕ). sums (getD luma (at + k) 0) (chromaOf (getD cb n 0) (getD cr n 0))) (sym (col (at + k))))
+
+-- the chroma samples of 16 pixels are there
+pub pairs-reach : (f : PixelFormat) (n b c at : ℕ) → ((x : ℕ) → chromaColumn f x ≡ x / 2) → Reaches f n b c → at + 16 ≤ n → at % 16 ≡ 0 → (at / 2 + 8 ≤ b) × (at / 2 + 8 ≤ c)
+pairs-reach f n b c at col reach h even = let r = reach (at + 15) (omega arith) in (omega (arith, r .0, col (at + 15)), omega (arith, r .1, col (at + 15)))
+
+pub singles-reach : (f : PixelFormat) (n b c at : ℕ) → ((x : ℕ) → chromaColumn f x ≡ x) → Reaches f n b c → at + 16 ≤ n → (at + 16 ≤ b) × (at + 16 ≤ c)
+singles-reach f n b c at col reach h = let r = reach (at + 15) (omega arith) in (omega (arith, r .0, col (at + 15)), omega (arith, r .1, col (at + 15)))
+
+pub singles-are : (luma cb cr : List ℕ) (at : ℕ) (r : List ℤ) (f : PixelFormat) → ((x : ℕ) → chromaColumn f x ≡ x) → r ≡ inTurn (λ k. sumsAt (λ x. x) luma cb cr (at + k)) 16
+    → r ≡ inTurn (λ k. sumsAt (chromaColumn f) luma cb cr (at + k)) 16
+unfolding sumsAt
+singles-are luma cb cr at r f col e =
+    e ∙ turn-same _ _ 16 (λ k h. ap (λ (n : ℕ). sums (getD luma (at + k) 0) (chromaOf (getD cb n 0) (getD cr n 0))) (sym (col (at + k))))

@@ -5,7 +5,7 @@ use headers::SizesAnswer;
 use output::Written;
 ghost use mathlib.Core.Path.{_≡_};
 ghost use mathlib.Core.List.{map};
-ghost use Prim.Native.Nat.{_+_, _*_, _%_, _≤_, _<_};
+ghost use Prim.Native.Nat.{_+_, _*_, _/_, _%_, _≤_, _<_, min};
 ghost use lib.ListN.{length};
 ghost use Rattle.geometry.specs.Sizes.{up, blocksOf};
 ghost use Rattle.geometry.specs.Order.{inTurn};
@@ -1369,15 +1369,50 @@ fn put_sums(tables: &[i32], y: u8, c: Chroma, sums: &mut [i32], at: usize)
     sums[at + 2] = light + blue;
 }
 
-// The column of the chroma samples of column x: two pixels have the same where chroma is subsampled.
-fn chroma_column(format: PixelFormat, x: usize) -> usize
-    ensures { λ r. ⌜ r ≡ chromaColumn format x ⌝ }
+// n, or 8 where it is more. The compiler does not see that it is 8 in `pair_sums`, and keeps the loop there: written out
+// eight times it holds all sums in memory twice, and takes a third longer.
+fn at_most_8(n: usize) -> usize
+    ensures { λ r. ⌜ r ≡ min n 8 ⌝ }
 {
-    match format {
-        PixelFormat::Chroma420 => x / 2,
-        PixelFormat::Chroma422 => x / 2,
-        PixelFormat::Chroma444 => x,
+    if n < 8 {
+        return n;
     }
+    8
+}
+
+// The sums of 16 pixels of a row where each chroma sample serves two, from the chroma sample `at` on.
+fn pair_sums(tables: &[i32], luma: &[u8], cb: &[u8], cr: &[u8], at: usize) -> [i32; 48]
+    requires { ⌜ (now tables ≡ contributions) × (2 * at + 16 ≤ length (now luma)) × (at + 8 ≤ length (now cb)) × (at + 8 ≤ length (now cr)) ⌝ }
+    ensures { λ r. ⌜ r ≡ inTurn (λ k. sumsAt (λ x. x / 2) (now (luma .entry)) (now (cb .entry)) (now (cr .entry)) (2 * at + k)) 16 ⌝ }
+{
+    let n = at_most_8(cb.len() - at);
+    let mut sums = [0i32; 48];
+    let mut k: usize = 0;
+    while k < n {
+        let u = at + k;
+        let x = 2 * u;
+        let c = chroma_of(tables, cb[u], cr[u]);
+        put_sums(tables, luma[x], c, &mut sums, 6 * k);
+        put_sums(tables, luma[x + 1], c, &mut sums, 6 * k + 3);
+        k += 1;
+    }
+    sums
+}
+
+// The sums of 16 pixels of a row where each pixel has chroma samples of its own, from `at` on.
+fn single_sums(tables: &[i32], luma: &[u8], cb: &[u8], cr: &[u8], at: usize) -> [i32; 48]
+    requires { ⌜ (now tables ≡ contributions) × (at + 16 ≤ length (now luma)) × (at + 16 ≤ length (now cb)) × (at + 16 ≤ length (now cr)) ⌝ }
+    ensures { λ r. ⌜ r ≡ inTurn (λ k. sumsAt (λ x. x) (now (luma .entry)) (now (cb .entry)) (now (cr .entry)) (at + k)) 16 ⌝ }
+{
+    let mut sums = [0i32; 48];
+    let mut k: usize = 0;
+    while k < 16 {
+        let x = at + k;
+        let c = chroma_of(tables, cb[x], cr[x]);
+        put_sums(tables, luma[x], c, &mut sums, 3 * k);
+        k += 1;
+    }
+    sums
 }
 
 // The sums of 16 pixels of a row, from `at` on.
@@ -1389,19 +1424,14 @@ fn sums_of(
     cr: &[u8],
     at: usize,
 ) -> [i32; 48]
-    requires { ⌜ (now tables ≡ contributions) × Reaches format (length (now luma)) (length (now cb)) (length (now cr)) × (at + 16 ≤ length (now luma)) ⌝ }
+    requires { ⌜ (now tables ≡ contributions) × Reaches format (length (now luma)) (length (now cb)) (length (now cr)) × (at + 16 ≤ length (now luma)) × (at % 16 ≡ 0) ⌝ }
     ensures { λ r. ⌜ r ≡ inTurn (λ k. sumsAt (chromaColumn format) (now (luma .entry)) (now (cb .entry)) (now (cr .entry)) (at + k)) 16 ⌝ }
 {
-    let mut sums = [0i32; 48];
-    let mut k: usize = 0;
-    while k < 16 {
-        let x = at + k;
-        let u = chroma_column(format, x);
-        let c = chroma_of(tables, cb[u], cr[u]);
-        put_sums(tables, luma[x], c, &mut sums, 3 * k);
-        k += 1;
+    match format {
+        PixelFormat::Chroma420 => pair_sums(tables, luma, cb, cr, at / 2),
+        PixelFormat::Chroma422 => pair_sums(tables, luma, cb, cr, at / 2),
+        PixelFormat::Chroma444 => single_sums(tables, luma, cb, cr, at),
     }
-    sums
 }
 
 // A row of pixels, of a row of each plane.

@@ -1,109 +1,72 @@
--- `rgb::sums_of` meets its contract. The loop's invariant: the sums of k pixels are made. Assumes nothing.
-use Prim.Native.Nat.{ℕ, _+_, _-_, _*_, _≤_, _<_}
+-- `rgb::sums_of` meets its contract. Assumes nothing.
+use Prim.Native.Nat.{ℕ, _+_, _/_, _≤_}
 use native.Mathlib.Omega.{arith}
-use mathlib.Core.Path.{_≡_, refl, sym, ap, _∙_, subst}
-use mathlib.Core.List.{List}
-use lib.IntN.{ℤ}
-use lib.ListN.{length, getD, take}
-use lib.Seq.{take-all}
-use Rattle.geometry.specs.Order.{inTurn}
+use mathlib.Core.Path.{_≡_, ap}
+use lib.ListN.{length}
+use Rattle.geometry.specs.declared.PixelFormat.{PixelFormat}
 use Rattle.rgb.specs.Picture.{chromaColumn}
-use Rattle.rgb.specs.Sums.{sumsAt}
-use Rattle.rgb.proofs.Facts.{sums-more}
+use Rattle.rgb.proofs.Facts.{pairs-are, singles-are, pairs-reach, singles-reach}
 use borrow.Author.Needs.{needs}
 use Rattle.rgb.proofs.sums_of.Statement.{statement}
 use Rattle.rgb.proofs.sums_of.Tie as tie
 
-abbrev Inv-loop : tie.InvT-loop
-Inv-loop format tables luma cb cr at sums₀ k₀ sums k =
-    (k ≤ 16) × (length sums ≡ 48) × (take (3 * k) sums ≡ inTurn (λ j. sumsAt (chromaColumn format) luma cb cr (at + j)) k)
+enum-told : tie.Need-enum-told
+enum-told c = search needs
 
-abbrev μ-loop : tie.MeasureT-loop
-μ-loop format tables luma cb cr at sums₀ k₀ sums k = 16 - k
+pair-sums-requires : tie.Need-pair-sums-requires
+pair-sums-requires c κs =
+    let s = c .before .before .before .before .before in
+    let a = s .args in
+    let r = pairs-reach (a .format) (length (a .luma .now)) (length (a .cb .now)) (length (a .cr .now)) (a .at) (λ x. ap (λ (f : PixelFormat). chromaColumn f x) (c .enum-told .given .1)) (s .pre .1) (s .pre .2) (s .pre .3) in
+    (s .pre .0, omega (arith, s .pre .2), r .0, r .1)
 
-loop-holds : tie.Need-loop-holds Inv-loop μ-loop
-unfolding inTurn
-loop-holds c = (omega arith, refl, refl)
+enum-told-2 : tie.Need-enum-told-2
+enum-told-2 c = search needs
 
-add-x : tie.Need-add-x Inv-loop μ-loop
-add-x c = search needs
+pair-sums-requires-2 : tie.Need-pair-sums-requires-2
+pair-sums-requires-2 c κs =
+    let s = c .before .before .before .before .before in
+    let a = s .args in
+    let r = pairs-reach (a .format) (length (a .luma .now)) (length (a .cb .now)) (length (a .cr .now)) (a .at) (λ x. ap (λ (f : PixelFormat). chromaColumn f x) (c .enum-told2 .given .1)) (s .pre .1) (s .pre .2) (s .pre .3) in
+    (s .pre .0, omega (arith, s .pre .2), r .0, r .1)
 
-chroma-column-requires : tie.Need-chroma-column-requires Inv-loop μ-loop
-chroma-column-requires c κs = search needs
+enum-told-3 : tie.Need-enum-told-3
+enum-told-3 c = search needs
 
-shared-slice-read-chroma-of : tie.Need-shared-slice-read-chroma-of Inv-loop μ-loop
-shared-slice-read-chroma-of c =
-    let l = c .before .before .before .loop in
-    let s = c .before .before .before .before .before .before .before in
-    subst (λ (n : ℕ). n < length (s .args .cb .now)) (sym (c .before .chroma-column .ensures)) (s .pre .1 (s .args .at + l .k) (omega (arith, s .pre .2, c .before .before .loop-test .taken)) .0)
+single-sums-requires : tie.Need-single-sums-requires
+single-sums-requires c κs =
+    let s = c .before .before .before .before .before in
+    let a = s .args in
+    let r = singles-reach (a .format) (length (a .luma .now)) (length (a .cb .now)) (length (a .cr .now)) (a .at) (λ x. ap (λ (f : PixelFormat). chromaColumn f x) (c .enum-told3 .given .1)) (s .pre .1) (s .pre .2) in
+    (s .pre .0, s .pre .2, r .0, r .1)
 
-shared-slice-read-chroma-of-2 : tie.Need-shared-slice-read-chroma-of-2 Inv-loop μ-loop
-shared-slice-read-chroma-of-2 c =
-    let l = c .before .before .before .before .loop in
-    let s = c .before .before .before .before .before .before .before .before in
-    subst (λ (n : ℕ). n < length (s .args .cr .now)) (sym (c .before .before .chroma-column .ensures)) (s .pre .1 (s .args .at + l .k) (omega (arith, s .pre .2, c .before .before .before .loop-test .taken)) .1)
-
-chroma-of-requires : tie.Need-chroma-of-requires Inv-loop μ-loop
-chroma-of-requires c κs = search needs
-
-shared-slice-read-put-sums : tie.Need-shared-slice-read-put-sums Inv-loop μ-loop
-shared-slice-read-put-sums c = search needs
-
-slice-aggregate-put-sums : tie.Need-slice-aggregate-put-sums Inv-loop μ-loop
-slice-aggregate-put-sums c = search needs
-
-mul-put-sums : tie.Need-mul-put-sums Inv-loop μ-loop
-mul-put-sums c = search needs
-
-put-sums-requires : tie.Need-put-sums-requires Inv-loop μ-loop
-put-sums-requires c κs = search needs
-
-add-k : tie.Need-add-k Inv-loop μ-loop
-add-k c = search needs
-
-loop-less : tie.Need-loop-less Inv-loop μ-loop
-loop-less c = search needs
-
-loop-again : tie.Need-loop-again Inv-loop μ-loop
-loop-again c =
-    let l = c .before .before .before .before .before .before .before .before .before .loop in
-    let s = c .before .before .before .before .before .before .before .before .before .before .before .before .before in
-    let a = s .args in (
-      omega arith,
-      c .before .put-sums .kept .1 .1 .1 .0 ∙ l .inv .1,
-      sums-more (chromaColumn (a .format)) (a .luma .now) (a .cb .now) (a .cr .now) (a .at) (l .k) _ _ (l .sums) _ (omega (arith, l .inv .1, c .before .before .before .before .before .before .before .before .loop-test .taken))
-          (c .before .before .before .before .before .before .before .chroma-column .ensures)
-          (c .before .before .before .before .chroma-of .ensures .0)
-          (c .before .put-sums .ensures)
-          (l .inv .2),
-    )
-
-returns : tie.Need-returns Inv-loop μ-loop
+returns : tie.Need-returns
 returns c =
-    let l = c .before .loop in
-    let a = c .before .before .before .before .before .args in
-    let e : l .k ≡ 16 = omega (arith, l .inv .0, c .loop-test .left) in
-    sym (take-all (3 * l .k) (l .sums) (omega (arith, l .inv .1)))
-    ∙ l .inv .2
-    ∙ ap (λ (n : ℕ). inTurn (λ j. sumsAt (chromaColumn (a .format)) (a .luma .now) (a .cb .now) (a .cr .now) (a .at + j)) n) e
+    let s = c .before .before .before .before .before .before in
+    let a = s .args in
+    pairs-are (a .luma .now) (a .cb .now) (a .cr .now) (a .at) _ (a .format) (λ x. ap (λ (f : PixelFormat). chromaColumn f x) (c .before .enum-told .given .1)) (s .pre .3) (c .pair-sums .ensures)
+
+returns-2 : tie.Need-returns-2
+returns-2 c =
+    let s = c .before .before .before .before .before .before in
+    let a = s .args in
+    pairs-are (a .luma .now) (a .cb .now) (a .cr .now) (a .at) _ (a .format) (λ x. ap (λ (f : PixelFormat). chromaColumn f x) (c .before .enum-told2 .given .1)) (s .pre .3) (c .pair-sums2 .ensures)
+
+returns-3 : tie.Need-returns-3
+returns-3 c =
+    let a = c .before .before .before .before .before .before .args in
+    singles-are (a .luma .now) (a .cb .now) (a .cr .now) (a .at) _ (a .format) (λ x. ap (λ (f : PixelFormat). chromaColumn f x) (c .before .enum-told3 .given .1)) (c .single-sums .ensures)
 
 pub sums-of-spec : {M : Type 1} → statement M
 sums-of-spec =
     tie.close
     (tie.spec
-    Inv-loop
-    μ-loop
-    loop-holds
-    add-x
-    chroma-column-requires
-    shared-slice-read-chroma-of
-    shared-slice-read-chroma-of-2
-    chroma-of-requires
-    shared-slice-read-put-sums
-    slice-aggregate-put-sums
-    mul-put-sums
-    put-sums-requires
-    add-k
-    loop-less
-    loop-again
-    returns)
+    enum-told
+    pair-sums-requires
+    enum-told-2
+    pair-sums-requires-2
+    enum-told-3
+    single-sums-requires
+    returns
+    returns-2
+    returns-3)

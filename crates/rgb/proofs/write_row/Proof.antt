@@ -29,7 +29,7 @@ unfolding inTurn
 loop-holds c = let s = c .before .before .before .before in (omega arith, refl, refl, refl, sym (spliced-none 0 (s .args .out .now)))
 
 sums-of-requires : tie.Need-sums-of-requires Inv-loop μ-loop
-sums-of-requires c κs = let s = c .before .before .before .before .before .before in (s .pre .0 .0, s .pre .0 .1, more c)
+sums-of-requires c κs = let s = c .before .before .before .before .before .before in (s .pre .0 .0, s .pre .0 .1, more c, c .before .loop .inv .1)
 
 slice-aggregate-to-bytes : tie.Need-slice-aggregate-to-bytes Inv-loop μ-loop
 slice-aggregate-to-bytes c = search needs
