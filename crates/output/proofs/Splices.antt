@@ -1,0 +1,90 @@
+-- Bytes that are written into a slice from a place on, one after the other. Assumes nothing.
+use Prim.Native.Nat.{ℕ, zero, suc, _+_, _-_, _≤_, _<_}
+use native.Mathlib.Omega.{arith}
+use native.Mathlib.Nat.{add-assoc, zero-add, le-of-eq}
+use mathlib.Core.Path.{_≡_, refl, sym, ap, _∙_, subst}
+use mathlib.Core.Bool.{Bool, true, false}
+use mathlib.Core.List.{List, [], _∷_, _++_, append-nil, append-assoc}
+use lib.Dec.{leb}
+use lib.ListN.{length, take, drop, set, length-append, length-drop, take-append-drop}
+use lib.Seq.{length-take-le, take-at, drop-at, drop-drop, take-append-add, drop-append-add, drop-append-le, set-split}
+use borrow.Author.Tests.{le-leb, lt-leb}
+use borrow.Rule.Slice.PartMut.{putMid, post-is}
+use Rattle.output.specs.Output.{Output, gives, refused, leftBy, within, spliced}
+
+-- the slice keeps its length
+pub spliced-length : (at : ℕ) (t l : List ℕ) → at + length t ≤ length l → length (spliced at t l) ≡ length l
+unfolding spliced
+spliced-length at t l h =
+    length-append (take at l) (t ++ drop (at + length t) l)
+    ∙ omega (arith, h, length-take-le at l (omega arith), length-append t (drop (at + length t) l), length-drop (at + length t) l)
+
+-- what stands in front, and what stands in front with the bytes
+pub spliced-take : (at : ℕ) (t l : List ℕ) → at + length t ≤ length l → take (at + length t) (spliced at t l) ≡ take at l ++ t
+unfolding spliced
+spliced-take at t l h =
+    let front : length (take at l) ≡ at = length-take-le at l (omega arith) in
+    ap (λ (n : ℕ). take (n + length t) (take at l ++ (t ++ drop (at + length t) l))) (sym front)
+    ∙ take-append-add (take at l) (t ++ drop (at + length t) l) (length t)
+    ∙ ap (λ (x : List ℕ). take at l ++ x) (take-at t (drop (at + length t) l) (length t) refl)
+
+-- what stands behind
+pub spliced-drop : (at : ℕ) (t l : List ℕ) (k : ℕ) → at + length t ≤ length l → drop (at + length t + k) (spliced at t l) ≡ drop (at + length t + k) l
+unfolding spliced
+spliced-drop at t l k h =
+    let front : length (take at l) ≡ at = length-take-le at l (omega arith) in
+    let tail = drop (at + length t) l in
+    ap (λ (n : ℕ). drop n (take at l ++ (t ++ tail))) (add-assoc at (length t) k)
+    ∙ ap (λ (n : ℕ). drop (n + (length t + k)) (take at l ++ (t ++ tail))) (sym front)
+    ∙ drop-append-add (take at l) (t ++ tail) (length t + k)
+    ∙ drop-append-add t tail k
+    ∙ drop-drop k (at + length t) l
+
+-- nothing is written
+pub spliced-none : (at : ℕ) (l : List ℕ) → spliced at [] l ≡ l
+unfolding spliced
+spliced-none at l = let e : at + 0 ≡ at = omega arith in ap (λ (n : ℕ). take at l ++ drop n l) e ∙ take-append-drop at l
+
+open-up : (at : ℕ) (t l : List ℕ) → spliced at t l ≡ take at l ++ (t ++ drop (at + length t) l)
+unfolding spliced
+open-up at t l = refl
+
+-- t, and u behind it
+pub spliced-then : (at : ℕ) (t u l : List ℕ) → at + length t + length u ≤ length l → spliced (at + length t) u (spliced at t l) ≡ spliced at (t ++ u) l
+spliced-then at t u l h =
+    let a = spliced-take at t l (omega arith) in
+    let b = spliced-drop at t l (length u) (omega arith) in
+    let n : at + length t + length u ≡ at + length (t ++ u) = omega (arith, length-append t u) in
+    open-up (at + length t) u (spliced at t l)
+    ∙ (λ i. a i ++ (u ++ b i))
+    ∙ append-assoc (take at l) t (u ++ drop (at + length t + length u) l)
+    ∙ ap (λ (x : List ℕ). take at l ++ x) (sym (append-assoc t u (drop (at + length t + length u) l)))
+    ∙ ap (λ (k : ℕ). take at l ++ ((t ++ u) ++ drop k l)) n
+    ∙ sym (open-up at (t ++ u) l)
+
+-- the same, where the second place is told by its number
+pub spliced-next : (at next : ℕ) (t u l m : List ℕ) → m ≡ spliced at t l → next ≡ at + length t → at + length t + length u ≤ length l → spliced next u m ≡ spliced at (t ++ u) l
+spliced-next at next t u l m e n h = (λ i. spliced (n i) u (e i)) ∙ spliced-then at t u l h
+
+-- a part that was lent comes back
+pub spliced-part : (at e : ℕ) (t l : List ℕ) → at + length t ≡ e → putMid at (e - at) l t ≡ spliced at t l
+unfolding spliced
+spliced-part at e t l h =
+    ap (λ (x : List ℕ). take at l ++ (t ++ x)) (post-is at e l (omega arith) ∙ ap (λ (n : ℕ). drop n l) (sym h))
+
+-- one byte
+pub spliced-byte : (at b : ℕ) (l : List ℕ) → at < length l → set l at b ≡ spliced at (b ∷ []) l
+unfolding spliced
+spliced-byte at b l h = let e : suc at ≡ at + 1 = omega arith in set-split l at b h ∙ ap (λ (n : ℕ). take at l ++ b ∷ drop n l) e
+
+-- what a call leaves that wrote from the slice's beginning
+pub spliced-first : (t l : List ℕ) → spliced 0 t l ≡ leftBy (gives t) l
+unfolding spliced
+spliced-first t l = ap (λ (n : ℕ). t ++ drop n l) (zero-add (length t))
+
+-- the last test of a writing call
+pub within-fits : (room : ℕ) (t : List ℕ) → length t ≤ room → within room t ≡ gives t
+within-fits room t h = rw (le-leb (length t) room h)
+
+pub within-short : (room : ℕ) (t : List ℕ) → room < length t → within room t ≡ refused 14
+within-short room t h = rw (lt-leb (length t) room h)
