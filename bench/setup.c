@@ -18,7 +18,9 @@
 enum { MOST_BUILDS = 8, CALLS = 40 };
 static const double ENOUGH_SECONDS = 1.5;
 
-typedef uint32_t setup_call(const uint8_t *packet, size_t bytes, uint8_t *table, size_t length);
+/* Builds from before places were answered take no list for them, and do not look at one. */
+typedef uint32_t setup_call(const uint8_t *packet, size_t bytes, uint8_t *table, size_t length, uint64_t *place,
+                            size_t places);
 typedef uint32_t table_call(const uint8_t *table, size_t length);
 
 struct build {
@@ -55,9 +57,10 @@ static void add_build(char *word)
 
 static double setup_round(const struct build *b, const struct recording *r, uint8_t *table)
 {
+    uint64_t place;
     double start = now();
     for (int k = 0; k < CALLS; k++) {
-        if (b->setup(r->packets[2], r->lengths[2], table, WEDGEPETAL_TABLE_BYTES) != 0) {
+        if (b->setup(r->packets[2], r->lengths[2], table, WEDGEPETAL_TABLE_BYTES, &place, 1) != 0) {
             fail("a setup header is refused");
         }
     }

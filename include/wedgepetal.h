@@ -24,7 +24,8 @@
  * Each call returns 0 if it is accepted, else the number of its refusal. Where
  * several numbers apply, they are found in this order: 1 for the session's list,
  * 8 for its numbers, 1 for any other list, 8 for the table memory, then a fault
- * of the packet, then 17, or 255 if there is no such thing as is asked for.
+ * of the packet, then 17 (for a picture: 18, then 14), or 255 if there is no
+ * such thing as is asked for.
  *
  * A refusal found inside a packet (2 to 7, 9 to 13) has a place: the bit of the
  * packet, counted from 0 and from the highest bit of byte 0 on, at which the
@@ -40,6 +41,7 @@
  *   frame           session, new_frame,   answer (*)     answer; work memory: all zero
  *                   answer; work                         (8 for the session's numbers:
  *                   memory: all zero                     answer (*) alone)
+ *   rgb             out, written          nothing        nothing
  *   all others      their list            nothing        nothing
  *
  *   (*) nothing where the list for the place or the answer, or the session's
@@ -82,8 +84,10 @@ enum {
     WEDGEPETAL_FRAME_RESERVED = 11, /* an intra frame's 3 reserved bits are not 0 */
     WEDGEPETAL_RUN = 12,            /* a run exceeds the bits still wanted */
     WEDGEPETAL_TOKEN = 13,          /* a token moves its block past position 64 */
+    WEDGEPETAL_OUTPUT = 14,         /* the lent output is too short */
     WEDGEPETAL_COUNT_PASSED = 17,   /* key frames would pass 64 bits, or others would not stay below
                                        2 to the power KFGSHIFT; found after all else */
+    WEDGEPETAL_COLOUR_SPACE = 18,   /* CS is neither 1 nor 2 */
     WEDGEPETAL_ABSENT = 255         /* the frame has no such block, macro block or sample, or there is
                                        no such type, plane or qi */
 };
@@ -291,6 +295,28 @@ uint32_t wedgepetal_frame(uint64_t *session, size_t session_length,
                           const uint8_t *previous, size_t previous_length,
                           uint8_t *new_frame, size_t new_frame_length,
                           uint64_t *answer, size_t answer_length);
+
+/* ---- What is made of a decoded frame. */
+
+/* A frame in red, green and blue, by Rec. 470M: three bytes a pixel, R, G, B,
+ * the whole coded frame (16 FMBW by 16 FMBH), the top row first; subsampled
+ * chroma is repeated. A chroma and a luma contribution are each rounded to
+ * 1/65536 of a step before they are added, so that a byte lies within 6/10 of
+ * the exact value.
+ *
+ * session  (19 numbers) CS must be 1 or 2. Where a recording says 0 (unknown),
+ *          the caller may put the number in that he knows to be right
+ * planes   (64 NBS bytes) the planes of a frame, as wedgepetal_frame leaves them
+ * out      at least 768 NMBS bytes; those behind the picture stay
+ * written  (1 number) receives how many bytes were written, 768 NMBS
+ *
+ * Refusals, in the order in which they are found: 1 for the session's list, 8
+ * for its fields, 1 for the list of the answer, 1 for planes, 18, 14. A refused
+ * call writes nothing. */
+uint32_t wedgepetal_rgb(const uint64_t *session, size_t session_length,
+                        const uint8_t *planes, size_t planes_length,
+                        uint8_t *out, size_t out_length,
+                        uint64_t *written, size_t written_length);
 
 /* ---- For callers that lend work memory in one piece. Nothing is allocated. */
 

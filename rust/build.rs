@@ -11,7 +11,13 @@ fn main() {
     let workspace = Path::new(&package)
         .parent()
         .expect("the package lies in the workspace");
-    for name in ["crates", "dist", "tools/archive", "tools/crates-tree"] {
+    for name in [
+        "crates",
+        "dist",
+        "tools/archive",
+        "tools/crates-tree",
+        "tools/faces",
+    ] {
         println!("cargo::rerun-if-changed={}", workspace.join(name).display());
     }
     let output = Command::new(workspace.join("tools/archive"))

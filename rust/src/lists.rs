@@ -135,6 +135,16 @@ mod face {
             lengths: *mut u64,
             lengths_length: usize,
         ) -> u32;
+        pub fn wedgepetal_rgb(
+            session: *const u64,
+            session_length: usize,
+            planes: *const u8,
+            planes_length: usize,
+            out: *mut u8,
+            out_length: usize,
+            written: *mut u64,
+            written_length: usize,
+        ) -> u32;
         pub fn wedgepetal_frame(
             session: *mut u64,
             session_length: usize,
@@ -407,6 +417,24 @@ pub fn work_lengths(session: &[u64], lengths: &mut [u64]) -> u32 {
             session.len(),
             lengths.as_mut_ptr(),
             lengths.len(),
+        )
+    }
+}
+
+/// A frame in red, green and blue, three bytes a pixel, the top row first:
+/// `written` (1 number) receives how many bytes of `out` were written.
+pub fn rgb(session: &[u64], planes: &[u8], out: &mut [u8], written: &mut [u64]) -> u32 {
+    // SAFETY: as in `identification`.
+    unsafe {
+        face::wedgepetal_rgb(
+            session.as_ptr(),
+            session.len(),
+            planes.as_ptr(),
+            planes.len(),
+            out.as_mut_ptr(),
+            out.len(),
+            written.as_mut_ptr(),
+            written.len(),
         )
     }
 }

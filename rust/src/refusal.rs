@@ -10,7 +10,7 @@ pub struct Refusal {
     /// The number.
     pub number: u32,
     /// The bit place in the packet of the first bit of the field at fault, from
-    /// 0; 0 where no field of a packet is (1, 8, 17, 255).
+    /// 0; 0 where no field of a packet is (1, 8, 14, 17, 18, 255).
     pub place: u64,
 }
 
@@ -45,9 +45,13 @@ impl Refusal {
     pub const RUN: Refusal = Refusal::by(12);
     /// A token moves its block past position 64.
     pub const TOKEN: Refusal = Refusal::by(13);
+    /// The lent output is too short.
+    pub const OUTPUT: Refusal = Refusal::by(14);
     /// A key frame more than 64 bits count, or so many other packets since the
     /// last one that they would not stay below 2 to the power KFGSHIFT.
     pub const COUNT_PASSED: Refusal = Refusal::by(17);
+    /// CS is neither 1 nor 2.
+    pub const COLOUR_SPACE: Refusal = Refusal::by(18);
     /// The frame has no such block, macro block or sample, or there is no such
     /// type, plane or qi.
     pub const ABSENT: Refusal = Refusal::by(255);
@@ -90,10 +94,12 @@ impl Refusal {
             11 => "an intra frame's 3 reserved bits are not 0",
             12 => "a run exceeds the bits still wanted",
             13 => "a token moves its block past position 64",
+            14 => "the lent output is too short",
             17 => {
                 "the key frames would pass 64 bits, \
                  or the packets since the last one would reach 2 to the power KFGSHIFT"
             }
+            18 => "CS is neither 1 nor 2",
             255 => {
                 "the frame has no such block, macro block or sample, \
                  or there is no such type, plane or qi"

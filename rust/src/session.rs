@@ -210,6 +210,18 @@ impl Session {
         let Block { plane, x, y } = block;
         one(|out| lists::sample_offset(&self.to_list(), plane, x, y, column, row, out))
     }
+
+    /// Writes a plane buffer as red, green and blue, by Rec. 470M: three bytes
+    /// a pixel, the whole coded frame, the top row first. Answers how many
+    /// bytes were written; those behind them stay.
+    ///
+    /// # Errors
+    ///
+    /// Number 8; 1 if `planes` has another length than a plane buffer; 18 if
+    /// CS is neither 1 nor 2; 14 if `out` is too short. Nothing is written.
+    pub fn rgb(&self, planes: &[u8], out: &mut [u8]) -> Result<u64, Refusal> {
+        one(|written| lists::rgb(&self.to_list(), planes, out, written))
+    }
 }
 
 /// The answer of a call that writes one number.

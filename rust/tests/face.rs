@@ -56,6 +56,28 @@ fn macro_blocks_and_samples() {
 }
 
 #[test]
+fn red_green_and_blue() {
+    let mut session = session(1, 1, 3);
+    session.cs = 2;
+    // The top row is the last of the planes: red, and black below it.
+    let plane = |low: u8, top: u8| [vec![low; 240], vec![top; 16]].concat();
+    let planes = [plane(16, 81), plane(128, 90), plane(128, 240)].concat();
+    let mut out = vec![9; 770];
+    assert_eq!(session.rgb(&planes, &mut out), Ok(768));
+    assert!(out[..48].chunks(3).all(|pixel| pixel == [254, 0, 0]));
+    assert!(out[48..768].iter().all(|byte| *byte == 0));
+    assert_eq!(out[768..], [9, 9]);
+    let mut short = vec![9; 767];
+    assert_eq!(session.rgb(&planes, &mut short), Err(Refusal::OUTPUT));
+    session.cs = 0;
+    assert_eq!(session.rgb(&planes, &mut short), Err(Refusal::COLOUR_SPACE));
+    assert_eq!(session.rgb(&planes[1..], &mut short), Err(Refusal::LENGTH));
+    session.fmbh = 0;
+    assert_eq!(session.rgb(&planes, &mut short), Err(Refusal::SESSION));
+    assert_eq!(short, [9; 767]);
+}
+
+#[test]
 fn tables() {
     let packet = setup_packet(|_| 7);
     let table = setup(&packet).unwrap();
@@ -137,8 +159,8 @@ fn sessions_are_lists() {
 
 #[test]
 fn every_number_has_a_meaning() {
-    let unknown = Refusal::by(14).meaning();
-    for number in (1..=13).chain([17, 255]) {
+    let unknown = Refusal::by(15).meaning();
+    for number in (1..=14).chain([17, 18, 255]) {
         assert_ne!(Refusal::by(number).meaning(), unknown);
     }
     let with_place = (0..=255).filter(|number| Refusal::by(*number).has_place());

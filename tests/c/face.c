@@ -323,6 +323,38 @@ static void try_frames(uint64_t *session)
     take_back("around new", m.new_frame, BUFFER);
 }
 
+/* White above, black below, and the refusals in their order. */
+static void try_rgb(void)
+{
+    uint64_t session[WEDGEPETAL_SESSION_NUMBERS] = {0, 1, 1, 16, 16, 0, 0, 25, 1, 0, 0, 0, 0, 0, 0, 0, 0, 0, 0};
+    uint64_t written[1] = {0};
+    uint8_t planes[384], out[800];
+    const size_t s = WEDGEPETAL_SESSION_NUMBERS;
+
+    memset(planes, 16, 240);
+    memset(planes + 240, 235, 16);
+    memset(planes + 256, 128, 128);
+    memset(out, 7, sizeof out);
+    expect("unknown space", wedgepetal_rgb(session, s, planes, 384, out, 767, written, 1),
+           WEDGEPETAL_COLOUR_SPACE);
+    expect("short planes", wedgepetal_rgb(session, s, planes, 383, out, 767, written, 1),
+           WEDGEPETAL_LENGTH);
+    session[WEDGEPETAL_CS] = 2;
+    expect("short output", wedgepetal_rgb(session, s, planes, 384, out, 767, written, 1),
+           WEDGEPETAL_OUTPUT);
+    expect("nothing written", out[0], 7);
+    expect("rgb", wedgepetal_rgb(session, s, planes, 384, out, sizeof out, written, 1), 0);
+    expect("bytes", written[0], 768);
+    expect("white", out[0], 255);
+    expect("the last of the top row", out[47], 255);
+    expect("black", out[48], 0);
+    expect("the last pixel", out[767], 0);
+    expect("behind it", out[768], 7);
+    session[WEDGEPETAL_FMBW] = 0;
+    expect("no session", wedgepetal_rgb(session, s, planes, 384, out, sizeof out, written, 1),
+           WEDGEPETAL_SESSION);
+}
+
 int main(void)
 {
     uint64_t session[WEDGEPETAL_SESSION_NUMBERS] = {0};
@@ -373,6 +405,7 @@ int main(void)
     session[WEDGEPETAL_PF] = 0;
     try_table();
     try_frames(session);
+    try_rgb();
     if (failures == 0) {
         puts("the C face answers as it should");
     }

@@ -19,8 +19,8 @@ static const uint8_t *packet;
 static size_t packet_length;
 static uint64_t session[WEDGEPETAL_SESSION_NUMBERS], number[1], matrix[WEDGEPETAL_MATRIX_NUMBERS];
 static uint64_t answer[WEDGEPETAL_ANSWER_NUMBERS];
-static uint8_t *golden, *previous, *new_frame;
-static size_t buffer;
+static uint8_t *golden, *previous, *new_frame, *picture;
+static size_t buffer, picture_length;
 static struct wedgepetal_work work;
 static uint32_t answered;
 
@@ -56,6 +56,16 @@ static void frame(void)
                                    new_frame, buffer, answer);
 }
 
+/* The picture of the new frame, as one of colour space 1. */
+static void rgb(void)
+{
+    uint64_t space = session[WEDGEPETAL_CS];
+    session[WEDGEPETAL_CS] = 1;
+    answered = wedgepetal_rgb(session, WEDGEPETAL_SESSION_NUMBERS, new_frame, buffer, picture,
+                              picture_length, number, 1);
+    session[WEDGEPETAL_CS] = space;
+}
+
 static struct {
     const char *name;
     void (*run)(void);
@@ -63,9 +73,10 @@ static struct {
 } calls[] = {
     {"identification", identification, 0}, {"setup", setup, 0},           {"table", test_table, 0},
     {"loop_limit", loop_limit, 0},         {"matrix", one_matrix, 0},     {"frame", frame, 0},
+    {"rgb", rgb, 0},
 };
 
-enum { IDENTIFICATION, SETUP, TABLE, LOOP_LIMIT, MATRIX, FRAME, CALLS };
+enum { IDENTIFICATION, SETUP, TABLE, LOOP_LIMIT, MATRIX, FRAME, RGB, CALLS };
 
 /* ---- the painted stack */
 
@@ -133,7 +144,9 @@ static void begin_frames(void)
     buffer = sizes[WEDGEPETAL_BUFFER];
     golden = calloc(3, buffer);
     work = wedgepetal_work_in(malloc(lengths[WEDGEPETAL_WORK_BYTES]), lengths);
-    if (golden == NULL || work.coded == NULL) {
+    picture_length = 768 * sizes[WEDGEPETAL_NMBS];
+    picture = malloc(picture_length);
+    if (golden == NULL || work.coded == NULL || picture == NULL) {
         abort();
     }
     previous = golden + buffer;
@@ -148,6 +161,7 @@ static void next_frame(void)
         if (answer[WEDGEPETAL_KIND] == WEDGEPETAL_INTRA) {
             memcpy(golden, new_frame, buffer);
         }
+        accepted(RGB);
     }
 }
 

@@ -7,6 +7,7 @@ use crate::frame_calls::{Caller, answer};
 use crate::frames::{self, Frame};
 use crate::generate::cases::buffer;
 use crate::library;
+use crate::padding;
 use crate::random::Random;
 use crate::reference::decode::{Accepted, Decoder};
 use crate::reference::frame::{FramePacket, Kind};
@@ -83,6 +84,7 @@ pub fn compare(files: &[String]) -> Result<(), String> {
         four: FourCases::default(),
         damaged: frames::Report::default(),
         lists: call_lists::Report::default(),
+        headers: padding::Counts::default(),
     };
     for file in files {
         let counts = run.recording(Path::new(file));
@@ -96,9 +98,12 @@ pub fn compare(files: &[String]) -> Result<(), String> {
         total.reached
     );
     println!("{}", run.four);
-    println!("damaged packets:\n{}", run.damaged);
+    println!("headers:\n{}", run.headers);
+    println!("damaged packets, and all packets padded:\n{}", run.damaged);
     println!("lists with other calls among the packets:\n{}", run.lists);
-    crate::all_tried(&run.four.missed(), files.len() >= ENOUGH_RECORDINGS)
+    let padded = run.damaged.padded.missed_of_frames(padding::OF_FRAME);
+    let missed = [run.four.missed(), padded, run.headers.missed(&[])].concat();
+    crate::all_tried(&missed, files.len() >= ENOUGH_RECORDINGS)
 }
 
 /// What is compared beside the frames.
@@ -106,10 +111,12 @@ struct Run {
     random: Random,
     /// Cases of four vectors in the packets as they are.
     four: FourCases,
-    /// Damaged packets.
+    /// Damaged packets, and all packets with bytes behind them.
     damaged: frames::Report,
     /// Lists of calls.
     lists: call_lists::Report,
+    /// The headers, with bytes behind them.
+    headers: padding::Counts,
 }
 
 impl Run {
@@ -124,6 +131,8 @@ impl Run {
         };
         let fields = identification(first).map_err(|fault| format!("{fault:?}"))?;
         let setup = setup(third).map_err(|fault| format!("{fault:?}"))?;
+        self.headers.identification(&mut self.random, first)?;
+        self.headers.setup(&mut self.random, third)?;
         let decoder = Decoder::new(&fields, &setup);
         let caller = Caller::new(&fields, third)?;
         let session = library::session(first)?;
@@ -136,7 +145,9 @@ impl Run {
             let cut = cut.contains(&(number as u64));
             let frame = self
                 .damaged(&players.reference, &caller, packet, cut)
-                .and_then(|()| players.feed(&mut self.random, &caller, packet))
+                .and_then(|()| {
+                    players.feed(&mut self.random, &mut self.damaged.padded, &caller, packet)
+                })
                 .and_then(|frame| counts.compare(frame, &libtheoras, &mut said.ffmpeg))
                 .map_err(|text| format!("frame {number}: {text}"))?;
             self.four.count(&decoder.layout, &frame);
@@ -267,6 +278,7 @@ impl<'a> Players<'a> {
     fn feed(
         &mut self,
         random: &mut Random,
+        padded: &mut padding::Counts,
         caller: &Caller,
         packet: &[u8],
     ) -> Result<Decoded, String> {
@@ -280,6 +292,7 @@ impl<'a> Players<'a> {
         let lists = self.library.lists(caller, &brought);
         let expected = lists.accepted(&Accepted::of(&read), self.reference.previous.clone());
         let left = library::hold(random, &lists, &expected)?;
+        padded.frame(random, self.reference.decoder, &lists, &left)?;
         let frame = Decoded {
             line: said::frame(read.kind, &read.qis, &left.new),
             packet: read,

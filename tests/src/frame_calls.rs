@@ -7,9 +7,9 @@ use crate::random::Random;
 use crate::reference::bits::Fault;
 use crate::reference::decode::{Accepted, Outcome, Work, frame_call};
 use crate::reference::frame::reader::FrameFault;
-use crate::reference::frame_face::{ANSWER_NUMBERS, Lists, TableMemory};
+use crate::reference::frame_face::{ANSWER_NUMBERS, Left, Lists, TableMemory};
 use crate::reference::samples::ways::Way;
-use crate::reference::session::{Fields, SESSION_NUMBERS, Session};
+use crate::reference::session::{Fields, SESSION_NUMBERS};
 use crate::reference::table_face::Table;
 use crate::reference::work_memory::SLICES;
 use crate::sessions;
@@ -63,62 +63,74 @@ impl Caller {
         list
     }
 
-    /// The frame call of the independent implementation gives what reading and
-    /// making give, or 17, and the library's call with this session's list answers
-    /// and leaves just that. `new` is as before the call, then as after it. Gives
-    /// the call's number.
-    pub fn right(
-        &self,
-        random: &mut Random,
-        frame: &Frame,
-        list: [u64; SESSION_NUMBERS],
-        packet: &[u8],
-        made: &Result<Made, FrameFault>,
-        new: &mut Vec<u8>,
-    ) -> Result<u32, String> {
-        let lists = Lists {
-            session: &list,
+    /// The lists of a call.
+    pub fn lists<'a>(
+        &'a self,
+        frame: &Frame<'a>,
+        session: &'a [u64; SESSION_NUMBERS],
+        packet: &'a [u8],
+        new: &'a [u8],
+        answer: &'a [u64],
+    ) -> Lists<'a> {
+        Lists {
+            session,
             packet,
             table: &self.table,
             work: self.work,
             golden: frame.golden,
             previous: frame.previous,
             new,
-            answer: &answer(random),
-        };
-        let session = Session::of_list(&list);
-        let past = Fault {
-            number: 17,
-            place: 0,
-        };
-        let done = match made {
-            Ok(made) => match session.after(made.packet.kind) {
-                Some(after) => Ok((made, after)),
-                None => Err(past),
-            },
-            Err(fault) => Err(fault.fault),
-        };
-        let wanted = done.as_ref().map_or(&*new, |(made, _)| &made.new);
-        let expected = Outcome {
-            answer: match &done {
-                Ok((made, _)) => Ok(Accepted::of(&made.packet)),
-                Err(fault) => Err(*fault),
-            },
-            session: match &done {
-                Ok((_, after)) => after.clone(),
-                Err(_) => session.clone(),
-            },
-            work: Work::Zero,
-        };
-        let mut second = new.clone();
-        let got = frame_call(&session, packet, lists.lent(), Way::Second, &mut second);
-        if got != expected || second != *wanted {
-            return Err(format!("{expected:?}, the frame call gives {got:?}"));
+            answer,
         }
-        let left = library::hold(random, &lists, &lists.left(&got, second))?;
-        *new = left.new;
-        Ok(left.number)
     }
+}
+
+/// The frame call of the independent implementation with lists that are right
+/// gives what reading and making give, or 17, and the library's call answers and
+/// leaves just that. Gives what the library left.
+pub fn right(
+    random: &mut Random,
+    lists: &Lists,
+    made: &Result<Made, FrameFault>,
+) -> Result<Left, String> {
+    let session = lists
+        .session()
+        .map_err(|number| format!("{number} of right lists"))?;
+    let past = Fault {
+        number: 17,
+        place: 0,
+    };
+    let done = match made {
+        Ok(made) => match session.after(made.packet.kind) {
+            Some(after) => Ok((made, after)),
+            None => Err(past),
+        },
+        Err(fault) => Err(fault.fault),
+    };
+    let wanted = done.as_ref().map_or(lists.new, |(made, _)| &made.new);
+    let expected = Outcome {
+        answer: match &done {
+            Ok((made, _)) => Ok(Accepted::of(&made.packet)),
+            Err(fault) => Err(*fault),
+        },
+        session: match &done {
+            Ok((_, after)) => after.clone(),
+            Err(_) => session.clone(),
+        },
+        work: Work::Zero,
+    };
+    let mut second = lists.new.to_vec();
+    let got = frame_call(
+        &session,
+        lists.packet,
+        lists.lent(),
+        Way::Second,
+        &mut second,
+    );
+    if got != expected || second != wanted {
+        return Err(format!("{expected:?}, the frame call gives {got:?}"));
+    }
+    library::hold(random, lists, &lists.left(&got, second))
 }
 
 /// What an answer's list holds before a call.

@@ -11,10 +11,11 @@
 
 use crate::four_cases::{FORMATS, FourCases};
 use crate::four_streams;
-use crate::frame_calls::Caller;
+use crate::frame_calls::{Caller, answer, right};
 use crate::generate::cases::Case;
 use crate::generate::encoder::{Encoded, encoded};
 use crate::generate::frame_packets::{packet, variant};
+use crate::padding;
 use crate::random::Random;
 use crate::reference::decode::Decoder;
 use crate::reference::frame::reader::{Bits, Field, FrameFault};
@@ -26,6 +27,9 @@ use std::fmt;
 
 /// How many packets are made for one session and setup.
 const PACKETS_OF_A_CASE: u64 = 64;
+
+/// One packet out of so many is padded.
+const PADDED: u64 = 4;
 
 /// What was tried.
 #[derive(Default)]
@@ -45,6 +49,8 @@ pub struct Report {
     cuts: u64,
     /// Packets that are read to their end and refused by 17, by kind.
     past: BTreeMap<Kind, u64>,
+    /// Packets with bytes behind them.
+    pub padded: padding::Counts,
 }
 
 /// What a packet is decoded with.
@@ -226,14 +232,23 @@ impl Report {
         new: &mut Vec<u8>,
     ) -> Result<(), String> {
         let mut list = caller.session(random, frame.references);
-        let number = caller.right(random, frame, list, packet, made, new)?;
-        let (17, Ok(read)) = (number, made) else {
+        let before = answer(random);
+        let lists = caller.lists(frame, &list, packet, new, &before);
+        let left = right(random, &lists, made)?;
+        if random.once_in(PADDED) {
+            self.padded.frame(random, frame.decoder, &lists, &left)?;
+        }
+        *new = left.new;
+        let (17, Ok(read)) = (left.number, made) else {
             return Ok(());
         };
         let kind = read.packet.kind;
         *self.past.entry(kind).or_default() += 1;
         list[KEY_FRAMES..].fill(0);
-        let number = caller.right(random, frame, list, packet, made, new)?;
+        let lists = caller.lists(frame, &list, packet, new, &before);
+        let left = right(random, &lists, made)?;
+        let number = left.number;
+        *new = left.new;
         let none_may_follow = kind != Kind::Intra && caller.fields.kfgshift == 0;
         match number == 0 || none_may_follow {
             true => Ok(()),
@@ -278,6 +293,7 @@ impl Report {
             .map(|(field, number)| format!("no {field:?} refused by {number}"))
             .chain(self.four.missed())
             .chain(past)
+            .chain(self.padded.missed_of_frames(padding::OF_FRAME))
             .collect()
     }
 }
@@ -403,6 +419,6 @@ impl fmt::Display for Report {
         for ((field, number), count) in &self.faults {
             writeln!(f, "    {:20} {number}: {count}", format!("{field:?}"))?;
         }
-        Ok(())
+        write!(f, "{}", self.padded)
     }
 }

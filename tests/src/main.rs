@@ -16,6 +16,7 @@ mod generate;
 mod library;
 mod orders;
 mod packets;
+mod padding;
 mod parts;
 mod random;
 mod reference;

@@ -3,6 +3,7 @@
 use crate::check::{Difference, Tally};
 use crate::damage::{Packet, cut_anywhere, damage_bit, damage_byte, extend, random_tail};
 use crate::fields;
+use crate::padding;
 use crate::random::Random;
 use crate::reference::bits::Fault;
 use crate::reference::face::{Call, Identified, answer, identified};
@@ -13,6 +14,9 @@ use std::fmt;
 
 /// How many bytes a header has.
 const HEADER_BYTES: usize = 42;
+
+/// One packet out of so many is padded.
+const PADDED: u64 = 16;
 
 /// A header before it is written as bits.
 struct Header {
@@ -139,6 +143,8 @@ pub struct Report {
     tally: Tally,
     /// Per field of `LAYOUT`: how often it was at fault by 2, 3, 4, 5, 6.
     faults: [[u64; 7]; LAYOUT.len()],
+    /// Packets with bytes behind them.
+    padded: padding::Counts,
 }
 
 impl Report {
@@ -147,6 +153,7 @@ impl Report {
         Report {
             tally: Tally::new(),
             faults: [[0; 7]; LAYOUT.len()],
+            padded: padding::Counts::default(),
         }
     }
 
@@ -166,6 +173,12 @@ impl Report {
                 Ok(())
             }
         }
+    }
+
+    /// Compares a packet with bytes behind it, and what it is without them.
+    pub fn padded(&mut self, random: &mut Random, packet: &[u8]) -> Result<(), Difference> {
+        let padded = self.padded.identification(random, packet);
+        padded.map_err(|came| Difference::new("call:     wedgepetal_identification\n", &came))
     }
 
     /// Compares a packet with lists of these lengths for the session and the
@@ -206,6 +219,7 @@ impl Report {
                 }
             }
         }
+        missed.extend(self.padded.missed(padding::OF_IDENTIFICATION));
         missed
     }
 }
@@ -238,7 +252,7 @@ impl fmt::Display for Report {
             }
             writeln!(f)?;
         }
-        Ok(())
+        write!(f, "{}", self.padded)
     }
 }
 
@@ -251,6 +265,9 @@ pub fn compare(random: &mut Random, packets: u64) -> Result<Report, Difference> 
     for _ in 0..packets {
         let packet = packet(random);
         report.compare(packet.bytes())?;
+        if random.once_in(PADDED) {
+            report.padded(random, packet.bytes())?;
+        }
         if random.once_in(64) {
             let (session, place) = match random.below(3) {
                 0 => (random.pick(&[0, 1, 17, 18, 20]), 1),

@@ -6,6 +6,7 @@ use crate::damage::overwrite;
 use crate::damage::{
     Packet, cut_anywhere, cut_in_field, damage_bit, damage_byte, extend, random_tail,
 };
+use crate::padding;
 use crate::random::Random;
 use crate::reference::setup::{Field, Setup, SetupFault, setup};
 use crate::reference::table_memory::{TABLE_BYTES, left_by};
@@ -23,6 +24,9 @@ const LONGEST: usize = 2 * TABLE_BYTES;
 /// How many packets are made of one header.
 const PACKETS_OF_A_HEADER: u64 = 16;
 
+/// One packet out of so many is padded.
+const PADDED: u64 = 16;
+
 /// What was compared.
 pub struct Report {
     tally: Tally,
@@ -30,6 +34,8 @@ pub struct Report {
     faults: BTreeMap<(Field, u32), u64>,
     /// The trees of accepted packets, by leaves and depth.
     trees: [[u64; 33]; 33],
+    /// Packets with bytes behind them.
+    padded: padding::Counts,
     /// Lent memory, and what lies in it before each call.
     memory: Vec<u8>,
     pattern: Vec<u8>,
@@ -45,6 +51,7 @@ impl Report {
             tally: Tally::new(),
             faults: BTreeMap::new(),
             trees: [[0; 33]; 33],
+            padded: padding::Counts::default(),
             memory: pattern.clone(),
             pattern,
         }
@@ -67,6 +74,12 @@ impl Report {
         let lengths = [TABLE_BYTES, 1];
         self.call(packet, lengths, (number, Some(place)), Some(&table))?;
         Ok(read)
+    }
+
+    /// Compares a packet with bytes behind it, and what it is without them.
+    pub fn padded(&mut self, random: &mut Random, packet: &[u8]) -> Result<(), Difference> {
+        let padded = self.padded.setup(random, packet);
+        padded.map_err(|came| Difference::new("call:     wedgepetal_setup\n", &came))
     }
 
     /// Compares one packet, and if a field of it is refused by 7 also what is
@@ -160,6 +173,7 @@ impl Report {
                 missed.push(format!("no tree of {leaves} leaves and depth {depth}"));
             }
         }
+        missed.extend(self.padded.missed(padding::OF_SETUP));
         missed
     }
 }
@@ -222,7 +236,8 @@ impl fmt::Display for Report {
         writeln!(
             f,
             "  trees accepted: {trees}, {lone} lone leaves, {full} of 32 leaves, {comb} of depth 31"
-        )
+        )?;
+        write!(f, "{}", self.padded)
     }
 }
 
@@ -285,6 +300,9 @@ fn of_one_header(random: &mut Random, report: &mut Report) -> Result<(), Differe
     for _ in 1..PACKETS_OF_A_HEADER {
         let packet = packet(random, &written);
         report.compare_and_cut(packet.bytes())?;
+        if random.once_in(PADDED) {
+            report.padded(random, packet.bytes())?;
+        }
         if random.once_in(64) {
             let length = random.pick(&[0, 1, TABLE_BYTES - 1, TABLE_BYTES + 1, LONGEST]);
             let lengths = match random.below(3) {

@@ -20,6 +20,9 @@ use std::path::Path;
 /// How many single-bit changes of each setup header are tried.
 const DAMAGES: u64 = 500;
 
+/// How many of them, and of each identification header, are also padded.
+const PADDED: u64 = 20;
+
 /// What was compared so far.
 struct Run {
     random: Random,
@@ -49,10 +52,11 @@ pub fn compare(files: &[String]) -> Result<(), String> {
         println!("{file}: {line}");
     }
     println!(
-        "recordings: {}, without a text: {}, different setup headers: {}\n{}{}",
+        "recordings: {}, without a text: {}, different setup headers: {}\n{}{}{}",
         files.len(),
         run.without_text,
         run.met.len(),
+        run.packets,
         run.setups,
         run.tables
     );
@@ -69,6 +73,7 @@ impl Run {
             return Err(format!("{} packets only", packets.len()));
         };
         packets::every_cut(&mut self.packets, first).map_err(text)?;
+        self.identification_padded(first).map_err(text)?;
         let fields = identification(first).map_err(|fault| format!("{fault:?}"))?;
         let setup = self.setup(third)?;
         let beside = path.with_extension("txt");
@@ -89,17 +94,33 @@ impl Run {
             tables::compare_one(&mut self.random, &mut self.tables, &table).map_err(text)?;
             tables::whole(&mut self.tables, &table).map_err(text)?;
             self.damaged(packet).map_err(text)?;
+            self.setups.padded(&mut self.random, packet).map_err(text)?;
         }
         Ok(setup)
+    }
+
+    /// Compares an identification header with bytes behind it, whole and with a
+    /// bit changed.
+    fn identification_padded(&mut self, packet: &[u8]) -> Result<(), Difference> {
+        self.packets.padded(&mut self.random, packet)?;
+        for _ in 0..PADDED {
+            let mut damaged = packet.to_vec();
+            damage_bit(&mut self.random, &mut damaged);
+            self.packets.padded(&mut self.random, &damaged)?;
+        }
+        Ok(())
     }
 
     /// Compares a setup header cut at each length, and with a bit changed.
     fn damaged(&mut self, packet: &[u8]) -> Result<(), Difference> {
         setups::every_cut(&mut self.setups, packet)?;
-        for _ in 0..DAMAGES {
+        for number in 0..DAMAGES {
             let mut damaged = packet.to_vec();
             damage_bit(&mut self.random, &mut damaged);
             self.setups.compare(&damaged)?;
+            if number < PADDED {
+                self.setups.padded(&mut self.random, &damaged)?;
+            }
         }
         Ok(())
     }

@@ -5,6 +5,7 @@ use crate::frame_calls::Caller;
 use crate::generate::cases::{Case, buffer};
 use crate::generate::frame_packets::packet;
 use crate::library;
+use crate::padding;
 use crate::random::Random;
 use crate::reference::decode::{Decoder, Work};
 use crate::reference::frame_face::{ANSWER_NUMBERS, Left, Lists, TableMemory};
@@ -20,6 +21,9 @@ use std::ops::Range;
 
 /// How many calls are made for one session and setup.
 const CALLS_OF_A_CASE: u64 = 32;
+
+/// The packet of one call out of so many is padded.
+const PADDED: u64 = 8;
 
 /// The lists whose lengths are judged: that of the session before its fields,
 /// then all others, work memory at their end.
@@ -70,6 +74,8 @@ pub struct Report {
     together: BTreeMap<[bool; 4], u64>,
     /// Calls with any session and any table memory that were accepted.
     accepted: u64,
+    /// Calls whose packets have bytes behind them.
+    padded: padding::Counts,
 }
 
 /// Tries so many calls.
@@ -177,6 +183,9 @@ impl Report {
         };
         let left = library::hold(random, &lists, &lists.call(Way::Second))?;
         *self.answers.entry(left.number).or_default() += 1;
+        if random.once_in(PADDED) {
+            self.padded.any_call(random, &lists, &left)?;
+        }
         Ok(left)
     }
 
@@ -190,7 +199,9 @@ impl Report {
         let together = 15_usize.saturating_sub(self.together.len());
         let together = (together > 0).then(|| format!("{together} sets of faults"));
         let accepted = (self.accepted == 0).then(|| "no call accepted".to_string());
-        alone.chain(together).chain(accepted).collect()
+        let padded = self.padded.missed_numbers(padding::OF_LISTS);
+        let others = together.into_iter().chain(accepted).chain(padded);
+        alone.chain(others).collect()
     }
 }
 
@@ -309,6 +320,7 @@ impl fmt::Display for Report {
             f,
             "  one wrong length {alone}, one to four faults {together}, accepted with any session, table memory and lengths {}",
             self.accepted
-        )
+        )?;
+        write!(f, "{}", self.padded)
     }
 }

@@ -30,7 +30,7 @@ const fn flag(name: &'static str, value: Option<&'static str>, about: &'static s
     Flag { name, value, about }
 }
 
-const FLAGS: [Flag; 11] = [
+const FLAGS: [Flag; 13] = [
     flag(
         "--stream",
         Some("N"),
@@ -51,6 +51,12 @@ const FLAGS: [Flag; 11] = [
         Some("N"),
         "the number of the frame, from 0 (as without this word)",
     ),
+    flag(
+        "--colour-space",
+        Some("N"),
+        "1 or 2: the colour space of a recording that names none (CS 0)",
+    ),
+    flag("--grey", None, "its luma alone, cut to the picture (PNG)"),
     flag(
         "--fields",
         None,
@@ -124,12 +130,18 @@ pub const VERBS: [Verb; 8] = [
         name: "picture",
         words: &[
             RECORDING,
-            ("PICTURE.png", "the picture, or - for the standard output"),
+            (
+                "PICTURE.png",
+                "the picture, or - for the standard output; PPM if the name ends in .ppm",
+            ),
         ],
-        about: "writes one frame as a grey picture (PNG): its luma, cut to the picture",
-        more: "",
+        about: "writes one frame in colour (PNG or PPM)",
+        more: "The whole coded frame in red, green and blue by Rec. 470M. Where the recording names no colour\n\
+               space (CS 0), --colour-space names it.",
         options: &[
             "--frame",
+            "--colour-space",
+            "--grey",
             "--stream",
             "--after-gap",
             "--max-memory",

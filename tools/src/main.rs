@@ -11,6 +11,7 @@ mod interrupt;
 mod json;
 mod layout;
 mod left;
+mod look;
 mod memory;
 mod output;
 mod packets;
@@ -27,6 +28,7 @@ use arguments::{Job, Wanted};
 use decode::{AfterGap, Request};
 use index::Index;
 use input::{Input, is_same_file};
+use look::Look;
 use memory::Limit;
 use output::{Folder, Output, Trouble};
 use recording::{Choice, Fault, packet_file};
@@ -220,7 +222,9 @@ fn request(job: &Job, out: &Path) -> Result<Request, Failure> {
                 "y4m" => Output::Film(target, None),
                 "picture" => {
                     let frame = parsed(job, "--frame", |text| text.parse().ok())?;
-                    Output::Picture(target, Some(frame.unwrap_or(0)))
+                    let space = parsed(job, "--colour-space", |text| text.parse().ok())?;
+                    let look = Look::new(out, job.has("--grey"), space);
+                    Output::Picture(target, Some(frame.unwrap_or(0)), look)
                 }
                 _ => Output::Hashes(target),
             }

@@ -1,9 +1,10 @@
 //! What is made of decoded frames: a film, planes, a picture, hashes.
 
 use crate::interrupt::begun;
+use crate::layout;
+use crate::look::Look;
 use crate::target::{Target, Temporary, is_standard, resolved, said};
 use crate::y4m::Y4m;
-use crate::{layout, png};
 use recording::hash::hash;
 use std::fs::{self, File};
 use std::io::{ErrorKind, Write};
@@ -52,8 +53,8 @@ pub enum Output {
     Frames(Folder),
     /// A line for each packet.
     Hashes(Target),
-    /// The frame with this number, until it is there.
-    Picture(Target, Option<u64>),
+    /// The frame with this number, until it is there, and how it is shown.
+    Picture(Target, Option<u64>, Look),
 }
 
 impl Output {
@@ -66,9 +67,7 @@ impl Output {
                 open_once(target)?;
                 Ok(target.write(|out| writeln!(out, "stream {stream}"))?)
             }
-            Output::Picture(..) => Y4m::of(player.session())
-                .map(|_| ())
-                .map_err(Trouble::Unfit),
+            Output::Picture(..) => Ok(()),
         }
     }
 
@@ -85,11 +84,10 @@ impl Output {
                 let y4m = Y4m::of(answer.player.session()).map_err(Trouble::Unfit)?;
                 target.write(|out| y4m.write_frame(out, frame))?;
             }
-            (Output::Picture(target, wanted), Some(frame)) if *wanted == Some(answer.number) => {
-                let y4m = Y4m::of(answer.player.session()).map_err(Trouble::Unfit)?;
-                target.open()?;
-                let (width, rows) = y4m.luma(frame);
-                target.write(|out| png::write(out, width, &rows))?;
+            (Output::Picture(target, wanted, look), Some(frame))
+                if *wanted == Some(answer.number) =>
+            {
+                look.write(target, answer.player.session(), frame)?;
                 *wanted = None;
             }
             _ => {}
@@ -99,13 +97,13 @@ impl Output {
 
     /// Whether it needs no more frames.
     pub fn is_done(&self) -> bool {
-        matches!(self, Output::Picture(_, None))
+        matches!(self, Output::Picture(_, None, _))
     }
 
     /// The frame that was wanted and did not come.
     pub fn missing(&self) -> Option<u64> {
         match self {
-            Output::Picture(_, wanted) => *wanted,
+            Output::Picture(_, wanted, _) => *wanted,
             _ => None,
         }
     }
@@ -122,7 +120,7 @@ impl Output {
 
     fn target(&self) -> Option<&Target> {
         match self {
-            Output::Film(target, _) | Output::Hashes(target) | Output::Picture(target, _) => {
+            Output::Film(target, _) | Output::Hashes(target) | Output::Picture(target, ..) => {
                 Some(target)
             }
             Output::Frames(_) => None,
@@ -132,7 +130,7 @@ impl Output {
     /// Writes what is still held back.
     pub fn flush(&mut self) -> Result<(), String> {
         match self {
-            Output::Film(target, _) | Output::Hashes(target) | Output::Picture(target, _) => {
+            Output::Film(target, _) | Output::Hashes(target) | Output::Picture(target, ..) => {
                 target.flush()
             }
             Output::Frames(_) => Ok(()),
@@ -142,7 +140,7 @@ impl Output {
     /// All is written: it takes its own name.
     pub fn finish(&mut self) -> Result<(), String> {
         match self {
-            Output::Film(target, _) | Output::Hashes(target) | Output::Picture(target, _) => {
+            Output::Film(target, _) | Output::Hashes(target) | Output::Picture(target, ..) => {
                 target.finish()
             }
             Output::Frames(folder) => folder.finish(),

@@ -1,4 +1,4 @@
-//! Grey pictures as PNG files. The samples are stored as they are: nothing is
+//! Pictures as PNG files. The samples are stored as they are: nothing is
 //! packed, and every program that reads PNG reads them.
 
 use std::io::{self, Write};
@@ -6,14 +6,32 @@ use std::io::{self, Write};
 /// The most bytes of a stored block.
 const BLOCK: usize = 65_535;
 
-/// Writes a picture of these rows, the highest first, each so wide.
-pub fn write(out: &mut dyn Write, width: usize, rows: &[&[u8]]) -> io::Result<()> {
+/// What the samples of a pixel are.
+#[derive(Clone, Copy)]
+pub enum Samples {
+    /// One.
+    Grey,
+    /// Red, green and blue.
+    Colour,
+}
+
+/// Writes a picture of these rows, the highest first, each of so many pixels.
+pub fn write(
+    out: &mut dyn Write,
+    samples: Samples,
+    width: usize,
+    rows: &[&[u8]],
+) -> io::Result<()> {
+    let colour_type = match samples {
+        Samples::Grey => 0,
+        Samples::Colour => 2,
+    };
     let mut header = Vec::new();
     // A frame that was decoded is less than 2^20 samples wide and high.
     header.extend((width as u32).to_be_bytes());
     header.extend((rows.len() as u32).to_be_bytes());
-    // 8 bits a sample, grey, the only ways of packing and filtering, no interlace.
-    header.extend([8, 0, 0, 0, 0]);
+    // 8 bits a sample, the only ways of packing and filtering, no interlace.
+    header.extend([8, colour_type, 0, 0, 0]);
     out.write_all(b"\x89PNG\r\n\x1A\n")?;
     write_chunk(out, b"IHDR", &header)?;
     // Each row begins with its filter: none.
@@ -98,9 +116,18 @@ mod tests {
     #[test]
     fn a_small_picture() {
         let mut file = Vec::new();
-        write(&mut file, 2, &[&[1, 2], &[3, 4]]).unwrap();
+        write(&mut file, Samples::Grey, 2, &[&[1, 2], &[3, 4]]).unwrap();
         assert_eq!(file[16..24], [0, 0, 0, 2, 0, 0, 0, 2]);
         let block = [1, 6, 0, 0xF9, 0xFF, 0, 1, 2, 0, 3, 4];
+        assert!(file.windows(block.len()).any(|part| part == block));
+    }
+
+    #[test]
+    fn a_small_picture_in_colour() {
+        let mut file = Vec::new();
+        write(&mut file, Samples::Colour, 1, &[&[1, 2, 3], &[4, 5, 6]]).unwrap();
+        assert_eq!(file[16..29], [0, 0, 0, 1, 0, 0, 0, 2, 8, 2, 0, 0, 0]);
+        let block = [1, 8, 0, 0xF7, 0xFF, 0, 1, 2, 3, 0, 4, 5, 6];
         assert!(file.windows(block.len()).any(|part| part == block));
     }
 }

@@ -82,11 +82,11 @@ fn work_is_counted_and_timed() {
 }
 
 #[test]
-fn a_picture_is_the_luma_of_its_frame() {
+fn a_grey_picture_is_the_luma_of_its_frame() {
     let folder = folder("picture");
     good(&folder, "sample s.packets");
     good(&folder, "frames s.packets planes");
-    good(&folder, "picture s.packets p.png --frame 3");
+    good(&folder, "picture s.packets p.png --frame 3 --grey");
     let plane = fs::read(folder.join("planes/000003.planes")).unwrap();
     let png = fs::read(folder.join("p.png")).unwrap();
     // The picture lies 4 rows above the frame's lowest; its highest row is 235.
@@ -96,6 +96,75 @@ fn a_picture_is_the_luma_of_its_frame() {
     assert_eq!(status, 1);
     assert!(err.contains("there is no frame 7; frames: 7"), "{err}");
     assert!(!folder.join("q.png").exists());
+}
+
+/// Red, green and blue by Rec. 470M, clamped, but not rounded.
+fn exact(y: u8, cb: u8, cr: u8) -> [f64; 3] {
+    let (kr, kb) = (0.299, 0.114);
+    let light = (f64::from(y) - 16.0) / 219.0;
+    let (pb, pr) = (
+        (f64::from(cb) - 128.0) / 224.0,
+        (f64::from(cr) - 128.0) / 224.0,
+    );
+    let green = light
+        - 2.0 * (1.0 - kb) * kb / (1.0 - kb - kr) * pb
+        - 2.0 * (1.0 - kr) * kr / (1.0 - kb - kr) * pr;
+    [
+        light + 2.0 * (1.0 - kr) * pr,
+        green,
+        light + 2.0 * (1.0 - kb) * pb,
+    ]
+    .map(|colour| (255.0 * colour).clamp(0.0, 255.0))
+}
+
+#[test]
+fn a_picture_in_colour_is_the_whole_frame() {
+    let folder = folder("colour");
+    good(&folder, "sample s.packets");
+    good(&folder, "frames s.packets planes");
+    good(&folder, "picture s.packets p.ppm --frame 3");
+    good(&folder, "picture s.packets p.png --frame 3");
+    let plane = fs::read(folder.join("planes/000003.planes")).unwrap();
+    let ppm = fs::read(folder.join("p.ppm")).unwrap();
+    let pixels = ppm.strip_prefix(b"P6\n320 240\n255\n").unwrap();
+    assert_eq!(pixels.len(), 3 * 320 * 240);
+    // The sample is 4:2:0. The rows of planes stand from below.
+    let (cb, cr) = (320 * 240, 320 * 240 + 160 * 120);
+    for (number, pixel) in pixels.chunks(3).enumerate() {
+        let (x, y) = (number % 320, 239 - number / 320);
+        let chroma = y / 2 * 160 + x / 2;
+        let wanted = exact(plane[y * 320 + x], plane[cb + chroma], plane[cr + chroma]);
+        for (byte, wanted) in pixel.iter().zip(wanted) {
+            assert!((f64::from(*byte) - wanted).abs() <= 0.6, "pixel {x}, {y}");
+        }
+    }
+    let png = fs::read(folder.join("p.png")).unwrap();
+    assert!(png.windows(960).any(|part| part == &pixels[..960]));
+}
+
+#[test]
+fn a_colour_space_is_named() {
+    let folder = folder("space");
+    good(&folder, "sample s.packets");
+    good(&folder, "picture s.packets p.png");
+    let mut packets = fs::read(folder.join("s.packets")).unwrap();
+    let header = packets.windows(7).position(|part| part == b"\x80theora");
+    packets[header.unwrap() + 36] = 0;
+    fs::write(folder.join("z.packets"), packets).unwrap();
+    for words in [
+        "picture z.packets z.png",
+        "picture z.packets z.png --colour-space 3",
+    ] {
+        let (status, _, err) = run(&folder, words);
+        assert!(
+            status == 1 && err.contains("refused by 18, "),
+            "{words}: {err}"
+        );
+        assert!(!folder.join("z.png").exists());
+    }
+    good(&folder, "picture z.packets z.png --colour-space 2");
+    let [p, z] = ["p.png", "z.png"].map(|name| fs::read(folder.join(name)).unwrap());
+    assert!(p == z);
 }
 
 #[test]

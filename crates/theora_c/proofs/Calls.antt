@@ -75,7 +75,7 @@ module _ (n : ℕ) (session old : List ℕ) {k : ℕ} (e : k ≡ listsNumber n s
   unmade call z = rw (ne-eqb _ 0 (λ w. z (e ∙ w))) (ap (λ (m : ℕ). gives m old) e)
 
 -- a list of one number, after it was stored
-only : (l : List ℕ) (n : ℕ) → length l ≡ 1 → set l 0 n ≡ n ∷ []
+pub only : (l : List ℕ) (n : ℕ) → length l ≡ 1 → set l 0 n ≡ n ∷ []
 only [] n h = absurd (omega arith)
 only (x ∷ []) n h = refl
 only (x ∷ y ∷ l) n h = absurd (omega arith)

@@ -27,7 +27,7 @@ fn flag_number(b: bool) -> u64
 }
 
 // The session that a list of 19 numbers says.
-fn session_of(list: &[u64]) -> Session
+pub fn session_of(list: &[u64]) -> Session
     requires { ⌜ length (now list) ≡ 19 ⌝ }
     ensures { λ r. ⌜ r ≡ sessionOf (now (list .entry)) ⌝ }
 {
@@ -58,7 +58,7 @@ fn session_of(list: &[u64]) -> Session
 
 // By what the lists of a call on a session are refused before it is made, 0 if by nothing: 1 for a session's list of another length; where the list
 // for the answer has another length than the one wanted, 8 for the session's fields, then 1. Where it has that length the call itself finds 8.
-fn lists_refusal(session: &[u64], room: usize, wanted: usize) -> u32
+pub fn lists_refusal(session: &[u64], room: usize, wanted: usize) -> u32
     ensures { λ r. ⌜ r ≡ listsNumber wanted (now (session .entry)) room ⌝ }
 {
     if session.len() != 19 {

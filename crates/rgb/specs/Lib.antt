@@ -1,0 +1,5 @@
+pub mod Rule
+pub mod Pixel
+pub mod Exact
+pub mod Picture
+pub mod Sums

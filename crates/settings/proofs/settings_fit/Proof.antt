@@ -1,0 +1,13 @@
+-- `settings::settings_fit` meets its contract. Assumes nothing.
+use mathlib.Core.Path.{refl}
+use Rattle.settings.specs.Settings.{settingsFit}
+use borrow.Author.Needs.{needs}
+use Rattle.settings.proofs.settings_fit.Statement.{statement}
+use Rattle.settings.proofs.settings_fit.Tie as tie
+
+returns : tie.Need-returns
+unfolding settingsFit
+returns c = refl
+
+pub settings-fit-spec : {M : Type 1} → statement M
+settings-fit-spec = tie.close (tie.spec returns)
