@@ -91,3 +91,11 @@ field-of-eight p at w h =
 pub field-of-own : (p : List ℕ) (at w : ℕ) → w ≤ 32
     → number p (at / 8 * 8) (((at + w + 7) / 8 - at / 8) * 8) / 2 ^ ((at + w + 7) / 8 * 8 - (at + w)) % (1 * 2 ^ w % 2 ^ 64) ≡ number p at w
 field-of-own p at w h = field-part p at w (((at + w + 7) / 8 - at / 8) * 8) ((at + w + 7) / 8 * 8 - (at + w)) h (omega arith)
+
+-- w bits out of two bytes, with b bits behind
+pub bits-of-two : (p : List ℕ) (at w b : ℕ) → at % 8 + w + b ≡ 16 → getD p (at / 8) 0 < 256 → getD p (at / 8 + 1) 0 < 256
+    → (getD p (at / 8) 0 * 256 + getD p (at / 8 + 1) 0) / 2 ^ b % 2 ^ w ≡ number p at w
+bits-of-two p at w b s h l =
+    let e : at / 8 * 8 + at % 8 ≡ at = omega arith in
+    let two : getD p (at / 8) 0 * 256 + getD p (at / 8 + 1) 0 ≡ number p (at / 8 * 8) 16 = rw (← byte-number p (at / 8) h) (byte-more p (at / 8) 1 l) in
+    rw (two, ← s, number-part p (at / 8 * 8) (at % 8) w b, e)

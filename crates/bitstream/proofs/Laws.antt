@@ -5,7 +5,7 @@
 use Prim.Native.Nat.{ℕ, zero, suc, _+_, _-_, _*_, _/_, _%_, _^_, _≤_, _<_}
 use native.Mathlib.Omega.{arith}
 use native.Mathlib.Nat.{le-trans}
-use mathlib.Core.Path.{_≡_, refl, sym, ap, _∙_}
+use mathlib.Core.Path.{_≡_, refl, sym, ap, _∙_, subst}
 use mathlib.Core.List.{List, [], _∷_, _++_, append-nil, append-assoc}
 use mathlib.Core.Bool.{Bool, true, false}
 use lib.ListN.{length, getD, length-append, List·getD-append}
@@ -229,3 +229,20 @@ times-is-many {A} n m p i = sym (times-many n m [] p i ∙ go (many n m p i))
     go : (o : Outcome (List A)) → after o (λ l e. got ([] ++ l) e) ≡ o
     go (got l e) = refl
     go (refused k e) = refl
+
+-- ---- what every step keeps holds at the end, and so does the test
+pub until-keeps : {S : Type 0} (stop : S → Bool) (step : S → Parse S) (k : ℕ) (P : S → Type 0)
+    → ((s : S) (p : List ℕ) (i : ℕ) (t : S) (e : ℕ) → P s → step s p i ≡ got t e → P t)
+    → (n : ℕ) (s : S) → P s → (p : List ℕ) (i : ℕ) (t : S) (e : ℕ) → until stop step k n s p i ≡ got t e → P t × (stop t ≡ true)
+unfolding until
+until-keeps {S} stop step k P f zero s h p i t e g = go (stop s) refl g
+  where
+    go : (b : Bool) → stop s ≡ b → pick b (pure s) (bind here (refuse k)) p i ≡ got t e → P t × (stop t ≡ true)
+    go true q r = let z : s ≡ t = cc in (subst P z h, ap stop (sym z) ∙ q)
+    go false q r = no-mix (sym r)
+until-keeps {S} stop step k P f (suc n) s h p i t e g = go (stop s) refl g (λ u j x. until-keeps stop step k P f n u x p j t e)
+  where
+    go : (b : Bool) → stop s ≡ b → pick b (pure s) (bind (step s) (until stop step k n)) p i ≡ got t e
+        → ((u : S) (j : ℕ) → P u → until stop step k n u p j ≡ got t e → P t × (stop t ≡ true)) → P t × (stop t ≡ true)
+    go true q r _ = let z : s ≡ t = cc in (subst P z h, ap stop (sym z) ∙ q)
+    go false q r f′ = let u = bind-got (step s) (until stop step k n) p i r in f′ (u .0) (u .1) (f s p i (u .0) (u .1) h (u .2)) (u .3)

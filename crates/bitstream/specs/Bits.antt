@@ -3,6 +3,10 @@ use Prim.Native.Nat.{ℕ, zero, suc, _+_, _-_, _*_, _/_, _%_, _^_}
 use mathlib.Core.List.{List}
 use lib.ListN.{length, getD}
 
+-- the longest part of a packet that is looked at, in bytes: every bit place in it fits 64 bits, and no reader gets so far
+abbrev pub longest : ℕ
+longest = 2 ^ 58
+
 -- how many bits the packet has
 abbrev pub bits : List ℕ → ℕ
 bits p = length p * 8

@@ -2,8 +2,8 @@
 -- A parser goes from a packet and a bit place to a value and the place behind it, or to the number of a refusal and the place of the field at fault.
 use Prim.Native.Nat.{ℕ, zero, suc, _+_}
 use mathlib.Core.List.{List, [], _∷_, _++_}
-use mathlib.Core.Bool.{Bool, true, false}
-use lib.Dec.{leb}
+use mathlib.Core.Bool.{Bool, cond}
+use lib.Dec.{leb, eqb}
 use Rattle.bitstream.specs.Bits.{bits, number}
 
 -- what a reading comes to: a value and the place behind it, or the number of a refusal and the place of the field at fault
@@ -45,9 +45,9 @@ here p i = got i i
 abbrev pub refuse : {A : Type 0} → ℕ → ℕ → Parse A
 refuse k e p i = refused k e
 
+-- the one value or the other: the library's `cond`
 abbrev pub choose : {X : Type 0} → Bool → X → X → X
-choose true x y = x
-choose false x y = y
+choose b x y = cond b x y
 
 -- goes on where the test holds, and else refuses by the number k at the place e
 abbrev pub guard : Bool → ℕ → ℕ → Parse (Unit {0})
@@ -55,8 +55,7 @@ guard b k e p i = choose b (got tt i) (refused k e)
 
 -- the one parser or the other
 abbrev pub pick : {A : Type 0} → Bool → Parse A → Parse A → Parse A
-pick true m n = m
-pick false m n = n
+pick b m n = choose b m n
 
 -- n bits as an unsigned number. Number 4, "a read passes the end of the packet", stands at the field's first bit. "A zero-bit read gives 0, even at the very end."
 unfoldable pub field : ℕ → Parse ℕ
@@ -96,3 +95,10 @@ times (suc n) m done = bind m (λ a. times n m (done ++ a ∷ []))
 unfoldable pub until : {S : Type 0} → (S → Bool) → (S → Parse S) → ℕ → ℕ → S → Parse S
 until stop step k zero s = pick (stop s) (pure s) (bind here (refuse k))
 until stop step k (suc n) s = pick (stop s) (pure s) (bind (step s) (until stop step k n))
+
+-- a number in unary, as 1s and a 0: how many 1s come before a 0, where r of them were read and n more are the most
+unfoldable pub unary : ℕ → ℕ → Parse ℕ
+unary zero r = pure r
+unary (suc n) r = do
+  b ← field 1
+  pick (eqb b 0) (pure r) (unary n (r + 1))

@@ -2,13 +2,19 @@
 ghost use mathlib.Core.Path.{_≡_};
 ghost use Prim.Native.Nat.{ℕ, _+_, _*_, _/_, _≤_, _^_};
 ghost use lib.ListN.{length};
-ghost use Rattle.bitstream.specs.Reading.{field, twoFields};
+ghost use Rattle.bitstream.specs.Reading.{field, twoFields, unary};
 ghost use Rattle.bitstream.specs.Bits.{number};
 ghost use Rattle.bitstream.specs.Answer.{asField, saidPlace, asTwo, twoOf, readable};
 
 // A field's value and the bit place behind it, or the number of the refusal and the place of the field at fault.
 pub enum Field {
     Got(u32, usize),
+    Refused(u32, usize),
+}
+
+// The bit place behind what was read, or the number of the refusal and the place of the field at fault.
+pub enum End {
+    At(usize),
     Refused(u32, usize),
 }
 
@@ -126,6 +132,31 @@ pub fn read(packet: &[u8], at: usize, width: usize) -> Field
     ensures { λ r. ⌜ r ≡ asField (field width (now (packet .entry)) at) ⌝ }
 {
     next_field(reader_at(packet, at), width)
+}
+
+// How many 1s come before a 0, at most `ones`: a number in unary.
+pub fn read_unary(packet: &[u8], at: usize, ones: u32) -> Field
+    requires { ⌜ length (now packet) ≤ 2 ^ 58 ⌝ }
+    ensures { λ r. ⌜ r ≡ asField (unary ones 0 (now (packet .entry)) at) ⌝ }
+{
+    let mut r: u32 = 0;
+    let mut place = at;
+    while r < ones {
+        let one = read(packet, place, 1);
+        match one {
+            Field::Refused(k, e) => {
+                return Field::Refused(k, e);
+            }
+            Field::Got(b, next) => {
+                if b == 0 {
+                    return Field::Got(r, next);
+                }
+                place = next;
+                r += 1;
+            }
+        }
+    }
+    Field::Got(r, place)
 }
 
 // The place that a field's answer says.

@@ -12,14 +12,14 @@ use Rattle.bitstream.specs.Reading.{got, pure, choose}
 use Rattle.bitstream.proofs.Laws.{Lawful, pure-lawful, bind-lawful, bind-got}
 use Rattle.bitstream.proofs.Inside.{Inside, pure-inside, bind-inside, Refuses, pure-refuses, bind-refuses}
 use Rattle.bitstream.proofs.Spends.{Spends, spends-more, pure-spends, bind-spends}
-use Rattle.runs.specs.Lists.{none, one, AllBelow}
-use Rattle.runs.proofs.ListLaws.{set-cases}
+use Rattle.bitstream.specs.Lists.{AllBelow, one, none}
+use Rattle.bitstream.proofs.ListLaws.{set-cases}
 use Rattle.runs.specs.Runs.{bitString}
 use Rattle.runs.specs.declared.RunCode.the-variants.{Long}
 use Rattle.runs.proofs.Laws.{bitString-lawful, bitString-inside, bitString-refuses, bitString-spends}
 use Rattle.runs.proofs.Strings.{string-bits}
 use Rattle.block_record.specs.declared.BlockRecord.{BlockRecord}
-use Rattle.block_record.specs.Record.{InRange, uncoded, withQiIndex}
+use Rattle.block_record.specs.Record.{uncoded, withQiIndex}
 use Rattle.block_record.proofs.MemoryLaws.{AllInRange, in-range-at, in-range-set}
 use Rattle.block_qi.specs.BlockQi.{indexAt, atStep, raised, oneStep, steps, blockQi}
 

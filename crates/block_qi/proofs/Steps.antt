@@ -10,12 +10,13 @@ use lib.ListN.{length, getD, drop, set, drop-of-length-le}
 use lib.Seq.{getD-set-other, getD-drop, drop-drop}
 use borrow.Author.Tests.{eq-eqb, eqb-true}
 use Rattle.bitstream.specs.Reading.{Outcome, got, refused, choose}
-use Rattle.runs.specs.Lists.{All, none, one, AllBelow, Other, Once}
-use Rattle.runs.specs.Runs.{bitString, asDone, StoredAs}
+use Rattle.bitstream.specs.Lists.{Once, Other, AllBelow, one, none, All}
+use Rattle.runs.specs.Runs.{bitString}
+use Rattle.bitstream.specs.Answer.{StoredAs, asEnd}
 use Rattle.runs.specs.declared.RunCode.the-variants.{Long}
-use Rattle.runs.specs.declared.Done.{Done}
-use Rattle.runs.specs.declared.Done.the-variants.{At, Refused}
-use Rattle.runs.proofs.ListLaws.{drop-next, all-at, once-next}
+use Rattle.bitstream.specs.declared.End.{End}
+use Rattle.bitstream.specs.declared.End.the-variants.{Refused, At}
+use Rattle.bitstream.proofs.ListLaws.{once-next, all-at, drop-next}
 use Rattle.block_record.specs.declared.BlockRecord.{BlockRecord}
 use Rattle.block_record.specs.Record.{InRange, uncoded, withQiIndex}
 use Rattle.block_record.specs.Packed.{packed, unpacked}
@@ -152,15 +153,15 @@ steps-start qis coded rs p i = refl
 
 -- ---- what a return has to show, and what an answer says
 module _ (out : List ℕ) (o : Outcome (List BlockRecord)) where
-  pub on-refused : {k e : ℕ} → o ≡ refused k e → (Refused k e ≡ asDone o) × KeptRecords out o
+  pub on-refused : {k e : ℕ} → o ≡ refused k e → (Refused k e ≡ asEnd o) × KeptRecords out o
   on-refused h = rw h (refl, tt)
 
-  pub on-records : {rs : List BlockRecord} {e : ℕ} → o ≡ got rs e → (recordsOf out ≡ rs) × AllPacked out → (At e ≡ asDone o) × KeptRecords out o
+  pub on-records : {rs : List BlockRecord} {e : ℕ} → o ≡ got rs e → (recordsOf out ≡ rs) × AllPacked out → (At e ≡ asEnd o) × KeptRecords out o
   on-records h a = rw h (refl, a)
 
-  pub on-all : {e : ℕ} → o ≡ got (recordsOf out) e → AllPacked out → (At e ≡ asDone o) × StoredAs (map packed) out o
+  pub on-all : {e : ℕ} → o ≡ got (recordsOf out) e → AllPacked out → (At e ≡ asEnd o) × StoredAs (map packed) out o
   on-all h a = rw h (refl, packed-records out a)
 
-pub records-at : (o : Outcome (List BlockRecord)) (out : List ℕ) {r : Done} {e : ℕ} → r ≡ asDone o → KeptRecords out o → r ≡ At e → (o ≡ got (recordsOf out) e) × AllPacked out
+pub records-at : (o : Outcome (List BlockRecord)) (out : List ℕ) {r : End} {e : ℕ} → r ≡ asEnd o → KeptRecords out o → r ≡ At e → (o ≡ got (recordsOf out) e) × AllPacked out
 records-at (got rs d) out {r} {e} s a g = let z : At d ≡ At e = sym s ∙ g in (ap (λ (x : List BlockRecord). got x d) (sym (a .0)) ∙ ap (got (recordsOf out)) (cc), a .1)
 records-at (refused k d) out s a g = let z : _≡_ {A = ℕ} 0 1 = cc in absurd (omega arith)

@@ -1,14 +1,15 @@
 // Which of the frame's qi each coded block has.
-use runs::Done;
+use bitstream::End;
 use runs::RunCode;
 ghost use mathlib.Core.Path.{_≡_};
 ghost use mathlib.Core.List.{map};
-ghost use Prim.Native.Nat.{ℕ, _+_, _≤_, _<_, _^_};
+ghost use Prim.Native.Nat.{ℕ, _+_, _≤_, _<_};
 ghost use lib.Dec.{eqb};
 ghost use lib.ListN.{length, getD, set};
+ghost use Rattle.bitstream.specs.Bits.{longest};
 ghost use Rattle.bitstream.specs.Reading.{choose};
-ghost use Rattle.runs.specs.Runs.{asDone, StoredAs};
-ghost use Rattle.runs.specs.Lists.{AllBelow, Once};
+ghost use Rattle.bitstream.specs.Answer.{StoredAs, asEnd};
+ghost use Rattle.bitstream.specs.Lists.{Once, AllBelow};
 ghost use Rattle.block_record.specs.Record.{withQiIndex};
 ghost use Rattle.block_record.specs.Packed.{packed, unpacked};
 ghost use Rattle.block_record.specs.Memory.{AllPacked, recordsOf};
@@ -19,7 +20,7 @@ ghost use Rattle.block_qi.specs.Answer.{KeptRecords};
 fn is_at(n: u32, q: u32) -> usize
     ensures { λ r. ⌜ (r ≡ choose (eqb (unpacked n .«qi_index») q) 1 0) × (r ≤ 1) ⌝ }
 {
-    if n / 2 % 4 == q {
+    if block_record::qi_index(n) == q {
         return 1;
     }
     0
@@ -47,7 +48,7 @@ fn raise_block(records: &mut [u32], b: usize, q: u32, bits: &[u8], j: usize) -> 
     ensures { λ r. ⌜ now (records .exit) ≡ choose (eqb (unpacked (getD (now (records .entry)) b 0) .«qi_index») q) (set (now (records .entry)) b (packed (withQiIndex (q + getD (now (bits .entry)) j 0) (unpacked (getD (now (records .entry)) b 0))))) (now (records .entry)) ⌝ }
 {
     let n = records[b];
-    if n / 2 % 4 != q {
+    if block_record::qi_index(n) != q {
         return j;
     }
     let bit = bits[j];
@@ -77,18 +78,18 @@ fn read_step(
     coded: &[u64],
     bits: &mut [u8],
     records: &mut [u32],
-) -> Done
-    requires { ⌜ (length (now packet) ≤ 2 ^ 58) × (q ≤ 1) × Once (now coded) × AllBelow (length (now records)) (now coded) × (length (now coded) ≤ length (now bits)) × AllPacked (now records) ⌝ }
-    ensures { λ r. ⌜ r ≡ asDone (oneStep q (now (coded .entry)) (recordsOf (now (records .entry))) (now (packet .entry)) at) ⌝ }
+) -> End
+    requires { ⌜ (length (now packet) ≤ longest) × (q ≤ 1) × Once (now coded) × AllBelow (length (now records)) (now coded) × (length (now coded) ≤ length (now bits)) × AllPacked (now records) ⌝ }
+    ensures { λ r. ⌜ r ≡ asEnd (oneStep q (now (coded .entry)) (recordsOf (now (records .entry))) (now (packet .entry)) at) ⌝ }
     ensures { λ r. ⌜ KeptRecords (now (records .exit)) (oneStep q (now (coded .entry)) (recordsOf (now (records .entry))) (now (packet .entry)) at) ⌝ }
 {
     let n = count_at(q, coded, records);
     let string = runs::read_string(packet, at, RunCode::Long, &mut bits[..n]);
     match string {
-        Done::Refused(k, e) => Done::Refused(k, e),
-        Done::At(place) => {
+        End::Refused(k, e) => End::Refused(k, e),
+        End::At(place) => {
             raise_blocks(q, coded, &bits[..n], records);
-            Done::At(place)
+            End::At(place)
         }
     }
 }
@@ -101,9 +102,9 @@ pub fn read_block_qi(
     coded: &[u64],
     bits: &mut [u8],
     records: &mut [u32],
-) -> Done
-    requires { ⌜ (length (now packet) ≤ 2 ^ 58) × (qis ≤ 3) × Once (now coded) × AllBelow (length (now records)) (now coded) × (length (now coded) ≤ length (now bits)) × AllPacked (now records) ⌝ }
-    ensures { λ r. ⌜ r ≡ asDone (blockQi qis (now (coded .entry)) (recordsOf (now (records .entry))) (now (packet .entry)) at) ⌝ }
+) -> End
+    requires { ⌜ (length (now packet) ≤ longest) × (qis ≤ 3) × Once (now coded) × AllBelow (length (now records)) (now coded) × (length (now coded) ≤ length (now bits)) × AllPacked (now records) ⌝ }
+    ensures { λ r. ⌜ r ≡ asEnd (blockQi qis (now (coded .entry)) (recordsOf (now (records .entry))) (now (packet .entry)) at) ⌝ }
     ensures { λ r. ⌜ StoredAs (map packed) (now (records .exit)) (blockQi qis (now (coded .entry)) (recordsOf (now (records .entry))) (now (packet .entry)) at) ⌝ }
 {
     let mut q: u32 = 0;
@@ -111,14 +112,14 @@ pub fn read_block_qi(
     while q + 1 < qis {
         let done = read_step(packet, place, q, coded, bits, records);
         match done {
-            Done::Refused(k, e) => {
-                return Done::Refused(k, e);
+            End::Refused(k, e) => {
+                return End::Refused(k, e);
             }
-            Done::At(next) => {
+            End::At(next) => {
                 place = next;
                 q += 1;
             }
         }
     }
-    Done::At(place)
+    End::At(place)
 }

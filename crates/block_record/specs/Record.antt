@@ -1,5 +1,5 @@
 -- What a block's record says, and the range of its numbers.
-use mathlib.Core.Bool.{false}
+use mathlib.Core.Bool.{true, false}
 use Prim.Native.Nat.{ℕ, _≤_}
 use lib.IntN.{natAbs}
 use Rattle.block_record.specs.declared.Vector.{Vector}
@@ -37,3 +37,7 @@ withQiIndex k r = record { coded = r .coded; «qi_index» = k; prediction = r .p
 -- a block that is not coded
 abbrev pub uncoded : BlockRecord
 uncoded = record { coded = false; «qi_index» = 0; prediction = None }
+
+-- a coded block, of which nothing else is known yet
+abbrev pub nowCoded : BlockRecord
+nowCoded = record { coded = true; «qi_index» = 0; prediction = None }

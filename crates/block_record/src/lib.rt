@@ -1,7 +1,7 @@
 // A block's record: whether it is coded, which of the frame's qi it has, and which prediction; and how work memory holds it.
 ghost use mathlib.Core.Path.{_≡_};
 ghost use Prim.Native.Nat.{_≤_, _<_};
-ghost use Rattle.block_record.specs.Record.{InRange, PredictionInRange, VectorInRange, referenceOf, withPrediction, withQiIndex};
+ghost use Rattle.block_record.specs.Record.{InRange, PredictionInRange, VectorInRange, referenceOf, withPrediction, withQiIndex, nowCoded};
 ghost use Rattle.block_record.specs.Packed.{vectorNumber, vectorAt, predictionNumber, predictionAt, packed, unpacked};
 
 // In half samples; along a subsampled axis in quarter samples.
@@ -96,6 +96,20 @@ pub fn is_coded(n: u32) -> bool
     ensures { λ r. ⌜ r ≡ unpacked n .coded ⌝ }
 {
     n % 2 == 1
+}
+
+// The qi index of a packed record.
+pub fn qi_index(n: u32) -> u32
+    ensures { λ r. ⌜ r ≡ unpacked n .«qi_index» ⌝ }
+{
+    n / 2 % 4
+}
+
+// The packed record of a coded block of which nothing else is known yet.
+pub fn now_coded() -> u32
+    ensures { λ r. ⌜ r ≡ packed nowCoded ⌝ }
+{
+    1
 }
 
 // The reference of a packed record's prediction: 0 none, 1 previous, 2 golden.

@@ -10,7 +10,7 @@ use Rattle.bitstream.proofs.Laws.{bind-got}
 use Rattle.runs.proofs.Strings.{string-length}
 use Rattle.runs.specs.Runs.{bitString}
 use Rattle.runs.specs.declared.RunCode.the-variants.{Long, Short}
-use Rattle.runs.specs.declared.Done.the-variants as done
+use Rattle.bitstream.specs.declared.End.the-variants as end
 use Rattle.geometry.specs.declared.PixelFormat.{PixelFormat}
 use Rattle.geometry.specs.Sizes.{superBlocksOf}
 use Rattle.coded_flags.specs.declared.SuperRead.{SuperRead}

@@ -11,8 +11,8 @@ use lib.ListN.{length, getD, take, drop, set, replicate, length-append, length-s
 use lib.Seq.{getD-set-same, getD-set-other, length-take-le}
 use borrow.Author.Tests.{eq-eqb, ne-eqb, eqb-true, eqb-false}
 use Rattle.bitstream.specs.Reading.{choose}
-use Rattle.runs.specs.Lists.{All, none, one, AllBelow, Other, Once, empty, more}
-use Rattle.runs.proofs.ListLaws.{set-cases, all-at, all-of, once-of}
+use Rattle.bitstream.specs.Lists.{more, empty, Once, Other, AllBelow, one, none, All}
+use Rattle.bitstream.proofs.ListLaws.{once-of, all-of, all-at, set-cases}
 use Rattle.geometry.specs.declared.PixelFormat.{PixelFormat}
 use Rattle.geometry.specs.declared.Block.{Block}
 use Rattle.geometry.specs.Sizes.{across, up, planeBlocks, blocksBefore, blocksOf}
@@ -22,11 +22,11 @@ use Rattle.geometry.proofs.Sums.{total-once}
 use Rattle.geometry.proofs.Raster.{raster-below, raster-once}
 use Rattle.geometry.proofs.SizeLaws.{before-planes}
 use Rattle.block_record.specs.declared.BlockRecord.{BlockRecord}
-use Rattle.block_record.specs.Record.{uncoded}
+use Rattle.block_record.specs.Record.{uncoded, nowCoded}
 use Rattle.block_record.proofs.MemoryLaws.{AllInRange, in-range-set, in-range-replicate}
 use Rattle.geometry.specs.Raster.{rasterNumber}
 use Rattle.coded_flags.specs.Flags.{ones}
-use Rattle.coded_flags.specs.Coded.{order, flagged, codedBlocks, codedLuma, nowCoded, setAt, codedRecords}
+use Rattle.coded_flags.specs.Coded.{order, flagged, codedBlocks, codedLuma, setAt, codedRecords}
 use Rattle.coded_flags.proofs.Listing.{order-length, order-at, order-small, set-at-length}
 use Rattle.coded_flags.proofs.Spread.{ones-most}
 

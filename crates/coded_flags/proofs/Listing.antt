@@ -18,13 +18,13 @@ use Rattle.geometry.proofs.FrameLaws.{frame-length, frame-back}
 use Rattle.geometry.proofs.SizeLaws.{before-luma, before-next, before-to}
 use Rattle.geometry.specs.Raster.{rasterNumber}
 use Rattle.geometry.proofs.RasterLaws.{raster-number-below}
-use Rattle.block_record.specs.Record.{uncoded}
+use Rattle.block_record.specs.Record.{uncoded, nowCoded}
 use Rattle.block_record.specs.Packed.{packed, predictionNumber}
 use Rattle.block_record.proofs.Laws.{packed-uncoded}
 use Rattle.coded_flags.specs.Flags.{ones}
-use Rattle.coded_flags.specs.Coded.{order, flagged, codedBlocks, codedLuma, nowCoded, setAt, codedRecords}
+use Rattle.coded_flags.specs.Coded.{order, flagged, codedBlocks, codedLuma, setAt, codedRecords}
 use Rattle.coded_flags.specs.Answer.{listedOf}
-use Rattle.runs.proofs.ListLaws.{drop-next}
+use Rattle.bitstream.proofs.ListLaws.{drop-next}
 
 -- ---- lists
 map-at : {A : Type 0} (g : A → ℕ) (l : List A) (i : ℕ) (d : A) → i < length l → getD (map g l) i 0 ≡ g (getD l i d)
@@ -65,15 +65,11 @@ module _ (f : PixelFormat) (w h : ℕ) where
   order-small i l = rw (order-at i l) (raster-number-below f w h (getD (frameOrder f w h) i (block 0 0 0)) (frame-back f w h i l .0))
 
 -- ---- the packed records
-pub packed-coded : packed nowCoded ≡ 1
-unfolding packed predictionNumber
-packed-coded = refl
-
-pub records-packed : (f : PixelFormat) (w h : ℕ) (flags : List ℕ) → map packed (codedRecords f w h flags) ≡ setAt 1 (codedBlocks f w h flags) (replicate (blocksOf f w h) 0)
+pub records-packed : (f : PixelFormat) (w h : ℕ) (flags : List ℕ) → map packed (codedRecords f w h flags) ≡ setAt (packed nowCoded) (codedBlocks f w h flags) (replicate (blocksOf f w h) 0)
 unfolding codedRecords
 records-packed f w h flags =
     map-set-at packed nowCoded (codedBlocks f w h flags) (replicate (blocksOf f w h) uncoded)
-    ∙ (λ i. setAt (packed-coded i) (codedBlocks f w h flags) ((map-replicate packed (blocksOf f w h) uncoded ∙ ap (replicate (blocksOf f w h)) packed-uncoded) i))
+    ∙ ap (setAt (packed nowCoded) (codedBlocks f w h flags)) (map-replicate packed (blocksOf f w h) uncoded ∙ ap (replicate (blocksOf f w h)) packed-uncoded)
 
 -- ---- the flagged ones, from place i on
 flagged-step : (bs flags : List ℕ) (i : ℕ) → i < length bs → i < length flags
@@ -90,19 +86,19 @@ pub record Listing (bs flags records₀ coded₀ records coded : List ℕ) (coun
   pub fewer : count ≤ i
   pub numbers : flagged bs flags ≡ take count coded ++ flagged (drop i bs) (drop i flags)
   pub behind : drop count coded ≡ drop count coded₀
-  pub marks : setAt 1 (flagged bs flags) records₀ ≡ setAt 1 (flagged (drop i bs) (drop i flags)) records
+  pub marks : setAt (packed nowCoded) (flagged bs flags) records₀ ≡ setAt (packed nowCoded) (flagged (drop i bs) (drop i flags)) records
 
 pub listing-start : (bs flags records coded : List ℕ) → Listing bs flags records coded records coded 0 0
 listing-start bs flags records coded = record { fewer = omega arith; numbers = refl; behind = refl; marks = refl }
 
 module _ (bs flags records₀ coded₀ records coded : List ℕ) (count i : ℕ) (l : Listing bs flags records₀ coded₀ records coded count i) where
   pub listing-on : i < length bs → i < length flags → count < length coded → let t = eqb (getD flags i 0) 1 in let n = getD bs i 0 in
-      Listing bs flags records₀ coded₀ (choose t (set records n 1) records) (choose t (set coded count n) coded) (choose t (count + 1) count) (i + 1)
+      Listing bs flags records₀ coded₀ (choose t (set records n (packed nowCoded)) records) (choose t (set coded count n) coded) (choose t (count + 1) count) (i + 1)
   unfolding setAt
   listing-on hb hf hc = go (eqb (getD flags i 0) 1) (flagged-step bs flags i hb hf)
     where
       go : (t : Bool) → let n = getD bs i 0 in let more = flagged (drop (i + 1) bs) (drop (i + 1) flags) in flagged (drop i bs) (drop i flags) ≡ choose t (n ∷ more) more
-          → Listing bs flags records₀ coded₀ (choose t (set records n 1) records) (choose t (set coded count n) coded) (choose t (count + 1) count) (i + 1)
+          → Listing bs flags records₀ coded₀ (choose t (set records n (packed nowCoded)) records) (choose t (set coded count n) coded) (choose t (count + 1) count) (i + 1)
       go true s =
           let n = getD bs i 0 in
           let more = flagged (drop (i + 1) bs) (drop (i + 1) flags) in
@@ -113,14 +109,14 @@ module _ (bs flags records₀ coded₀ records coded : List ℕ) (count i : ℕ)
             fewer = omega (arith, l .fewer);
             numbers = l .numbers ∙ ap (λ (x : List ℕ). take count coded ++ x) s ∙ sym (append-assoc (take count coded) (n ∷ []) more) ∙ ap (λ (x : List ℕ). x ++ more) (sym a);
             behind = drop-set-lt (count + 1) coded count n (omega arith) ∙ d;
-            marks = l .marks ∙ ap (λ (x : List ℕ). setAt 1 x records) s;
+            marks = l .marks ∙ ap (λ (x : List ℕ). setAt (packed nowCoded) x records) s;
           }
       go false s =
           record {
             fewer = omega (arith, l .fewer);
             numbers = l .numbers ∙ ap (λ (x : List ℕ). take count coded ++ x) s;
             behind = l .behind;
-            marks = l .marks ∙ ap (λ (x : List ℕ). setAt 1 x records) s;
+            marks = l .marks ∙ ap (λ (x : List ℕ). setAt (packed nowCoded) x records) s;
           }
 
   -- all blocks are done
@@ -136,14 +132,14 @@ module _ (bs flags records₀ coded₀ records coded : List ℕ) (count i : ℕ)
         let e = listing-count in
         sym (take-append-drop count coded) ∙ (λ i. sym all i ++ l .behind i) ∙ ap (λ (n : ℕ). flagged bs flags ++ drop n coded₀) e
 
-    pub listing-marks : records ≡ setAt 1 (flagged bs flags) records₀
+    pub listing-marks : records ≡ setAt (packed nowCoded) (flagged bs flags) records₀
     unfolding setAt
-    listing-marks = sym (l .marks ∙ ap (λ (x : List ℕ). setAt 1 x records) (flagged-done bs flags i r))
+    listing-marks = sym (l .marks ∙ ap (λ (x : List ℕ). setAt (packed nowCoded) x records) (flagged-done bs flags i r))
 
 -- over the lists and the number that a program has in its variables
 pub listing-by : (bs flags records₀ coded₀ records coded : List ℕ) (count i : ℕ) → Listing bs flags records₀ coded₀ records coded count i → i < length bs → i < length flags → count < length coded
     → (records′ coded′ : List ℕ) (count′ : ℕ) → let t = eqb (getD flags i 0) 1 in let n = getD bs i 0 in
-    count′ ≡ choose t (count + 1) count → records′ ≡ choose t (set records n 1) records → coded′ ≡ choose t (set coded count n) coded → Listing bs flags records₀ coded₀ records′ coded′ count′ (i + 1)
+    count′ ≡ choose t (count + 1) count → records′ ≡ choose t (set records n (packed nowCoded)) records → coded′ ≡ choose t (set coded count n) coded → Listing bs flags records₀ coded₀ records′ coded′ count′ (i + 1)
 listing-by bs flags records₀ coded₀ records coded count i l hb hf hc records′ coded′ count′ en er ec = rw (en, er, ec) (listing-on bs flags records₀ coded₀ records coded count i l hb hf hc)
 
 -- what list_coded answers

@@ -11,7 +11,7 @@ use lib.ListN.{length, getD, take, drop, set, replicate, length-append, length-d
 use lib.Seq.{paste, paste-suc, drop-length, drop-drop, getD-drop, take-at, take-all, length-take-le}
 use borrow.Author.Tests.{eq-eqb, ne-eqb, eqb-true}
 use Rattle.bitstream.specs.Reading.{choose}
-use Rattle.runs.proofs.ListLaws.{if-equal, if-other, drop-next}
+use Rattle.bitstream.proofs.ListLaws.{drop-next, if-other, if-equal}
 use Rattle.geometry.specs.declared.PixelFormat.{PixelFormat}
 use Rattle.geometry.specs.Sizes.{blocksOf, superBlocksOf}
 use Rattle.geometry.specs.Order.{inTurn}

@@ -5,6 +5,7 @@ use mathlib.Core.List.{List}
 use lib.Dec.{eqb}
 use lib.ListN.{length, getD, take, drop, replicate}
 use Rattle.bitstream.specs.Reading.{Outcome, got, refused, choose}
+use Rattle.bitstream.specs.Answer.{IfGot}
 use Rattle.geometry.specs.declared.PixelFormat.{PixelFormat}
 use Rattle.coded_flags.specs.declared.SuperRead.{SuperRead}
 use Rattle.coded_flags.specs.declared.SuperRead.the-variants.{At, Refused}
@@ -20,8 +21,7 @@ asSupers (refused k e) = Refused k e
 
 -- the first string stands in the slice's first half, the second one begins its second half; after a refusal the slice is open
 abbrev pub StoredSupers : List ℕ → ℕ → Outcome SuperFlags → Type 0
-StoredSupers out n (got s e) = (take n out ≡ s .partly) × (take (length (s .full)) (drop n out) ≡ s .full)
-StoredSupers out n (refused k e) = Unit {0}
+StoredSupers out n o = IfGot (λ s. (take n out ≡ s .partly) × (take (length (s .full)) (drop n out) ≡ s .full)) o
 
 -- the flags of a super block of `count` blocks, and how much is then taken of the strings
 abbrev pub blockFlags : ℕ → ℕ → List ℕ → List ℕ → Taken → List ℕ

@@ -1,7 +1,6 @@
 -- The coded blocks by their raster numbers, and the records of all blocks.
 use Prim.Native.Nat.{ℕ}
 use mathlib.Core.List.{List, [], _∷_, map}
-use mathlib.Core.Bool.{true}
 use lib.Dec.{eqb}
 use lib.ListN.{take, set, replicate}
 use Rattle.bitstream.specs.Reading.{choose}
@@ -10,8 +9,7 @@ use Rattle.geometry.specs.Sizes.{planeBlocks, blocksOf}
 use Rattle.geometry.specs.Frame.{frameOrder}
 use Rattle.geometry.specs.Raster.{rasterNumber}
 use Rattle.block_record.specs.declared.BlockRecord.{BlockRecord}
-use Rattle.block_record.specs.declared.Prediction.the-variants.{None}
-use Rattle.block_record.specs.Record.{uncoded}
+use Rattle.block_record.specs.Record.{uncoded, nowCoded}
 use Rattle.coded_flags.specs.Flags.{ones}
 
 -- the raster numbers of all blocks, in coded order
@@ -31,10 +29,6 @@ codedBlocks f w h flags = flagged (order f w h) flags
 -- how many of them are luma blocks: luma is first in coded order
 unfoldable pub codedLuma : PixelFormat → ℕ → ℕ → List ℕ → ℕ
 codedLuma f w h flags = ones (take (planeBlocks f w h 0) flags)
-
--- the record of a coded block, of which nothing else is known yet
-abbrev pub nowCoded : BlockRecord
-nowCoded = record { coded = true; «qi_index» = 0; prediction = None }
 
 -- a value at each of some places of a list
 unfoldable pub setAt : {A : Type 0} → A → List ℕ → List A → List A

@@ -1,16 +1,18 @@
 // Which blocks of a frame are coded: their flags in coded order, the list of the coded ones, and the records of all.
+use bitstream::End;
 use geometry::PixelFormat;
-use runs::Done;
 use runs::RunCode;
 ghost use mathlib.Core.Path.{_≡_};
 ghost use mathlib.Core.List.{_++_, map};
-ghost use Prim.Native.Nat.{ℕ, _+_, _*_, _/_, _≤_, _<_, _^_};
+ghost use Prim.Native.Nat.{ℕ, _+_, _*_, _/_, _≤_, _<_};
 ghost use lib.Dec.{eqb};
 ghost use lib.ListN.{length, getD, take, drop, set, replicate};
+ghost use Rattle.bitstream.specs.Bits.{longest};
 ghost use Rattle.bitstream.specs.Reading.{choose};
-ghost use Rattle.geometry.specs.Sizes.{blocksOf, superBlocksOf};
+ghost use Rattle.geometry.specs.Sizes.{blocksOf, superBlocksOf, largest};
+ghost use Rattle.block_record.specs.Record.{nowCoded};
 ghost use Rattle.block_record.specs.Packed.{packed};
-ghost use Rattle.runs.specs.Runs.{asDone, Stored};
+ghost use Rattle.bitstream.specs.Answer.{Stored, asEnd};
 ghost use Rattle.coded_flags.specs.Flags.{ones, rest, superSizes, superFlags, partlyBlocks, spread, interFlags};
 ghost use Rattle.coded_flags.specs.Coded.{order, codedBlocks, codedRecords};
 ghost use Rattle.coded_flags.specs.Answer.{asSupers, StoredSupers, blockFlags, takenNext, listedOf};
@@ -32,9 +34,6 @@ pub struct Listed {
     pub count: usize,
     pub luma: usize,
 }
-
-// The packed record of a coded block with qi index 0 and no prediction.
-const NOW_CODED: u32 = 1;
 
 fn one_if(b: u8) -> usize
     ensures { λ r. ⌜ (r ≡ choose (eqb b 1) 1 0) × (r ≤ 1) ⌝ }
@@ -60,21 +59,21 @@ fn count_ones(bits: &[u8]) -> usize
 
 // The two strings of super blocks, the first into the first half of `supers`, the second into the second half.
 fn read_super_flags(packet: &[u8], at: usize, supers: &mut [u8]) -> SuperRead
-    requires { ⌜ length (now packet) ≤ 2 ^ 58 ⌝ }
+    requires { ⌜ length (now packet) ≤ longest ⌝ }
     ensures { λ r. ⌜ r ≡ asSupers (superFlags (length (now (supers .entry)) / 2) (now (packet .entry)) at) ⌝ }
     ensures { λ r. ⌜ StoredSupers (now (supers .exit)) (length (now (supers .entry)) / 2) (superFlags (length (now (supers .entry)) / 2) (now (packet .entry)) at) ⌝ }
 {
     let n = supers.len() / 2;
     let partly = runs::read_string(packet, at, RunCode::Long, &mut supers[..n]);
     match partly {
-        Done::Refused(k, e) => SuperRead::Refused(k, e),
-        Done::At(next) => {
+        End::Refused(k, e) => SuperRead::Refused(k, e),
+        End::At(next) => {
             let left = n - count_ones(&supers[..n]);
             let end = n + left;
             let full = runs::read_string(packet, next, RunCode::Long, &mut supers[n..end]);
             match full {
-                Done::Refused(k, e) => SuperRead::Refused(k, e),
-                Done::At(place) => SuperRead::At(left, place),
+                End::Refused(k, e) => SuperRead::Refused(k, e),
+                End::At(place) => SuperRead::At(left, place),
             }
         }
     }
@@ -91,7 +90,7 @@ fn count_if(b: u8, count: u64) -> usize
 
 // How many blocks the partly coded super blocks have.
 fn partly_blocks(format: PixelFormat, w: u64, h: u64, partly: &[u8]) -> usize
-    requires { ⌜ (w ≤ 65535) × (h ≤ 65535) × (length (now partly) ≡ superBlocksOf format w h) ⌝ }
+    requires { ⌜ (w ≤ largest) × (h ≤ largest) × (length (now partly) ≡ superBlocksOf format w h) ⌝ }
     ensures { λ r. ⌜ r ≡ partlyBlocks (superSizes format w h) (now (partly .entry)) ⌝ }
 {
     let mut n: usize = 0;
@@ -139,7 +138,7 @@ fn flag_blocks(
             bits: m + count,
         };
     }
-    runs::fill(flags, first, count, full[j]);
+    buffer::fill_bytes(flags, first, count, full[j]);
     Taken {
         full: j + 1,
         bits: m,
@@ -156,7 +155,7 @@ fn spread_flags(
     bits: &[u8],
     flags: &mut [u8],
 )
-    requires { ⌜ (w ≤ 65535) × (h ≤ 65535) × (length (now partly) ≡ superBlocksOf format w h) × (length (now full) ≡ rest (now partly)) × (length (now bits) ≡ partlyBlocks (superSizes format w h) (now partly)) × (length (now flags) ≡ blocksOf format w h) ⌝ }
+    requires { ⌜ (w ≤ largest) × (h ≤ largest) × (length (now partly) ≡ superBlocksOf format w h) × (length (now full) ≡ rest (now partly)) × (length (now bits) ≡ partlyBlocks (superSizes format w h) (now partly)) × (length (now flags) ≡ blocksOf format w h) ⌝ }
     ensures { λ _. ⌜ now (flags .exit) ≡ spread (superSizes format w h) (now (partly .entry)) (now (full .entry)) (now (bits .entry)) ⌝ }
 {
     let mut taken = Taken { full: 0, bits: 0 };
@@ -186,7 +185,7 @@ fn spread_strings(
     bits: &[u8],
     flags: &mut [u8],
 )
-    requires { ⌜ (w ≤ 65535) × (h ≤ 65535) × (length (now supers) ≡ 2 * superBlocksOf format w h) × (left ≡ rest (take (superBlocksOf format w h) (now supers))) × (length (now bits) ≡ partlyBlocks (superSizes format w h) (take (superBlocksOf format w h) (now supers))) × (length (now flags) ≡ blocksOf format w h) ⌝ }
+    requires { ⌜ (w ≤ largest) × (h ≤ largest) × (length (now supers) ≡ 2 * superBlocksOf format w h) × (left ≡ rest (take (superBlocksOf format w h) (now supers))) × (length (now bits) ≡ partlyBlocks (superSizes format w h) (take (superBlocksOf format w h) (now supers))) × (length (now flags) ≡ blocksOf format w h) ⌝ }
     ensures { λ _. ⌜ now (flags .exit) ≡ spread (superSizes format w h) (take (superBlocksOf format w h) (now (supers .entry))) (take left (drop (superBlocksOf format w h) (now (supers .entry)))) (now (bits .entry)) ⌝ }
 {
     let n = supers.len() / 2;
@@ -204,23 +203,23 @@ pub fn read_flags(
     supers: &mut [u8],
     bits: &mut [u8],
     flags: &mut [u8],
-) -> Done
-    requires { ⌜ (length (now packet) ≤ 2 ^ 58) × (w ≤ 65535) × (h ≤ 65535) × (length (now supers) ≡ 2 * superBlocksOf format w h) × (length (now bits) ≡ blocksOf format w h) × (length (now flags) ≡ blocksOf format w h) ⌝ }
-    ensures { λ r. ⌜ r ≡ asDone (interFlags format w h (now (packet .entry)) at) ⌝ }
+) -> End
+    requires { ⌜ (length (now packet) ≤ longest) × (w ≤ largest) × (h ≤ largest) × (length (now supers) ≡ 2 * superBlocksOf format w h) × (length (now bits) ≡ blocksOf format w h) × (length (now flags) ≡ blocksOf format w h) ⌝ }
+    ensures { λ r. ⌜ r ≡ asEnd (interFlags format w h (now (packet .entry)) at) ⌝ }
     ensures { λ r. ⌜ Stored (now (flags .exit)) (interFlags format w h (now (packet .entry)) at) ⌝ }
 {
     let n = supers.len() / 2;
     let read = read_super_flags(packet, at, supers);
     match read {
-        SuperRead::Refused(k, e) => Done::Refused(k, e),
+        SuperRead::Refused(k, e) => End::Refused(k, e),
         SuperRead::At(left, next) => {
             let m = partly_blocks(format, w, h, &supers[..n]);
             let string = runs::read_string(packet, next, RunCode::Short, &mut bits[..m]);
             match string {
-                Done::Refused(k, e) => Done::Refused(k, e),
-                Done::At(place) => {
+                End::Refused(k, e) => End::Refused(k, e),
+                End::At(place) => {
                     spread_strings(format, w, h, supers, left, &bits[..m], flags);
-                    Done::At(place)
+                    End::At(place)
                 }
             }
         }
@@ -232,7 +231,7 @@ pub fn flag_all(flags: &mut [u8])
     ensures { λ _. ⌜ now (flags .exit) ≡ replicate (length (now (flags .entry))) 1 ⌝ }
 {
     let n = flags.len();
-    runs::fill(flags, 0, n, 1);
+    buffer::fill_bytes(flags, 0, n, 1);
 }
 
 // Block i of the coded order: where it is coded, its record, and its number behind the first `count` of `coded`.
@@ -246,9 +245,9 @@ fn list_block(
     coded: &mut [u64],
     count: usize,
 ) -> usize
-    requires { ⌜ (w ≤ 65535) × (h ≤ 65535) × (i < blocksOf format w h) × (length (now records) ≡ blocksOf format w h) × (count < length (now coded)) ⌝ }
+    requires { ⌜ (w ≤ largest) × (h ≤ largest) × (i < blocksOf format w h) × (length (now records) ≡ blocksOf format w h) × (count < length (now coded)) ⌝ }
     ensures { λ r. ⌜ r ≡ choose (eqb flag 1) (count + 1) count ⌝ }
-    ensures { λ r. ⌜ now (records .exit) ≡ choose (eqb flag 1) (set (now (records .entry)) (getD (order format w h) i 0) 1) (now (records .entry)) ⌝ }
+    ensures { λ r. ⌜ now (records .exit) ≡ choose (eqb flag 1) (set (now (records .entry)) (getD (order format w h) i 0) (packed nowCoded)) (now (records .entry)) ⌝ }
     ensures { λ r. ⌜ now (coded .exit) ≡ choose (eqb flag 1) (set (now (coded .entry)) count (getD (order format w h) i 0)) (now (coded .entry)) ⌝ }
 {
     if flag != 1 {
@@ -256,7 +255,7 @@ fn list_block(
     }
     let b = geometry::block_at(format, w, h, i as u64);
     let n = geometry::raster_number(format, w, h, b);
-    records[n as usize] = NOW_CODED;
+    records[n as usize] = block_record::now_coded();
     coded[count] = n;
     count + 1
 }
@@ -270,7 +269,7 @@ pub fn list_coded(
     records: &mut [u32],
     coded: &mut [u64],
 ) -> Listed
-    requires { ⌜ (w ≤ 65535) × (h ≤ 65535) × (length (now flags) ≡ blocksOf format w h) × (now records ≡ replicate (blocksOf format w h) 0) × (length (now coded) ≡ blocksOf format w h) ⌝ }
+    requires { ⌜ (w ≤ largest) × (h ≤ largest) × (length (now flags) ≡ blocksOf format w h) × (now records ≡ replicate (blocksOf format w h) 0) × (length (now coded) ≡ blocksOf format w h) ⌝ }
     ensures { λ r. ⌜ r ≡ listedOf format w h (now (flags .entry)) ⌝ }
     ensures { λ r. ⌜ now (records .exit) ≡ map packed (codedRecords format w h (now (flags .entry))) ⌝ }
     ensures { λ r. ⌜ now (coded .exit) ≡ codedBlocks format w h (now (flags .entry)) ++ drop (length (codedBlocks format w h (now (flags .entry)))) (now (coded .entry)) ⌝ }

@@ -1,11 +1,11 @@
 // A frame packet, decoded by a session and a table memory: what is answered, the frame, and work memory, which is all zero before and after.
+use bitstream::End as Place;
 use frame_header::Header;
 use frame_header::Kind;
 use frame_packet::Read;
 use geometry::PixelFormat;
 use headers::Session;
 use quantization::LoadedParameters;
-use quantization::Place;
 use reading::FrameAnswer;
 use reading::Verdict;
 use setup::LoadedSetup;

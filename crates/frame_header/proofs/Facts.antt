@@ -10,7 +10,7 @@ use borrow.Author.Tests.{eq-eqb, ne-eqb}
 use Rattle.bitstream.specs.Reading.{Outcome, got, refused, field, judged}
 use Rattle.bitstream.proofs.Fields.{judged-end, judged-fails, judged-passes}
 use Rattle.bitstream.proofs.Laws.{bind-step, bind-refused}
-use Rattle.runs.specs.declared.Done.the-variants.{At, Refused}
+use Rattle.bitstream.specs.declared.End.the-variants.{Refused, At}
 use Rattle.frame_header.specs.declared.Kind.{Kind}
 use Rattle.frame_header.specs.declared.Kind.the-variants.{Intra, Inter}
 use Rattle.frame_header.specs.declared.HeaderRead.{HeaderRead}

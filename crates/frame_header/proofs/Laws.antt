@@ -13,8 +13,8 @@ use Rattle.bitstream.proofs.Laws.{Lawful, pure-lawful, field-lawful, judged-law
 use Rattle.bitstream.proofs.Inside.{Inside, pure-inside, field-inside, judged-inside, pick-inside, bind-inside, Refuses, pure-refuses, field-refuses, judged-refuses, pick-refuses, bind-refuses}
 use Rattle.bitstream.proofs.Spends.{Spends, spends-more, pure-spends, field-spends, judged-spends, pick-spends, bind-spends}
 use Rattle.bitstream.proofs.Fields.{no-mix, field-lt}
-use Rattle.runs.specs.Lists.{AllBelow, none, one}
-use Rattle.runs.proofs.ListLaws.{all-append}
+use Rattle.bitstream.specs.Lists.{AllBelow, one, none}
+use Rattle.bitstream.proofs.ListLaws.{all-append}
 use Rattle.frame_header.specs.declared.Kind.the-variants.{Intra, Inter}
 use Rattle.frame_header.specs.Header.{isZero, allowed, frameType, moreQis, qiList, reserved, kindOf, FrameHeader, frameHeader}
 

@@ -3,7 +3,7 @@ use Prim.Native.Nat.{ℕ, _-_}
 use mathlib.Core.List.{List, [], _++_}
 use lib.ListN.{length, replicate}
 use Rattle.bitstream.specs.Reading.{Outcome, got, refused}
-use Rattle.runs.specs.declared.Done.the-variants.{At, Refused}
+use Rattle.bitstream.specs.declared.End.the-variants.{Refused, At}
 use Rattle.frame_header.specs.declared.Kind.the-variants.{Repeat}
 use Rattle.frame_header.specs.declared.Header.{Header}
 use Rattle.frame_header.specs.declared.HeaderRead.{HeaderRead}

@@ -1,10 +1,11 @@
 // The header of a frame packet: what kind of frame it is, and the list of its qi.
+use bitstream::End;
 use bitstream::Field;
-use runs::Done;
 ghost use mathlib.Core.Path.{_≡_};
 ghost use mathlib.Core.List.{[], _∷_};
-ghost use Prim.Native.Nat.{_≤_, _<_, _^_};
+ghost use Prim.Native.Nat.{_≤_, _<_};
 ghost use lib.ListN.{length};
+ghost use Rattle.bitstream.specs.Bits.{longest};
 ghost use Rattle.bitstream.specs.Reading.{refused};
 ghost use Rattle.bitstream.specs.Answer.{asField};
 ghost use Rattle.frame_header.specs.Header.{frameType, moreQis, qiList, reserved, kindOf, frameHeader};
@@ -25,20 +26,20 @@ pub struct Header {
 
 // A header and the place behind it, or a refusal, beside which stands the header of a repeat.
 pub struct HeaderRead {
-    pub done: Done,
+    pub done: End,
     pub header: Header,
 }
 
 // A list of qi and the place behind it, or a refusal, beside which stands an empty list.
 struct QisRead {
-    done: Done,
+    done: End,
     qis: [u8; 3],
     count: u8,
 }
 
 // The first bit, and the frame type: 0 is intra, 1 is inter.
 fn read_type(packet: &[u8], at: usize, references: bool) -> Field
-    requires { ⌜ length (now packet) ≤ 2 ^ 58 ⌝ }
+    requires { ⌜ length (now packet) ≤ longest ⌝ }
     ensures { λ r. ⌜ r ≡ asField (frameType references (now (packet .entry)) at) ⌝ }
 {
     let first = bitstream::read(packet, at, 1);
@@ -69,7 +70,7 @@ fn no_qis(k: u32, e: usize) -> QisRead
     ensures { λ r. ⌜ r ≡ asQis (refused k e) ⌝ }
 {
     QisRead {
-        done: Done::Refused(k, e),
+        done: End::Refused(k, e),
         qis: [0, 0, 0],
         count: 0,
     }
@@ -77,7 +78,7 @@ fn no_qis(k: u32, e: usize) -> QisRead
 
 // The first qi is there; up to two more, each announced by a bit.
 fn read_more(packet: &[u8], at: usize, first: u8) -> QisRead
-    requires { ⌜ length (now packet) ≤ 2 ^ 58 ⌝ }
+    requires { ⌜ length (now packet) ≤ longest ⌝ }
     ensures { λ r. ⌜ r ≡ asQis (moreQis 2 (first ∷ []) (now (packet .entry)) at) ⌝ }
 {
     let mut qis = [first, 0, 0];
@@ -92,7 +93,7 @@ fn read_more(packet: &[u8], at: usize, first: u8) -> QisRead
             Field::Got(b, next) => {
                 if b == 0 {
                     return QisRead {
-                        done: Done::At(next),
+                        done: End::At(next),
                         qis: qis,
                         count: count as u8,
                     };
@@ -112,7 +113,7 @@ fn read_more(packet: &[u8], at: usize, first: u8) -> QisRead
         }
     }
     QisRead {
-        done: Done::At(place),
+        done: End::At(place),
         qis: qis,
         count: count as u8,
     }
@@ -120,7 +121,7 @@ fn read_more(packet: &[u8], at: usize, first: u8) -> QisRead
 
 // One to three qi.
 fn read_qis(packet: &[u8], at: usize) -> QisRead
-    requires { ⌜ length (now packet) ≤ 2 ^ 58 ⌝ }
+    requires { ⌜ length (now packet) ≤ longest ⌝ }
     ensures { λ r. ⌜ r ≡ asQis (qiList (now (packet .entry)) at) ⌝ }
 {
     let first = bitstream::read(packet, at, 6);
@@ -132,7 +133,7 @@ fn read_qis(packet: &[u8], at: usize) -> QisRead
 
 // The reserved bits, which an intra frame has.
 fn read_reserved(packet: &[u8], at: usize, kind: u32) -> Field
-    requires { ⌜ length (now packet) ≤ 2 ^ 58 ⌝ }
+    requires { ⌜ length (now packet) ≤ longest ⌝ }
     ensures { λ r. ⌜ r ≡ asField (reserved kind (now (packet .entry)) at) ⌝ }
 {
     if kind != 0 {
@@ -163,7 +164,7 @@ fn no_header(k: u32, e: usize) -> HeaderRead
     ensures { λ r. ⌜ r ≡ asRead (refused k e) ⌝ }
 {
     HeaderRead {
-        done: Done::Refused(k, e),
+        done: End::Refused(k, e),
         header: Header {
             kind: Kind::Repeat,
             qis: [0, 0, 0],
@@ -174,7 +175,7 @@ fn no_header(k: u32, e: usize) -> HeaderRead
 
 // The header of a frame packet that is not empty. An empty one is a repeat, which is the caller's.
 pub fn read_header(packet: &[u8], references: bool) -> HeaderRead
-    requires { ⌜ length (now packet) ≤ 2 ^ 58 ⌝ }
+    requires { ⌜ length (now packet) ≤ longest ⌝ }
     ensures { λ r. ⌜ r ≡ asRead (frameHeader references (now (packet .entry)) 0) ⌝ }
 {
     let first = read_type(packet, 0, references);
@@ -184,8 +185,8 @@ pub fn read_header(packet: &[u8], references: bool) -> HeaderRead
             let list = read_qis(packet, next);
             let done = list.done;
             match done {
-                Done::Refused(k, e) => no_header(k, e),
-                Done::At(place) => {
+                End::Refused(k, e) => no_header(k, e),
+                End::At(place) => {
                     let last = read_reserved(packet, place, t);
                     match last {
                         Field::Refused(k, e) => no_header(k, e),
@@ -194,7 +195,7 @@ pub fn read_header(packet: &[u8], references: bool) -> HeaderRead
                             let qis = list.qis;
                             let count = list.count;
                             HeaderRead {
-                                done: Done::At(end),
+                                done: End::At(end),
                                 header: Header {
                                     kind: kind,
                                     qis: qis,

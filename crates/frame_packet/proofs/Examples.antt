@@ -6,8 +6,8 @@ use mathlib.Core.Bool.{true, false}
 use lib.ListN.{replicate}
 use lib.IntN.{ℤ, pos, negsuc}
 use Rattle.bitstream.specs.Bits.{bitAt, number}
-use Rattle.bitstream.specs.Reading.{got, refused, field, judged, until, whole}
-use Rattle.runs.specs.Runs.{rank, most, start as leastRun, extra as runExtra, runLength, run, nextBit, oneRun, sent, bitString}
+use Rattle.bitstream.specs.Reading.{got, refused, field, judged, until, whole, unary}
+use Rattle.runs.specs.Runs.{most, start as leastRun, extra as runExtra, runLength, run, nextBit, oneRun, sent, bitString}
 use Rattle.geometry.specs.declared.PixelFormat.the-variants.{Chroma420}
 use Rattle.geometry.specs.Sizes.{total, blocksOf, superBlocksOf, blocksBefore}
 use Rattle.geometry.specs.Order.{inTurn, present, moved, tile, row as rowOfTiles, ordered}
@@ -17,12 +17,12 @@ use Rattle.geometry.specs.Raster.{rasterNumber}
 use Rattle.huffman.specs.Tree.{leaf}
 use Rattle.huffman.specs.Code.{code, tokenCode}
 use Rattle.block_record.specs.declared.BlockRecord.{BlockRecord}
-use Rattle.block_record.specs.Record.{uncoded}
+use Rattle.block_record.specs.Record.{uncoded, nowCoded}
 use Rattle.frame_header.specs.declared.Kind.{Kind}
 use Rattle.frame_header.specs.declared.Kind.the-variants.{Intra, Inter}
 use Rattle.frame_header.specs.Header.{frameType, moreQis, qiList, reserved, kindOf, frameHeader}
 use Rattle.coded_flags.specs.Flags.{ones, sizesFrom, superFlags, partlyBlocks, spread, interFlags, intraFlags}
-use Rattle.coded_flags.specs.Coded.{order, flagged, codedBlocks, codedLuma, nowCoded, setAt, codedRecords}
+use Rattle.coded_flags.specs.Coded.{order, flagged, codedBlocks, codedLuma, setAt, codedRecords}
 use Rattle.modes.specs.Modes.{mode, sentAlphabet, lumaCoded, modeOf, modesFrom, macroModes}
 use Rattle.block_record.specs.declared.Prediction.the-variants.{Previous}
 use Rattle.vectors.specs.Component.{added, shortest, width, least, variable, byCode, component, vector}
@@ -60,7 +60,7 @@ reserved-set = refl
 -- an inter frame with the qi 1 and no coded block: no super block partly coded and none of them fully; modes sent raw, of which there are none; the vector bit; the four choices
 nothing : framePacket Chroma420 1 1 [] true (0x41 ∷ 0x2A ∷ 0xF0 ∷ 0x00 ∷ 0x00 ∷ []) ≡ got (given Inter (1 ∷ []) [] (replicate 6 uncoded) [] [] 0) 37
 unfolding framePacket frame frameHeader frameType moreQis qiList reserved kindOf judged body flagsOf predictions
-    interFlags superFlags sizesFrom partlyBlocks spread ones superBlockOf superBlockIn superBlocksBefore superBlocksOf bitString sent until oneRun nextBit run runLength rank most runExtra leastRun
+    interFlags superFlags sizesFrom partlyBlocks spread ones superBlockOf superBlockIn superBlocksBefore superBlocksOf bitString sent until oneRun nextBit run runLength unary most runExtra leastRun
     order flagged codedBlocks codedLuma setAt codedRecords rasterNumber frameOrder planeOrder inPlane inTurn ordered rowOfTiles tile present moved blocksOf blocksBefore total
     macroModes sentAlphabet modesFrom modeOf lumaCoded
     vectors macroBlocks macroBlock motion still predictedFrom predictedAt codedIn numberIn predictionOf blocksOfMacro fourOf chromaOf
@@ -77,7 +77,7 @@ ones-all = refl
 -- places of refusals inside a packet. 12: a run of 4 where 3 bits are wanted, at its prefix, behind the explicit bit
 run-past : framePacket Chroma420 1 1 [] true (0x41 ∷ 0x30 ∷ []) ≡ refused 12 10
 unfolding framePacket frame frameHeader frameType moreQis qiList reserved kindOf judged body flagsOf
-    interFlags superFlags superBlocksOf bitString sent until oneRun nextBit run runLength rank most runExtra leastRun blocksOf total whole field number bitAt
+    interFlags superFlags superBlocksOf bitString sent until oneRun nextBit run runLength unary most runExtra leastRun blocksOf total whole field number bitAt
 run-past = refl
 
 -- 13: lone leaves of the token 8 (a run of zeros, 6 extra bits), each block with one zero at position 0; then 64 zeros from position 1 on, at that token's code, which is empty
@@ -98,7 +98,7 @@ four-then-last : framePacket Chroma420 2 1 (replicate 80 (leaf 0)) true (0x41 �
     (moved-by (pos 1) (pos 0) ∷ moved-by (pos 0) (pos 1) ∷ moved-by (negsuc 0) (pos 2) ∷ uncoded ∷ moved-by (negsuc 0) (pos 2) ∷ replicate 7 uncoded)
     (replicate 256 (pos 0)) (replicate 4 0) 4) 76
 unfolding framePacket frame frameHeader frameType moreQis qiList reserved kindOf judged body flagsOf predictions
-    interFlags superFlags sizesFrom partlyBlocks spread ones superBlockOf superBlockIn superBlocksBefore superBlocksOf bitString sent until oneRun nextBit run runLength rank most runExtra leastRun
+    interFlags superFlags sizesFrom partlyBlocks spread ones superBlockOf superBlockIn superBlocksBefore superBlocksOf bitString sent until oneRun nextBit run runLength unary most runExtra leastRun
     order flagged codedBlocks codedLuma setAt codedRecords rasterNumber frameOrder planeOrder inPlane inTurn ordered rowOfTiles tile present moved blocksOf blocksBefore total
     macroModes sentAlphabet modesFrom modeOf mode lumaCoded
     vectors macroBlocks macroBlock motion still movingFour lastRead row ifCoded vector component byCode variable added shortest width least predictedFrom predictedAt codedIn numberIn predictionOf fourVector lumaVector blocksOfMacro fourOf chromaOf
@@ -108,7 +108,7 @@ four-then-last = refl
 -- 4 within a vector: the same packet cut behind its sixth byte, in the first component of B, which is refused at its first bit
 component-cut : framePacket Chroma420 2 1 (replicate 80 (leaf 0)) true (0x41 ∷ 0x51 ∷ 0x28 ∷ 0x21 ∷ 0xFB ∷ 0x10 ∷ []) ≡ refused 4 47
 unfolding framePacket frame frameHeader frameType moreQis qiList reserved kindOf judged body flagsOf predictions
-    interFlags superFlags sizesFrom partlyBlocks spread ones superBlockOf superBlockIn superBlocksBefore superBlocksOf bitString sent until oneRun nextBit run runLength rank most runExtra leastRun
+    interFlags superFlags sizesFrom partlyBlocks spread ones superBlockOf superBlockIn superBlocksBefore superBlocksOf bitString sent until oneRun nextBit run runLength unary most runExtra leastRun
     order flagged codedBlocks codedLuma setAt codedRecords rasterNumber frameOrder planeOrder inPlane inTurn ordered rowOfTiles tile present moved blocksOf blocksBefore total
     macroModes sentAlphabet modesFrom modeOf mode lumaCoded
     vectors macroBlocks macroBlock motion still movingFour lastRead row ifCoded vector component byCode variable added shortest width least predictedFrom predictedAt codedIn numberIn predictionOf fourVector lumaVector blocksOfMacro fourOf chromaOf

@@ -18,10 +18,10 @@ use Rattle.geometry.specs.declared.PixelFormat.{PixelFormat}
 use Rattle.geometry.specs.declared.PixelFormat.the-variants.{Chroma420, Chroma422, Chroma444}
 use Rattle.geometry.specs.Sizes.{blocksOf, superBlocksOf, macroBlocksOf}
 use Rattle.geometry.proofs.SizeLaws.{blocks-each, sizes-small}
-use Rattle.runs.specs.declared.Done.{Done}
-use Rattle.runs.specs.declared.Done.the-variants as done
-use Rattle.runs.specs.Runs.{asDone, StoredAs, Stored}
-use Rattle.runs.specs.Lists.{AllBelow, Once}
+use Rattle.bitstream.specs.declared.End.{End}
+use Rattle.bitstream.specs.declared.End.the-variants as end
+use Rattle.bitstream.specs.Answer.{Stored, StoredAs, asEnd}
+use Rattle.bitstream.specs.Lists.{Once, AllBelow}
 use Rattle.block_record.specs.declared.BlockRecord.{BlockRecord}
 use Rattle.block_record.specs.Packed.{packed}
 use Rattle.block_record.specs.Memory.{AllPacked, recordsOf}
@@ -87,12 +87,12 @@ not-intra Repeat o = refl
 
 -- ---- flags
 module _ (f : PixelFormat) (w h : ℕ) (k : Kind) (p : List ℕ) (i : ℕ) where
-  pub flags-intra : (out : List ℕ) (n : ℕ) → k ≡ Intra → out ≡ replicate n 1 → n ≡ blocksOf f w h → (done.At i ≡ asDone (flagsOf f w h k p i)) × Stored out (flagsOf f w h k p i)
+  pub flags-intra : (out : List ℕ) (n : ℕ) → k ≡ Intra → out ≡ replicate n 1 → n ≡ blocksOf f w h → (end.At i ≡ asEnd (flagsOf f w h k p i)) × Stored out (flagsOf f w h k p i)
   unfolding flagsOf intraFlags
   flags-intra out n e a b = rw e (refl, a ∙ ap (λ (m : ℕ). replicate m 1) b)
 
-  pub flags-inter : (out : List ℕ) {r : Done} → isIntra k ≡ false → r ≡ asDone (interFlags f w h p i) → Stored out (interFlags f w h p i)
-      → (r ≡ asDone (flagsOf f w h k p i)) × Stored out (flagsOf f w h k p i)
+  pub flags-inter : (out : List ℕ) {r : End} → isIntra k ≡ false → r ≡ asEnd (interFlags f w h p i) → Stored out (interFlags f w h p i)
+      → (r ≡ asEnd (flagsOf f w h k p i)) × Stored out (flagsOf f w h k p i)
   unfolding flagsOf
   flags-inter out e a b = rw e (a, b)
 
@@ -140,7 +140,7 @@ module _ (n count : ℕ) (h : count ≤ n) (ps ls : List ℕ) (cs : List ℤ) (b
 
 -- ---- the records: predictions, and then qi indices
 -- the same answer of an outcome that is the same
-pub same-stored : {A : Type 0} (form : A → List ℕ) (out : List ℕ) {r : Done} {o o′ : Outcome A} → o ≡ o′ → r ≡ asDone o′ → StoredAs form out o′ → (r ≡ asDone o) × StoredAs form out o
+pub same-stored : {A : Type 0} (form : A → List ℕ) (out : List ℕ) {r : End} {o o′ : Outcome A} → o ≡ o′ → r ≡ asEnd o′ → StoredAs form out o′ → (r ≡ asEnd o) × StoredAs form out o
 same-stored form out e a b = rw e (a, b)
 
 -- four luma blocks to a macro block

@@ -11,7 +11,7 @@ use Rattle.bitstream.specs.Reading.{Outcome, got, refused, after, choose}
 use Rattle.geometry.specs.declared.PixelFormat.{PixelFormat}
 use Rattle.geometry.specs.Sizes.{blocksOf}
 use Rattle.huffman.specs.Tree.{Tree}
-use Rattle.runs.specs.declared.Done.the-variants as done
+use Rattle.bitstream.specs.declared.End.the-variants as end
 use Rattle.block_record.specs.Record.{uncoded}
 use Rattle.block_record.specs.Packed.{packed}
 use Rattle.block_record.proofs.Laws.{packed-uncoded}
@@ -30,13 +30,13 @@ use Rattle.frame_packet.specs.Work.{padded, holding, LeftBy, Left, workA
 use Rattle.frame_packet.proofs.Laws.{packet-some}
 
 -- ---- what the answers of the header and of the body say
-pub header-refused : (o : Outcome FrameHeader) {r : HeaderRead} {k e : ℕ} → r ≡ header.asRead o → r .done ≡ done.Refused k e → o ≡ refused k e
-header-refused (got h d) {r} {k} {e} s g = let t : done.At d ≡ done.Refused k e = sym (ap (λ (x : HeaderRead). x .done) s) ∙ g in let z : _≡_ {A = ℕ} 0 1 = cc in absurd (omega arith)
-header-refused (refused j d) {r} {k} {e} s g = let t : done.Refused j d ≡ done.Refused k e = sym (ap (λ (x : HeaderRead). x .done) s) ∙ g in cc
+pub header-refused : (o : Outcome FrameHeader) {r : HeaderRead} {k e : ℕ} → r ≡ header.asRead o → r .done ≡ end.Refused k e → o ≡ refused k e
+header-refused (got h d) {r} {k} {e} s g = let t : end.At d ≡ end.Refused k e = sym (ap (λ (x : HeaderRead). x .done) s) ∙ g in let z : _≡_ {A = ℕ} 0 1 = cc in absurd (omega arith)
+header-refused (refused j d) {r} {k} {e} s g = let t : end.Refused j d ≡ end.Refused k e = sym (ap (λ (x : HeaderRead). x .done) s) ∙ g in cc
 
-pub header-got : (o : Outcome FrameHeader) {r : HeaderRead} {e : ℕ} → r ≡ header.asRead o → r .done ≡ done.At e → (h : FrameHeader) × (o ≡ got h e) × (r .header ≡ header.asHeader h)
-header-got (got h d) {r} {e} s g = let t : done.At d ≡ done.At e = sym (ap (λ (x : HeaderRead). x .done) s) ∙ g in (h, cc, ap (λ (x : HeaderRead). x .header) s)
-header-got (refused j d) {r} {e} s g = let t : done.Refused j d ≡ done.At e = sym (ap (λ (x : HeaderRead). x .done) s) ∙ g in let z : _≡_ {A = ℕ} 0 1 = cc in absurd (omega arith)
+pub header-got : (o : Outcome FrameHeader) {r : HeaderRead} {e : ℕ} → r ≡ header.asRead o → r .done ≡ end.At e → (h : FrameHeader) × (o ≡ got h e) × (r .header ≡ header.asHeader h)
+header-got (got h d) {r} {e} s g = let t : end.At d ≡ end.At e = sym (ap (λ (x : HeaderRead). x .done) s) ∙ g in (h, cc, ap (λ (x : HeaderRead). x .header) s)
+header-got (refused j d) {r} {e} s g = let t : end.Refused j d ≡ end.At e = sym (ap (λ (x : HeaderRead). x .done) s) ∙ g in let z : _≡_ {A = ℕ} 0 1 = cc in absurd (omega arith)
 
 pub body-refused : (o : Outcome Body) {r : Read} {k e : ℕ} → r ≡ asRead o → r ≡ read.Refused k e → o ≡ refused k e
 body-refused (got b d) s g = let z : _≡_ {A = ℕ} 0 1 = cc in absurd (omega arith)

@@ -4,6 +4,7 @@ use mathlib.Core.Path.{_≡_}
 use mathlib.Core.List.{List, _++_, map}
 use lib.IntN.{ℤ, pos}
 use lib.ListN.{length, drop, replicate}
+use Rattle.bitstream.specs.Answer.{IfGot}
 use Rattle.bitstream.specs.Reading.{Outcome, got, refused}
 use Rattle.geometry.specs.declared.PixelFormat.{PixelFormat}
 use Rattle.geometry.specs.Sizes.{blocksOf, superBlocksOf, macroBlocksOf}
@@ -57,9 +58,8 @@ asFrame (refused k e) = record { read = Refused k e; header = header.repeated }
 -- ---- what the inner functions answer and leave; after a refusal the slices are open
 -- behind the tokens, where there are n blocks, of which `count` are coded: what was read stands in front, and zeros behind it and behind the first `count` of bits and active
 abbrev pub StoredTokens : (n count : ℕ) (coefs : List ℤ) (lasts bits active : List ℕ) → Outcome Tokens → Type 0
-StoredTokens n count coefs lasts bits active (got t e) =
-    (coefs ≡ padded (pos 0) (64 * n) (t .coefs)) × (lasts ≡ padded 0 n (t .lasts)) × (drop count bits ≡ replicate (n - count) 0) × (drop count active ≡ replicate (n - count) 0)
-StoredTokens n count coefs lasts bits active (refused k e) = Unit {0}
+StoredTokens n count coefs lasts bits active o =
+    IfGot (λ t. (coefs ≡ padded (pos 0) (64 * n) (t .coefs)) × (lasts ≡ padded 0 n (t .lasts)) × (drop count bits ≡ replicate (n - count) 0) × (drop count active ≡ replicate (n - count) 0)) o
 
 module _ (f : PixelFormat) (w h : ℕ) where
   -- behind the flags: the numbers of coded blocks and of coded luma blocks; the flags, the records and the list of the coded blocks stand in the slices
@@ -68,8 +68,7 @@ module _ (f : PixelFormat) (w h : ℕ) where
   asCoded (refused k e) = coded.Refused k e
 
   abbrev pub StoredCoded : (flags records coded : List ℕ) → Outcome (List ℕ) → Type 0
-  StoredCoded flags records coded (got l e) = (flags ≡ l) × (records ≡ map packed (codedRecords f w h l)) × (coded ≡ padded 0 (blocksOf f w h) (codedBlocks f w h l))
-  StoredCoded flags records coded (refused k e) = Unit {0}
+  StoredCoded flags records coded o = IfGot (λ l. (flags ≡ l) × (records ≡ map packed (codedRecords f w h l)) × (coded ≡ padded 0 (blocksOf f w h) (codedBlocks f w h l))) o
 
   -- behind the body, before the scratch is cleared: what was read, with zeros behind it, and zeros behind the elements of the coded blocks in bits and active
   pub record LeftBy (b : Body) (m : Work) : Type 0 where
@@ -81,5 +80,4 @@ module _ (f : PixelFormat) (w h : ℕ) where
     pub active : drop (length (b .coded)) (m .active) ≡ replicate (blocksOf f w h - length (b .coded)) 0
 
   abbrev pub Left : Work → Outcome Body → Type 0
-  Left m (got b e) = LeftBy b m
-  Left m (refused k e) = Unit {0}
+  Left m o = IfGot (λ b. LeftBy b m) o

@@ -1,18 +1,19 @@
 // A frame packet, read to its end into work memory. Work memory is all zero before; afterwards it holds what was read, or, after a refusal, is all zero.
+use bitstream::End;
 use frame_header::Header;
 use frame_header::Kind;
 use geometry::PixelFormat;
-use runs::Done;
 use tokens::Counted;
 ghost use mathlib.Core.Path.{_≡_};
 ghost use mathlib.Core.List.{map};
 ghost use Prim.Native.Nat.{_*_, _≤_, _^_};
 ghost use lib.IntN.{pos};
 ghost use lib.ListN.{length, replicate};
+ghost use Rattle.bitstream.specs.Bits.{longest};
 ghost use Rattle.bitstream.specs.Reading.{bind, got, refused, choose};
-ghost use Rattle.geometry.specs.Sizes.{blocksOf, superBlocksOf, macroBlocksOf};
-ghost use Rattle.runs.specs.Lists.{AllBelow, Once};
-ghost use Rattle.runs.specs.Runs.{asDone, StoredAs, Stored};
+ghost use Rattle.geometry.specs.Sizes.{blocksOf, superBlocksOf, macroBlocksOf, largest};
+ghost use Rattle.bitstream.specs.Lists.{Once, AllBelow};
+ghost use Rattle.bitstream.specs.Answer.{Stored, StoredAs, asEnd};
 ghost use Rattle.block_record.specs.Packed.{packed};
 ghost use Rattle.block_record.specs.Memory.{AllPacked, recordsOf};
 ghost use Rattle.block_qi.specs.BlockQi.{blockQi};
@@ -52,15 +53,15 @@ fn read_flags(
     supers: &mut [u8],
     bits: &mut [u8],
     flags: &mut [u8],
-) -> Done
-    requires { ⌜ (length (now packet) ≤ 2 ^ 58) × (w ≤ 65535) × (h ≤ 65535) × (length (now supers) ≡ 2 * superBlocksOf format w h) × (length (now bits) ≡ blocksOf format w h) × (length (now flags) ≡ blocksOf format w h) ⌝ }
-    ensures { λ r. ⌜ r ≡ asDone (flagsOf format w h kind (now (packet .entry)) at) ⌝ }
+) -> End
+    requires { ⌜ (length (now packet) ≤ longest) × (w ≤ largest) × (h ≤ largest) × (length (now supers) ≡ 2 * superBlocksOf format w h) × (length (now bits) ≡ blocksOf format w h) × (length (now flags) ≡ blocksOf format w h) ⌝ }
+    ensures { λ r. ⌜ r ≡ asEnd (flagsOf format w h kind (now (packet .entry)) at) ⌝ }
     ensures { λ r. ⌜ Stored (now (flags .exit)) (flagsOf format w h kind (now (packet .entry)) at) ⌝ }
 {
     match kind {
         Kind::Intra => {
             coded_flags::flag_all(flags);
-            Done::At(at)
+            End::At(at)
         }
         _ => coded_flags::read_flags(packet, at, format, w, h, supers, bits, flags),
     }
@@ -80,15 +81,15 @@ fn read_coded(
     records: &mut [u32],
     coded: &mut [u64],
 ) -> CodedRead
-    requires { ⌜ (length (now packet) ≤ 2 ^ 58) × (w ≤ 65535) × (h ≤ 65535) × (length (now supers) ≡ 2 * superBlocksOf format w h) × (length (now bits) ≡ blocksOf format w h) × (length (now flags) ≡ blocksOf format w h) ⌝ }
+    requires { ⌜ (length (now packet) ≤ longest) × (w ≤ largest) × (h ≤ largest) × (length (now supers) ≡ 2 * superBlocksOf format w h) × (length (now bits) ≡ blocksOf format w h) × (length (now flags) ≡ blocksOf format w h) ⌝ }
     requires { ⌜ (now records ≡ replicate (blocksOf format w h) 0) × (now coded ≡ replicate (blocksOf format w h) 0) ⌝ }
     ensures { λ r. ⌜ r ≡ asCoded format w h (flagsOf format w h kind (now (packet .entry)) at) ⌝ }
     ensures { λ r. ⌜ StoredCoded format w h (now (flags .exit)) (now (records .exit)) (now (coded .exit)) (flagsOf format w h kind (now (packet .entry)) at) ⌝ }
 {
     let done = read_flags(packet, at, kind, format, w, h, supers, bits, flags);
     match done {
-        Done::Refused(k, e) => CodedRead::Refused(k, e),
-        Done::At(place) => {
+        End::Refused(k, e) => CodedRead::Refused(k, e),
+        End::At(place) => {
             let listed = coded_flags::list_coded(format, w, h, flags, records, coded);
             CodedRead::Listed(listed.count, listed.luma, place)
         }
@@ -106,18 +107,18 @@ fn read_predictions(
     flags: &[u8],
     modes: &mut [u8],
     records: &mut [u32],
-) -> Done
-    requires { ⌜ (length (now packet) ≤ 2 ^ 58) × (w ≤ 65535) × (h ≤ 65535) × (length (now flags) ≡ blocksOf format w h) × (length (now modes) ≡ macroBlocksOf w h) × (length (now records) ≡ blocksOf format w h) × AllPacked (now records) ⌝ }
-    ensures { λ r. ⌜ r ≡ asDone (predictions format w h kind (now (flags .entry)) (recordsOf (now (records .entry))) (now (packet .entry)) at) ⌝ }
+) -> End
+    requires { ⌜ (length (now packet) ≤ longest) × (w ≤ largest) × (h ≤ largest) × (length (now flags) ≡ blocksOf format w h) × (length (now modes) ≡ macroBlocksOf w h) × (length (now records) ≡ blocksOf format w h) × AllPacked (now records) ⌝ }
+    ensures { λ r. ⌜ r ≡ asEnd (predictions format w h kind (now (flags .entry)) (recordsOf (now (records .entry))) (now (packet .entry)) at) ⌝ }
     ensures { λ r. ⌜ StoredAs (map packed) (now (records .exit)) (predictions format w h kind (now (flags .entry)) (recordsOf (now (records .entry))) (now (packet .entry)) at) ⌝ }
 {
     match kind {
-        Kind::Intra => Done::At(at),
+        Kind::Intra => End::At(at),
         _ => {
             let read = modes::read_modes(packet, at, flags, modes);
             match read {
-                Done::Refused(k, e) => Done::Refused(k, e),
-                Done::At(next) => vectors::read_vectors(packet, next, format, w, h, modes, records),
+                End::Refused(k, e) => End::Refused(k, e),
+                End::At(next) => vectors::read_vectors(packet, next, format, w, h, modes, records),
             }
         }
     }
@@ -137,16 +138,16 @@ fn read_records(
     bits: &mut [u8],
     modes: &mut [u8],
     records: &mut [u32],
-) -> Done
-    requires { ⌜ (length (now packet) ≤ 2 ^ 58) × (w ≤ 65535) × (h ≤ 65535) × (length (now flags) ≡ blocksOf format w h) × (length (now modes) ≡ macroBlocksOf w h) × (length (now records) ≡ blocksOf format w h) × AllPacked (now records) ⌝ }
+) -> End
+    requires { ⌜ (length (now packet) ≤ longest) × (w ≤ largest) × (h ≤ largest) × (length (now flags) ≡ blocksOf format w h) × (length (now modes) ≡ macroBlocksOf w h) × (length (now records) ≡ blocksOf format w h) × AllPacked (now records) ⌝ }
     requires { ⌜ (qis ≤ 3) × Once (now coded) × AllBelow (blocksOf format w h) (now coded) × (length (now coded) ≤ length (now bits)) ⌝ }
-    ensures { λ r. ⌜ r ≡ asDone (bind (predictions format w h kind (now (flags .entry)) (recordsOf (now (records .entry)))) (blockQi qis (now (coded .entry))) (now (packet .entry)) at) ⌝ }
+    ensures { λ r. ⌜ r ≡ asEnd (bind (predictions format w h kind (now (flags .entry)) (recordsOf (now (records .entry)))) (blockQi qis (now (coded .entry))) (now (packet .entry)) at) ⌝ }
     ensures { λ r. ⌜ StoredAs (map packed) (now (records .exit)) (bind (predictions format w h kind (now (flags .entry)) (recordsOf (now (records .entry)))) (blockQi qis (now (coded .entry))) (now (packet .entry)) at) ⌝ }
 {
     let done = read_predictions(packet, at, kind, format, w, h, flags, modes, records);
     match done {
-        Done::Refused(k, e) => Done::Refused(k, e),
-        Done::At(next) => block_qi::read_block_qi(packet, next, qis, coded, bits, records),
+        End::Refused(k, e) => End::Refused(k, e),
+        End::At(next) => block_qi::read_block_qi(packet, next, qis, coded, bits, records),
     }
 }
 
@@ -162,7 +163,7 @@ fn read_coefs(
     bits: &mut [u8],
     active: &mut [u64],
 ) -> Counted
-    requires { ⌜ (length (now packet) ≤ 2 ^ 58) × Tables (now nodes) × (luma ≤ count) × (count ≤ length (now bits)) × (length (now bits) ≤ 2 ^ 36) ⌝ }
+    requires { ⌜ (length (now packet) ≤ longest) × Tables (now nodes) × (luma ≤ count) × (count ≤ length (now bits)) × (length (now bits) ≤ 2 ^ 36) ⌝ }
     requires { ⌜ (now coefs ≡ replicate (64 * length (now bits)) (pos 0)) × (now lasts ≡ replicate (length (now bits)) 0) × (now active ≡ replicate (length (now bits)) 0) ⌝ }
     ensures { λ r. ⌜ r ≡ asCounted (readTokens (treesOf (now (nodes .entry))) luma count (now (packet .entry)) at) ⌝ }
     ensures { λ r. ⌜ StoredTokens (length (now (bits .entry))) count (now (coefs .exit)) (now (lasts .exit)) (now (bits .exit)) (now (active .exit)) (readTokens (treesOf (now (nodes .entry))) luma count (now (packet .entry)) at) ⌝ }
@@ -193,7 +194,7 @@ fn read_body(
     modes: &mut [u8],
     active: &mut [u64],
 ) -> Read
-    requires { ⌜ (length (now packet) ≤ 2 ^ 58) × (w ≤ 65535) × (h ≤ 65535) × (qis ≤ 3) × Tables (now nodes) × (work (now records) (now coded) (now coefs) (now lasts) (now flags) (now bits) (now supers) (now modes) (now active) ≡ cleared (published format w h) .work) ⌝ }
+    requires { ⌜ (length (now packet) ≤ longest) × (w ≤ largest) × (h ≤ largest) × (qis ≤ 3) × Tables (now nodes) × (work (now records) (now coded) (now coefs) (now lasts) (now flags) (now bits) (now supers) (now modes) (now active) ≡ cleared (published format w h) .work) ⌝ }
     ensures { λ r. ⌜ r ≡ asRead (body format w h (treesOf (now (nodes .entry))) kind qis (now (packet .entry)) at) ⌝ }
     ensures { λ r. ⌜ Left format w h (work (now (records .exit)) (now (coded .exit)) (now (coefs .exit)) (now (lasts .exit)) (now (flags .exit)) (now (bits .exit)) (now (supers .exit)) (now (modes .exit)) (now (active .exit))) (body format w h (treesOf (now (nodes .entry))) kind qis (now (packet .entry)) at) ⌝ }
 {
@@ -228,8 +229,8 @@ fn read_body(
                 records,
             );
             match done {
-                Done::Refused(k, e) => Read::Refused(k, e),
-                Done::At(next) => {
+                End::Refused(k, e) => Read::Refused(k, e),
+                End::At(next) => {
                     let given = read_coefs(
                         packet,
                         next,
@@ -299,7 +300,7 @@ pub fn read_frame(
     modes: &mut [u8],
     active: &mut [u64],
 ) -> FrameRead
-    requires { ⌜ (length (now packet) ≤ 2 ^ 58) × (w ≤ 65535) × (h ≤ 65535) × Tables (now nodes) × (work (now records) (now coded) (now coefs) (now lasts) (now flags) (now bits) (now supers) (now modes) (now active) ≡ cleared (published format w h) .work) ⌝ }
+    requires { ⌜ (length (now packet) ≤ longest) × (w ≤ largest) × (h ≤ largest) × Tables (now nodes) × (work (now records) (now coded) (now coefs) (now lasts) (now flags) (now bits) (now supers) (now modes) (now active) ≡ cleared (published format w h) .work) ⌝ }
     ensures { λ r. ⌜ r ≡ asFrame (framePacket format w h (treesOf (now (nodes .entry))) references (now (packet .entry))) ⌝ }
     ensures { λ r. ⌜ work (now (records .exit)) (now (coded .exit)) (now (coefs .exit)) (now (lasts .exit)) (now (flags .exit)) (now (bits .exit)) (now (supers .exit)) (now (modes .exit)) (now (active .exit)) ≡ workAfter format w h (framePacket format w h (treesOf (now (nodes .entry))) references (now (packet .entry))) ⌝ }
 {
@@ -309,8 +310,8 @@ pub fn read_frame(
     let head = frame_header::read_header(packet, references);
     let done = head.done;
     match done {
-        Done::Refused(k, e) => refusal(k, e),
-        Done::At(at) => {
+        End::Refused(k, e) => refusal(k, e),
+        End::At(at) => {
             let header = head.header;
             let kind = header.kind;
             let qis = header.count;

@@ -4,7 +4,7 @@
 --   FrameLaws: frame-length, frame-there, frame-back, frame-once (each block of the frame once)
 --   SuperBlockLaws: frame-flat (the order is one super block after the other), super-end
 --   MacroLaws: in-macro (a block and its macro block), frame-of-macro, element-in-frame, luma-macro (luma block i: macro block i / 4)
---   RasterLaws: raster-number-below
+--   RasterLaws: raster-number-below, block-at-number, number-of-block (raster numbers, both ways). Grids: something for each column and row
 --   SampleLaws: sample-below, sample-once, sample-hit; plane-below, plane-once, plane-hit for one plane
 --   Raster: rows of w one after the other. Lists, Sums: lists in turn and their lengths
 --   Examples: the worked examples
@@ -25,6 +25,7 @@ pub mod LumaMacros
 pub mod FrameLaws
 pub mod SuperBlockLaws
 pub mod MacroLaws
+pub mod Grids
 pub mod RasterLaws
 pub mod SampleLaws
 pub mod Examples

@@ -1,5 +1,5 @@
 -- "Planes follow on": the coded order of all blocks of a frame of w by h macro blocks.
-use mathlib.Core.Bool.{Bool, true, false}
+use mathlib.Core.Bool.{cond}
 use mathlib.Core.List.{List, [], _∷_}
 use Prim.Native.Nat.{ℕ, _-_, _<_}
 use lib.Dec.{ltb}
@@ -40,12 +40,8 @@ superBlocksBefore f w h p = total (planeSuperBlocks f w h) p
 unfoldable pub superBlockIn : PixelFormat → ℕ → ℕ → ℕ → ℕ → List Block
 superBlockIn f w h p k = inPlane p (tileNo 4 blockWalk (across f w p) (up f h p) k)
 
-abbrev pub choose : Bool → List Block → List Block → List Block
-choose true l m = l
-choose false l m = m
-
 -- the blocks of super block k of the frame: the planes' super blocks follow on
 unfoldable pub superBlockOf : PixelFormat → ℕ → ℕ → ℕ → List Block
 superBlockOf f w h k =
-    choose (ltb k (superBlocksBefore f w h 1)) (superBlockIn f w h 0 k)
-    (choose (ltb k (superBlocksBefore f w h 2)) (superBlockIn f w h 1 (k - superBlocksBefore f w h 1)) (superBlockIn f w h 2 (k - superBlocksBefore f w h 2)))
+    cond (ltb k (superBlocksBefore f w h 1)) (superBlockIn f w h 0 k)
+    (cond (ltb k (superBlocksBefore f w h 2)) (superBlockIn f w h 1 (k - superBlocksBefore f w h 1)) (superBlockIn f w h 2 (k - superBlocksBefore f w h 2)))

@@ -5,6 +5,10 @@ use Rattle.geometry.specs.declared.PixelFormat.the-variants.{Chroma420, 
 use Rattle.geometry.specs.declared.Plane.{Plane}
 use Rattle.geometry.specs.declared.FrameSizes.{FrameSizes}
 
+-- the most macro blocks across and up: FMBW and FMBH have 16 bits
+abbrev pub largest : ℕ
+largest = 65535
+
 -- "4:2:0, 4:2:2 (half width), 4:4:4": the blocks across and up of a chroma plane; luma has two by two to a macro block
 abbrev pub chromaAcross : PixelFormat → ℕ → ℕ
 chromaAcross Chroma420 w = w

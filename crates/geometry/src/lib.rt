@@ -2,12 +2,12 @@
 mod tiles;
 
 ghost use mathlib.Core.Path.{_≡_};
-ghost use Prim.Native.Nat.{ℕ, suc, _+_, _*_, _/_, _≤_, _<_};
+ghost use Prim.Native.Nat.{ℕ, suc, _+_, _-_, _*_, _/_, _%_, _≤_, _<_};
 ghost use lib.ListN.{length, getD};
-ghost use Rattle.geometry.specs.Sizes.{chromaAcross, chromaUp, tiles, planeSuperBlocks, macroBlocksOf, blocksOf, superBlocksOf, blocksBefore, blocksEach, planeOf, sizesOf};
+ghost use Rattle.geometry.specs.Sizes.{chromaAcross, chromaUp, tiles, planeSuperBlocks, macroBlocksOf, blocksOf, superBlocksOf, blocksBefore, blocksEach, planeOf, sizesOf, largest};
 ghost use Rattle.geometry.specs.Order.{at, inTurn, tileNo, blockWalk, blockOrder, codedMacros};
 ghost use Rattle.geometry.specs.Frame.{block, frameOrder, InFrame, superBlocksBefore, superBlockOf};
-ghost use Rattle.geometry.specs.Raster.{rasterNumber};
+ghost use Rattle.geometry.specs.Raster.{rasterNumber, blockNo};
 ghost use Rattle.geometry.specs.Macro.{fourOf, blocksOfMacro, macroOf};
 ghost use Rattle.geometry.specs.Sample.{sampleAt};
 
@@ -51,7 +51,7 @@ pub struct Block {
 }
 
 fn chroma_across(format: PixelFormat, w: u64) -> u64
-    requires { ⌜ w ≤ 65535 ⌝ }
+    requires { ⌜ w ≤ largest ⌝ }
     ensures { λ r. ⌜ (r ≡ chromaAcross format w) × (r ≤ 131070) ⌝ }
 {
     match format {
@@ -62,7 +62,7 @@ fn chroma_across(format: PixelFormat, w: u64) -> u64
 }
 
 fn chroma_up(format: PixelFormat, h: u64) -> u64
-    requires { ⌜ h ≤ 65535 ⌝ }
+    requires { ⌜ h ≤ largest ⌝ }
     ensures { λ r. ⌜ (r ≡ chromaUp format h) × (r ≤ 131070) ⌝ }
 {
     match format {
@@ -74,7 +74,7 @@ fn chroma_up(format: PixelFormat, h: u64) -> u64
 
 // Plane p of a frame of w by h macro blocks.
 pub fn plane_of(format: PixelFormat, w: u64, h: u64, p: u64) -> Plane
-    requires { ⌜ (w ≤ 65535) × (h ≤ 65535) × (p < 3) ⌝ }
+    requires { ⌜ (w ≤ largest) × (h ≤ largest) × (p < 3) ⌝ }
     ensures { λ r. ⌜ r ≡ planeOf format w h p ⌝ }
 {
     let luma = 2 * h * (2 * w);
@@ -115,7 +115,7 @@ fn super_blocks_in(a: u64, b: u64) -> u64
 
 // The sizes of a frame of w by h macro blocks.
 pub fn sizes(format: PixelFormat, w: u64, h: u64) -> FrameSizes
-    requires { ⌜ (w ≤ 65535) × (h ≤ 65535) ⌝ }
+    requires { ⌜ (w ≤ largest) × (h ≤ largest) ⌝ }
     ensures { λ r. ⌜ r ≡ sizesOf format w h ⌝ }
 {
     let luma = plane_of(format, w, h, 0);
@@ -160,7 +160,7 @@ fn place_at(w: u64, h: u64, i: u64) -> Place
 // The number of macro block (x, y) in the coded order of a frame of w by h macro blocks. The luma blocks of macro block m
 // are numbers 4 m to 4 m + 3.
 pub fn macro_block_number(w: u64, h: u64, x: u64, y: u64) -> u64
-    requires { ⌜ (x < w) × (y < h) × (w ≤ 65535) × (h ≤ 65535) ⌝ }
+    requires { ⌜ (x < w) × (y < h) × (w ≤ largest) × (h ≤ largest) ⌝ }
     ensures { λ r. ⌜ (r < macroBlocksOf w h) × (getD (codedMacros w h) r (at 0 0) ≡ at x y) ⌝ }
 {
     place_number(2 * w, 2 * h, 2 * x, 2 * y) / 4
@@ -168,7 +168,7 @@ pub fn macro_block_number(w: u64, h: u64, x: u64, y: u64) -> u64
 
 // The macro block that is number i there.
 pub fn macro_block_at(w: u64, h: u64, i: u64) -> Place
-    requires { ⌜ (i < macroBlocksOf w h) × (w ≤ 65535) × (h ≤ 65535) ⌝ }
+    requires { ⌜ (i < macroBlocksOf w h) × (w ≤ largest) × (h ≤ largest) ⌝ }
     ensures { λ r. ⌜ r ≡ getD (codedMacros w h) i (at 0 0) ⌝ }
 {
     let p = place_at(2 * w, 2 * h, 4 * i);
@@ -199,7 +199,7 @@ fn plane_super_block(w: u64, h: u64, k: u64) -> SuperBlock
 
 // The plane that holds block number i of a frame.
 fn plane_with(format: PixelFormat, w: u64, h: u64, i: u64) -> u64
-    requires { ⌜ (w ≤ 65535) × (h ≤ 65535) × (i < blocksOf format w h) ⌝ }
+    requires { ⌜ (w ≤ largest) × (h ≤ largest) × (i < blocksOf format w h) ⌝ }
     ensures { λ r. ⌜ (r < 3) × (blocksBefore format w h r ≤ i) × (i < blocksBefore format w h (suc r)) ⌝ }
 {
     let cr = plane_of(format, w, h, 2);
@@ -215,7 +215,7 @@ fn plane_with(format: PixelFormat, w: u64, h: u64, i: u64) -> u64
 
 // The block that is number i in the coded order of a frame of w by h macro blocks.
 pub fn block_at(format: PixelFormat, w: u64, h: u64, i: u64) -> Block
-    requires { ⌜ (w ≤ 65535) × (h ≤ 65535) × (i < blocksOf format w h) ⌝ }
+    requires { ⌜ (w ≤ largest) × (h ≤ largest) × (i < blocksOf format w h) ⌝ }
     ensures { λ r. ⌜ r ≡ getD (frameOrder format w h) i (block 0 0 0) ⌝ }
 {
     let p = plane_with(format, w, h, i);
@@ -230,7 +230,7 @@ pub fn block_at(format: PixelFormat, w: u64, h: u64, i: u64) -> Block
 
 // The number of a block there.
 pub fn block_number(format: PixelFormat, w: u64, h: u64, b: Block) -> u64
-    requires { ⌜ (w ≤ 65535) × (h ≤ 65535) × InFrame format w h b ⌝ }
+    requires { ⌜ (w ≤ largest) × (h ≤ largest) × InFrame format w h b ⌝ }
     ensures { λ r. ⌜ (r < blocksOf format w h) × (getD (frameOrder format w h) r (block 0 0 0) ≡ b) ⌝ }
 {
     let q = plane_of(format, w, h, b.plane);
@@ -239,11 +239,40 @@ pub fn block_number(format: PixelFormat, w: u64, h: u64, b: Block) -> u64
 
 // The raster number of a block: work memory goes by these.
 pub fn raster_number(format: PixelFormat, w: u64, h: u64, b: Block) -> u64
-    requires { ⌜ (w ≤ 65535) × (h ≤ 65535) × InFrame format w h b ⌝ }
+    requires { ⌜ (w ≤ largest) × (h ≤ largest) × InFrame format w h b ⌝ }
     ensures { λ r. ⌜ (r ≡ rasterNumber format w h b) × (r < blocksOf format w h) ⌝ }
 {
     let q = plane_of(format, w, h, b.plane);
     q.offset / 64 + (b.y * q.across + b.x)
+}
+
+// Block number n of a frame, which lies in plane p.
+fn block_in(p: u64, plane: Plane, n: u64) -> Block
+    requires { ⌜ (plane .offset / 64 ≤ n) × (0 < plane .across) ⌝ }
+    ensures { λ r. ⌜ r ≡ block p ((n - plane .offset / 64) % plane .across) ((n - plane .offset / 64) / plane .across) ⌝ }
+{
+    let i = n - plane.offset / 64;
+    Block {
+        plane: p,
+        x: i % plane.across,
+        y: i / plane.across,
+    }
+}
+
+// The block with raster number n.
+pub fn raster_block(format: PixelFormat, w: u64, h: u64, n: u64) -> Block
+    requires { ⌜ (w ≤ largest) × (h ≤ largest) × (n < blocksOf format w h) ⌝ }
+    ensures { λ r. ⌜ r ≡ blockNo format w h n ⌝ }
+{
+    let cb = plane_of(format, w, h, 1);
+    if n < cb.offset / 64 {
+        return block_in(0, plane_of(format, w, h, 0), n);
+    }
+    let cr = plane_of(format, w, h, 2);
+    if n < cr.offset / 64 {
+        return block_in(1, cb, n);
+    }
+    block_in(2, cr, n)
 }
 
 // A super block by its plane, and its number there.
@@ -253,7 +282,7 @@ struct SuperPlace {
 }
 
 fn super_place(format: PixelFormat, w: u64, h: u64, k: u64) -> SuperPlace
-    requires { ⌜ (w ≤ 65535) × (h ≤ 65535) × (k < superBlocksOf format w h) ⌝ }
+    requires { ⌜ (w ≤ largest) × (h ≤ largest) × (k < superBlocksOf format w h) ⌝ }
     ensures { λ r. ⌜ (r .plane < 3) × (r .rest < planeSuperBlocks format w h (r .plane)) × (superBlocksBefore format w h (r .plane) + r .rest ≡ k) ⌝ }
 {
     let luma = plane_of(format, w, h, 0);
@@ -275,7 +304,7 @@ fn super_place(format: PixelFormat, w: u64, h: u64, k: u64) -> SuperPlace
 
 // Super block k of a frame of w by h macro blocks, in the frame's coded order.
 pub fn super_block(format: PixelFormat, w: u64, h: u64, k: u64) -> SuperBlock
-    requires { ⌜ (w ≤ 65535) × (h ≤ 65535) × (k < superBlocksOf format w h) ⌝ }
+    requires { ⌜ (w ≤ largest) × (h ≤ largest) × (k < superBlocksOf format w h) ⌝ }
     ensures { λ r. ⌜ (r .first ≡ length (inTurn (superBlockOf format w h) k)) × (r .count ≡ length (superBlockOf format w h k)) × (r .count ≤ 16) × (r .first + r .count ≤ blocksOf format w h) ⌝ }
 {
     let t = super_place(format, w, h, k);
@@ -301,7 +330,7 @@ pub fn blocks_each(format: PixelFormat) -> u64
 
 // Block j of the four of a macro block: lower left, lower right, upper left, upper right.
 fn one_of_four(plane: u64, x: u64, y: u64, j: u64) -> Block
-    requires { ⌜ (x ≤ 65535) × (y ≤ 65535) × (j < 4) ⌝ }
+    requires { ⌜ (x ≤ largest) × (y ≤ largest) × (j < 4) ⌝ }
     ensures { λ r. ⌜ r ≡ getD (fourOf plane x y) j (block 0 0 0) ⌝ }
 {
     Block {
@@ -313,7 +342,7 @@ fn one_of_four(plane: u64, x: u64, y: u64, j: u64) -> Block
 
 // Block k of macro block (x, y): luma A, B, C, D, then Cb, then Cr.
 pub fn block_of_macro(format: PixelFormat, x: u64, y: u64, k: u64) -> Block
-    requires { ⌜ (x ≤ 65535) × (y ≤ 65535) × (k < blocksEach format) ⌝ }
+    requires { ⌜ (x ≤ largest) × (y ≤ largest) × (k < blocksEach format) ⌝ }
     ensures { λ r. ⌜ r ≡ getD (blocksOfMacro format x y) k (block 0 0 0) ⌝ }
 {
     if k < 4 {
@@ -353,7 +382,7 @@ pub fn macro_of_block(format: PixelFormat, b: Block) -> Place
 
 // Where column c and row r of block b lies in the buffer.
 pub fn sample_offset(format: PixelFormat, w: u64, h: u64, b: Block, c: u64, r: u64) -> u64
-    requires { ⌜ (w ≤ 65535) × (h ≤ 65535) × InFrame format w h b × (c < 8) × (r < 8) ⌝ }
+    requires { ⌜ (w ≤ largest) × (h ≤ largest) × InFrame format w h b × (c < 8) × (r < 8) ⌝ }
     ensures { λ o. ⌜ (o ≡ sampleAt format w h b c r) × (o < 64 * blocksOf format w h) ⌝ }
 {
     let q = plane_of(format, w, h, b.plane);

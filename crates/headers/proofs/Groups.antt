@@ -9,26 +9,17 @@ use Rattle.bitstream.specs.Reading.{Outcome, got, refused}
 use Rattle.bitstream.proofs.Laws.{Lawful, lawful}
 use Rattle.bitstream.proofs.Inside.{Inside, inside, Refuses, refuses}
 use Rattle.bitstream.proofs.Spends.{Spends, pure-spends, bind-spends, field-spends, judged-spends}
-use Rattle.headers.specs.declared.Passed.{Passed}
 use Rattle.headers.specs.declared.FrameSize.{FrameSize}
 use Rattle.headers.specs.declared.FrameSizeAnswer.{FrameSizeAnswer}
 use Rattle.headers.specs.declared.Rates.{Rates}
 use Rattle.headers.specs.declared.RatesAnswer.{RatesAnswer}
 use Rattle.headers.specs.declared.Coding.{Coding}
 use Rattle.headers.specs.declared.CodingAnswer.{CodingAnswer}
-use Rattle.headers.specs.Judgement.{isExactly, isPositive, isAtMost, isFormat, asPassed}
+use Rattle.headers.specs.Judgement.{isExactly, isPositive, isAtMost, isFormat}
 use Rattle.headers.specs.Identification.{version, frameSize, rates, coding, identification, asFrameSize, asRates, asCoding}
 use Rattle.headers.proofs.Judged.{commonHeader-lawful, commonHeader-inside, commonHeader-refuses, commonHeader-spends}
 
 -- ---- what an answer says of the outcome o, by its arm
-pub passed-to : {A : Type 0} (o : Outcome A) {r : Passed} {e : ℕ} → r ≡ asPassed o → r ≡ Passed.To e → (a : A) × (o ≡ got a e)
-passed-to (got a d) s g = (a, cc)
-passed-to (refused k d) s g = let z : _≡_ {A = ℕ} 0 1 = cc in absurd (omega arith)
-
-pub passed-refused : {A : Type 0} (o : Outcome A) {r : Passed} {k e : ℕ} → r ≡ asPassed o → r ≡ Passed.Refused k e → o ≡ refused k e
-passed-refused (got a d) s g = let z : _≡_ {A = ℕ} 0 1 = cc in absurd (omega arith)
-passed-refused (refused k d) s g = cc
-
 pub frame-size-is : (o : Outcome FrameSize) {r : FrameSizeAnswer} {f : FrameSize} {e : ℕ} → r ≡ asFrameSize o → r ≡ FrameSizeAnswer.Is f e → o ≡ got f e
 frame-size-is (got f d) s g = cc
 frame-size-is (refused k d) s g = let z : _≡_ {A = ℕ} 0 1 = cc in absurd (omega arith)

@@ -3,9 +3,7 @@ use Prim.Native.Nat.{ℕ}
 use mathlib.Core.Bool.{Bool, not}
 use mathlib.Core.List.{List, [], _∷_}
 use lib.Dec.{leb, ltb, eqb}
-use Rattle.bitstream.specs.Reading.{Outcome, got, refused, Parse, pure, judged, _>>_}
-use Rattle.headers.specs.declared.Passed.{Passed}
-use Rattle.headers.specs.declared.Passed.the-variants.{To, Refused}
+use Rattle.bitstream.specs.Reading.{Parse, pure, judged, _>>_}
 
 -- the tests
 abbrev pub isExactly : ℕ → ℕ → Bool
@@ -48,8 +46,3 @@ theora = 0x74 ∷ 0x68 ∷ 0x65 ∷ 0x6F ∷ 0x72 ∷ 0x61 ∷ []
 -- what every header begins with: its type byte, and "theora"
 unfoldable pub commonHeader : ℕ → Parse (Unit {0})
 commonHeader kind = spelled (kind ∷ theora)
-
--- the answer where only the place behind is handed on
-abbrev pub asPassed : {A : Type 0} → Outcome A → Passed
-asPassed (got a e) = To e
-asPassed (refused k e) = Refused k e

@@ -1,12 +1,13 @@
 // The session record, the identification header, and the sizes of a session's frames.
+use bitstream::End;
 use bitstream::Field;
 use geometry::FrameSizes;
 use geometry::PixelFormat;
 ghost use mathlib.Core.Path.{_≡_};
 ghost use Prim.Native.Nat.{ℕ, _≤_, _<_, _^_};
 ghost use lib.ListN.{length};
-ghost use Rattle.bitstream.specs.Answer.{asField};
-ghost use Rattle.headers.specs.Judgement.{exactly, positive, atMost, formatCode, commonHeader, asPassed};
+ghost use Rattle.bitstream.specs.Answer.{asField, asEnd};
+ghost use Rattle.headers.specs.Judgement.{exactly, positive, atMost, formatCode, commonHeader};
 ghost use Rattle.headers.specs.Identification.{version, frameSize, rates, coding, identification, asFrameSize, asRates, asCoding, asIdentification};
 ghost use Rattle.headers.specs.Fits.{widthsFit, pictureInside, rangesHold, sessionFits, withinShift};
 ghost use Rattle.headers.specs.Sizes.{formatOf, sessionSizes};
@@ -42,12 +43,6 @@ pub struct Session {
 // The fresh session, or the number of the refusal and its bit place.
 pub enum IdentificationAnswer {
     Accepted(Session),
-    Refused(u32, usize),
-}
-
-// The place behind what was read, or the number and the place of the refusal.
-pub enum Passed {
-    To(usize),
     Refused(u32, usize),
 }
 
@@ -118,9 +113,9 @@ fn read_format_code(packet: &[u8], at: usize, width: usize) -> Field
 }
 
 // What every header begins with: its type byte, and "theora".
-pub fn read_common_header(packet: &[u8], at: usize, kind: u32) -> Passed
+pub fn read_common_header(packet: &[u8], at: usize, kind: u32) -> End
     requires { ⌜ length (now packet) ≤ 2 ^ 58 ⌝ }
-    ensures { λ r. ⌜ r ≡ asPassed (commonHeader kind (now (packet .entry)) at) ⌝ }
+    ensures { λ r. ⌜ r ≡ asEnd (commonHeader kind (now (packet .entry)) at) ⌝ }
 {
     let wanted = [kind, 0x74, 0x68, 0x65, 0x6F, 0x72, 0x61];
     let mut place = at;
@@ -128,11 +123,11 @@ pub fn read_common_header(packet: &[u8], at: usize, kind: u32) -> Passed
     while i < 7 {
         match read_exactly(packet, place, 8, wanted[i], 2) {
             Field::Got(_, next) => place = next,
-            Field::Refused(k, e) => return Passed::Refused(k, e),
+            Field::Refused(k, e) => return End::Refused(k, e),
         }
         i += 1;
     }
-    Passed::To(place)
+    End::At(place)
 }
 
 fn read_version(packet: &[u8], at: usize) -> Field
@@ -309,8 +304,8 @@ fn read_session(packet: &[u8]) -> IdentificationAnswer
     ensures { λ r. ⌜ r ≡ asIdentification (identification (now (packet .entry)) 0) ⌝ }
 {
     let start = match read_common_header(packet, 0, 0x80) {
-        Passed::To(next) => next,
-        Passed::Refused(k, e) => return IdentificationAnswer::Refused(k, e),
+        End::At(next) => next,
+        End::Refused(k, e) => return IdentificationAnswer::Refused(k, e),
     };
     let vrev = match read_version(packet, start) {
         Field::Got(is, next) => Value { is, next },

@@ -15,8 +15,9 @@ use Rattle.bitstream.specs.Bits.{bits, number}
 use Rattle.bitstream.specs.Reading.{Outcome, got, refused, after, field}
 use Rattle.bitstream.proofs.Fields.{field-got, field-end, judged-end, judged-fails, judged-passes}
 use Rattle.huffman.specs.Tree.{Tree, leaf, fork, leaves, size, allowed, leafBit, leafToken, tree, huffmanTree, flat, nodesOf}
-use Rattle.huffman.specs.Answer.{asPlace, nodesAfter, Told, Stored}
-use Rattle.huffman.specs.declared.Place.the-variants as place
+use Rattle.huffman.specs.Answer.{nodesAfter, Told, Stored}
+use Rattle.bitstream.specs.Answer.{asEnd}
+use Rattle.bitstream.specs.declared.End.the-variants as end
 use Rattle.huffman.proofs.Two.{leaf-bit, leaf-token, fork-bit, left-bit, left-token}
 use Rattle.huffman.proofs.Trees.{branches, proper-size, read-proper}
 
@@ -245,31 +246,31 @@ table-front t h =
 
 -- ---- what a return of `read_tree` has to show
 module _ (p : List ℕ) (at : ℕ) (old : List ℕ) where
-  pub tree-past : bits p < at → (place.Refused 4 at ≡ asPlace (huffmanTree p at)) × (old ≡ nodesAfter old (huffmanTree p at))
+  pub tree-past : bits p < at → (end.Refused 4 at ≡ asEnd (huffmanTree p at)) × (old ≡ nodesAfter old (huffmanTree p at))
   unfolding huffmanTree
   tree-past h = rw (tree-end 0 p at 32 (field-end 1 p at (omega arith))) (refl, refl)
 
-  pub tree-4 : (r : ℕ) → Told r (tree 32 0 p at) → r % 4 ≡ 1 → (place.Refused 4 (r / 4) ≡ asPlace (huffmanTree p at)) × (old ≡ nodesAfter old (huffmanTree p at))
+  pub tree-4 : (r : ℕ) → Told r (tree 32 0 p at) → r % 4 ≡ 1 → (end.Refused 4 (r / 4) ≡ asEnd (huffmanTree p at)) × (old ≡ nodesAfter old (huffmanTree p at))
   unfolding huffmanTree
   tree-4 r a h = go (tree 32 0 p at) a
     where
-      go : (o : Outcome Tree) → Told r o → (place.Refused 4 (r / 4) ≡ asPlace o) × (old ≡ nodesAfter old o)
+      go : (o : Outcome Tree) → Told r o → (end.Refused 4 (r / 4) ≡ asEnd o) × (old ≡ nodesAfter old o)
       go (got t e) x = absurd (omega (arith, x, h))
-      go (refused k e) (inl x) = (ap₂ (λ (m n : ℕ). place.Refused m n) (sym (x .1)) (omega (arith, x .0)), refl)
+      go (refused k e) (inl x) = (ap₂ (λ (m n : ℕ). end.Refused m n) (sym (x .1)) (omega (arith, x .0)), refl)
       go (refused k e) (inr x) = absurd (omega (arith, x .0, h))
 
-  pub tree-7 : (r : ℕ) → Told r (tree 32 0 p at) → r % 4 ≡ 2 → (place.Refused 7 (r / 4) ≡ asPlace (huffmanTree p at)) × (old ≡ nodesAfter old (huffmanTree p at))
+  pub tree-7 : (r : ℕ) → Told r (tree 32 0 p at) → r % 4 ≡ 2 → (end.Refused 7 (r / 4) ≡ asEnd (huffmanTree p at)) × (old ≡ nodesAfter old (huffmanTree p at))
   unfolding huffmanTree
   tree-7 r a h = go (tree 32 0 p at) a
     where
-      go : (o : Outcome Tree) → Told r o → (place.Refused 7 (r / 4) ≡ asPlace o) × (old ≡ nodesAfter old o)
+      go : (o : Outcome Tree) → Told r o → (end.Refused 7 (r / 4) ≡ asEnd o) × (old ≡ nodesAfter old o)
       go (got t e) x = absurd (omega (arith, x, h))
       go (refused k e) (inl x) = absurd (omega (arith, x .0, h))
-      go (refused k e) (inr x) = (ap₂ (λ (m n : ℕ). place.Refused m n) (sym (x .1)) (omega (arith, x .0)), refl)
+      go (refused k e) (inr x) = (ap₂ (λ (m n : ℕ). end.Refused m n) (sym (x .1)) (omega (arith, x .0)), refl)
 
   pub tree-stored : (r : ℕ) (scratch new : List ℕ) → length old ≡ 64 → Told r (tree 32 0 p at) → (r % 4 ≡ 1 → ⊥) → (r % 4 ≡ 2 → ⊥)
       → Stored 0 (replicate 97 0) scratch (tree 32 0 p at) → new ≡ take (length old) scratch
-      → (place.Next (r / 4) ≡ asPlace (huffmanTree p at)) × (new ≡ nodesAfter old (huffmanTree p at))
+      → (end.At (r / 4) ≡ asEnd (huffmanTree p at)) × (new ≡ nodesAfter old (huffmanTree p at))
   unfolding huffmanTree
   tree-stored r scratch new h a x y s f =
       let g = told-tree (tree 32 0 p at) r a (whole (tree 32 0 p at) a) in
@@ -281,7 +282,7 @@ module _ (p : List ℕ) (at : ℕ) (old : List ℕ) where
       whole (refused k e) (inr z) = absurd (y (omega (arith, z .0)))
 
       go : (t : Tree) (o : Outcome Tree) → o ≡ got t (r / 4) → Stored 0 (replicate 97 0) scratch o → take 64 (flat 0 t ++ drop (size t) (replicate 97 0)) ≡ nodesOf t
-          → (place.Next (r / 4) ≡ asPlace o) × (new ≡ nodesAfter old o)
+          → (end.At (r / 4) ≡ asEnd o) × (new ≡ nodesAfter old o)
       go t o x y z =
           let w = stored-got 0 (replicate 97 0) scratch o x y in
           let k : 0 + size t ≡ size t = omega arith in

@@ -6,20 +6,11 @@ use mathlib.Core.List.{List, [], _∷_}
 use lib.ListN.{length, getD}
 use Rattle.bitstream.specs.Bits.{bitAt, number}
 use Rattle.bitstream.proofs.Numbers.{number-one, number-add, number-lt, number-part}
-use Rattle.bitstream.proofs.Bytes.{byte-number, byte-more}
 
 pub past-end : (l : List ℕ) (i : ℕ) → length l ≤ i → getD l i 0 ≡ 0
 past-end [] i h = refl
 past-end (x ∷ l) zero h = absurd (omega arith)
 past-end (x ∷ l) (suc i) h = past-end l i (omega arith)
-
--- w bits of them, with b bits behind
-pub bits-of-two : (p : List ℕ) (at w b : ℕ) → at % 8 + w + b ≡ 16 → getD p (at / 8) 0 < 256 → getD p (at / 8 + 1) 0 < 256
-    → (getD p (at / 8) 0 * 256 + getD p (at / 8 + 1) 0) / 2 ^ b % 2 ^ w ≡ number p at w
-bits-of-two p at w b s h l =
-    let e : at / 8 * 8 + at % 8 ≡ at = omega arith in
-    let two : getD p (at / 8) 0 * 256 + getD p (at / 8 + 1) 0 ≡ number p (at / 8 * 8) 16 = rw (← byte-number p (at / 8) h) (byte-more p (at / 8) 1 l) in
-    rw (two, ← s, number-part p (at / 8 * 8) (at % 8) w b, e)
 
 -- the bit at a place, out of the 64 bits from `first` on
 pub bit-of-window : (p : List ℕ) (first place w : ℕ) → w ≡ number p first 64 → first ≤ place → place < first + 64 → w / 2 ^ (63 - (place - first)) % 2 ≡ bitAt p place

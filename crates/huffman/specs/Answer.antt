@@ -7,13 +7,6 @@ use lib.Dec.{eqb}
 use lib.ListN.{take, drop}
 use Rattle.bitstream.specs.Reading.{Outcome, got, refused, choose}
 use Rattle.huffman.specs.Tree.{Tree, size, flat, nodesOf}
-use Rattle.huffman.specs.declared.Place.{Place}
-use Rattle.huffman.specs.declared.Place.the-variants.{Next, Refused}
-
--- the place behind a tree, or the refusal
-abbrev pub asPlace : Outcome Tree → Place
-asPlace (got t e) = Next e
-asPlace (refused k e) = Refused k e
 
 -- the table after a tree was read into it: a refusal leaves it as it was
 abbrev pub nodesAfter : List ℕ → Outcome Tree → List ℕ

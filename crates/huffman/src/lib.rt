@@ -1,20 +1,15 @@
 // Huffman trees: one is read from a setup packet into a table of 64 nodes, and tokens are read by the codes of such a table.
+use bitstream::End;
 use bitstream::Field;
 ghost use mathlib.Core.Path.{_≡_};
 ghost use Prim.Native.Nat.{ℕ, _+_, _-_, _*_, _/_, _%_, _<_, _≤_, _^_};
 ghost use lib.ListN.{length, getD, take};
 ghost use Rattle.bitstream.specs.Bits.{bits, number};
-ghost use Rattle.bitstream.specs.Answer.{asField};
+ghost use Rattle.bitstream.specs.Answer.{asField, asEnd};
 ghost use Rattle.huffman.specs.Tree.{tree, huffmanTree};
 ghost use Rattle.huffman.specs.Code.{tokenCode, treeOf, Formed};
-ghost use Rattle.huffman.specs.Answer.{asPlace, nodesAfter, Told, Stored, branch};
+ghost use Rattle.huffman.specs.Answer.{nodesAfter, Told, Stored, branch};
 ghost use Rattle.huffman.specs.Lookup.{stepped, Lookup, Begun};
-
-// The bit place behind a tree, or the number of the refusal and the place of the field at fault.
-pub enum Place {
-    Next(usize),
-    Refused(u32, usize),
-}
 
 // The byte at an index, 0 past the end.
 fn byte_or_zero(packet: &[u8], i: usize) -> u8
@@ -94,26 +89,26 @@ fn fill_from(nodes: &mut [u8], from: &[u8])
 }
 
 // The tree at the bit place `at`, into a table of nodes, which a refusal leaves as it was.
-pub fn read_tree(packet: &[u8], at: usize, nodes: &mut [u8]) -> Place
+pub fn read_tree(packet: &[u8], at: usize, nodes: &mut [u8]) -> End
     requires { ⌜ (length (now packet) ≤ 2 ^ 58) × (length (now nodes) ≡ 64) ⌝ }
-    ensures { λ r. ⌜ r ≡ asPlace (huffmanTree (now (packet .entry)) at) ⌝ }
+    ensures { λ r. ⌜ r ≡ asEnd (huffmanTree (now (packet .entry)) at) ⌝ }
     ensures { λ r. ⌜ now (nodes .exit) ≡ nodesAfter (now (nodes .entry)) (huffmanTree (now (packet .entry)) at) ⌝ }
 {
     if packet.len() * 8 < at {
-        return Place::Refused(4, at);
+        return End::Refused(4, at);
     }
     // A tree that is refused in the end may come to 97 nodes; an accepted one has at most 63.
     let mut scratch = [0u8; 97];
     let grown = grow(packet, at, 32, 0, &mut scratch, 0);
     let place = grown / 4;
     if grown % 4 == 1 {
-        return Place::Refused(4, place);
+        return End::Refused(4, place);
     }
     if grown % 4 == 2 {
-        return Place::Refused(7, place);
+        return End::Refused(7, place);
     }
     fill_from(nodes, &scratch);
-    Place::Next(place)
+    End::At(place)
 }
 
 // The bit k of a window, the first the most significant.

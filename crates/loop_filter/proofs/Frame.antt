@@ -12,11 +12,10 @@ use Rattle.geometry.specs.declared.Block.{Block}
 use Rattle.geometry.specs.Sizes.{across, up, blocksBefore, blocksOf, planeOf}
 use Rattle.geometry.specs.Order.{inTurn}
 use Rattle.geometry.specs.Frame.{block}
-use Rattle.geometry.specs.Raster.{rasterNumber}
+use Rattle.geometry.specs.Raster.{rasterNumber, raster, grid}
 use Rattle.geometry.specs.Sample.{sampleAt, sampleIn}
 use Rattle.geometry.proofs.SizeLaws.{before-next, before-to}
 use Rattle.ways.specs.Loops.{upTo, over, when}
-use Rattle.ways.specs.Raster.{grid, raster}
 use Rattle.ways.specs.Ways.{edgesAt, openRight, openAbove, edges, filterAll}
 use Rattle.ways.proofs.Steps.{upTo-same, over-turns, over-ones}
 use Rattle.loop_filter.specs.Filter.{filtered}

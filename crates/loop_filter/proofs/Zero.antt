@@ -16,7 +16,7 @@ use Rattle.geometry.specs.declared.Block.{Block}
 use Rattle.geometry.specs.Sizes.{across}
 use Rattle.geometry.specs.Sample.{sampleAt}
 use Rattle.ways.specs.Loops.{upTo, over, when}
-use Rattle.ways.specs.Raster.{raster}
+use Rattle.geometry.specs.Raster.{raster}
 use Rattle.ways.specs.Ways.{acrossEdge, edge, edgesAt, openRight, openAbove, edges, filterAll}
 use Rattle.loop_filter.specs.Filter.{tentOf, limitedOf, responseOf, filtered}
 use Rattle.loop_filter.proofs.Facts.{tent-high}

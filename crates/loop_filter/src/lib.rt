@@ -5,9 +5,8 @@ ghost use mathlib.Core.Bool.{true, false, not, cond};
 ghost use Prim.Native.Nat.{_+_, _*_, _-_, _≤_, _<_};
 ghost use lib.IntN.{natAbs};
 ghost use lib.ListN.{length, getD};
-ghost use Rattle.geometry.specs.Sizes.{across, up, blocksBefore, blocksOf};
+ghost use Rattle.geometry.specs.Sizes.{across, up, blocksBefore, blocksOf, largest};
 ghost use Rattle.ways.specs.Loops.{when};
-ghost use Rattle.ways.specs.Corner.{rowAt};
 ghost use Rattle.ways.specs.Ways.{edge, edgesAt, filterAll};
 ghost use Rattle.loop_filter.specs.Filter.{responseOf, tentOf, limitedOf, filtered};
 ghost use Rattle.loop_filter.specs.Edge.{crossed, NewSides, Four, Fours, Pairs, pairsAt, Runs};
@@ -106,26 +105,14 @@ fn row_sides(s: &[u8], at: usize, row: usize, limit: u32) -> [u8; 16]
     t
 }
 
-// 8 samples from `at` on: those of t from k on.
-fn copy_row(s: &mut [u8], at: usize, t: &[u8], k: usize)
-    requires { ⌜ (at + 7 < length (now s)) × (k + 7 < length (now t)) ⌝ }
-    ensures { λ _. ⌜ now (s .exit) ≡ rowAt (λ c. getD (now (t .entry)) (k + c) 0) at (now (s .entry)) ⌝ }
-{
-    let mut c: usize = 0;
-    while c < 8 {
-        s[at + c] = t[k + c];
-        c += 1;
-    }
-}
-
 // An edge along a row.
 fn filter_row_edge(s: &mut [u8], at: usize, row: usize, limit: u32)
     requires { ⌜ (at + row * 3 + 7 < length (now s)) × (limit ≤ 127) × (8 ≤ row) ⌝ }
     ensures { λ _. ⌜ now (s .exit) ≡ edge (filtered limit) at 1 row (now (s .entry)) ⌝ }
 {
     let t = row_sides(s, at, row, limit);
-    copy_row(s, at + row, &t, 0);
-    copy_row(s, at + row * 2, &t, 8);
+    ways::copy_row(s, at + row, &t, 0);
+    ways::copy_row(s, at + row * 2, &t, 8);
 }
 
 // The four samples from `at` on, as one number.
@@ -260,7 +247,7 @@ fn is_coded(records: &[u32], n: usize) -> bool
     requires { ⌜ n < length (now records) ⌝ }
     ensures { λ r. ⌜ r ≡ codedAt (now (records .entry)) n ⌝ }
 {
-    records[n] % 2 == 1
+    block_record::is_coded(records[n])
 }
 
 // Is a neighbour there, and uncoded? Block n is the neighbour.
@@ -333,7 +320,7 @@ fn filter_frame_plane(
     h: u64,
     p: u64,
 )
-    requires { ⌜ (w ≤ 65535) × (h ≤ 65535) × (p < 3) × (length (now s) ≡ 64 * blocksOf format w h) × (length (now records) ≡ blocksOf format w h) × (limit ≤ 127) ⌝ }
+    requires { ⌜ (w ≤ largest) × (h ≤ largest) × (p < 3) × (length (now s) ≡ 64 * blocksOf format w h) × (length (now records) ≡ blocksOf format w h) × (limit ≤ 127) ⌝ }
     ensures { λ _. ⌜ now (s .exit) ≡ planeSteps (now (records .entry)) limit (blocksBefore format w h p) (across format w p) (up format h p) (now (s .entry)) ⌝ }
 {
     let q = geometry::plane_of(format, w, h, p);
@@ -352,7 +339,7 @@ pub fn filter_frame(
     w: u64,
     h: u64,
 )
-    requires { ⌜ (w ≤ 65535) × (h ≤ 65535) × (length (now new) ≡ 64 * blocksOf format w h) × (length (now records) ≡ blocksOf format w h) × (limit ≤ 127) ⌝ }
+    requires { ⌜ (w ≤ largest) × (h ≤ largest) × (length (now new) ≡ 64 * blocksOf format w h) × (length (now records) ≡ blocksOf format w h) × (limit ≤ 127) ⌝ }
     ensures { λ _. ⌜ now (new .exit) ≡ filterAll format w h (codedBy format w h (now (records .entry))) (filtered limit) (now (new .entry)) ⌝ }
 {
     if limit == 0 {

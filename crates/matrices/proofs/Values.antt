@@ -7,19 +7,8 @@ use mathlib.Core.List.{List}
 use lib.Arith.{digits-div}
 use lib.ListN.{getD}
 use borrow.Author.Tests.{eq-eqb, ne-eqb}
-use Rattle.bitstream.specs.Bits.{number}
-use Rattle.bitstream.proofs.Numbers.{number-part}
-use Rattle.bitstream.proofs.Bytes.{byte-number, byte-more}
 use Rattle.matrices.specs.Matrix.{InRange, interpolated, minimum, scaled, valueAt}
 use Rattle.matrices.specs.declared.Range.{Range}
-
--- ---- eight bits out of two bytes
-pub byte-of-two : (p : List ℕ) (at : ℕ) → getD p (at / 8) 0 < 256 → getD p (at / 8 + 1) 0 < 256 → (getD p (at / 8) 0 * 256 + getD p (at / 8 + 1) 0) / 2 ^ (8 - at % 8) % 256 ≡ number p at 8
-byte-of-two p at h l =
-    let e : at / 8 * 8 + at % 8 ≡ at = omega arith in
-    let s : at % 8 + 8 + (8 - at % 8) ≡ 16 = omega arith in
-    let two : getD p (at / 8) 0 * 256 + getD p (at / 8 + 1) 0 ≡ number p (at / 8 * 8) 16 = rw (← byte-number p (at / 8) h) (byte-more p (at / 8) 1 l) in
-    rw (two, ← s, number-part p (at / 8 * 8) (at % 8) 8 (8 - at % 8), e)
 
 -- ---- interpolation: all products fit
 pub part-fits : (x b : ℕ) → x ≤ 63 → b < 256 → 2 * x * b ≤ 32130

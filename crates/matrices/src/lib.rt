@@ -2,9 +2,9 @@
 use quantization::LoadedParameters;
 ghost use mathlib.Core.Path.{_≡_};
 ghost use mathlib.Core.List.{List};
-ghost use Prim.Native.Nat.{ℕ, _+_, _-_, _*_, _≤_, _<_, _^_};
+ghost use Prim.Native.Nat.{ℕ, _+_, _-_, _*_, _≤_, _<_};
 ghost use lib.ListN.{length, getD, take, drop};
-ghost use Rattle.bitstream.specs.Bits.{bits, number};
+ghost use Rattle.bitstream.specs.Bits.{bits, number, longest};
 ghost use Rattle.bitstream.specs.Lists.{tabulated};
 ghost use Rattle.quantization.specs.Sound.{total, Held};
 ghost use Rattle.matrices.specs.Matrix.{rangeOf, InRange, interpolated, minimum, scaled, valueAt, MatrixIs};
@@ -38,7 +38,7 @@ fn range_of(sizes: &[u16], first: usize, qi: usize) -> Range
 
 // The number of 8 bits at a place that has as many behind it, out of the two bytes that they stand in.
 fn byte_at(packet: &[u8], at: usize) -> usize
-    requires { ⌜ (length (now packet) ≤ 2 ^ 58) × (at + 8 ≤ bits (now packet)) ⌝ }
+    requires { ⌜ (length (now packet) ≤ longest) × (at + 8 ≤ bits (now packet)) ⌝ }
     ensures { λ r. ⌜ r ≡ number (now (packet .entry)) at 8 ⌝ }
 {
     let index = at / 8;
@@ -108,7 +108,7 @@ fn value_at(
     scale: u16,
     c: usize,
 ) -> u16
-    requires { ⌜ (length (now packet) ≤ 2 ^ 58) × (first + 512 ≤ bits (now packet)) × (second + 512 ≤ bits (now packet)) × InRange range qi × (c < 64) ⌝ }
+    requires { ⌜ (length (now packet) ≤ longest) × (first + 512 ≤ bits (now packet)) × (second + 512 ≤ bits (now packet)) × InRange range qi × (c < 64) ⌝ }
     ensures { λ r. ⌜ r ≡ scaled (minimum kind c) scale (interpolated range qi (number (now (packet .entry)) (first + c * 8) 8) (number (now (packet .entry)) (second + c * 8) 8)) ⌝ }
 {
     let left = byte_at(packet, first + c * 8);
@@ -130,7 +130,7 @@ fn fill_matrix(
     ac: u16,
     out: &mut [u16],
 )
-    requires { ⌜ (length (now packet) ≤ 2 ^ 58) × (first + 512 ≤ bits (now packet)) × (second + 512 ≤ bits (now packet)) × InRange range qi × (length (now out) ≡ 64) ⌝ }
+    requires { ⌜ (length (now packet) ≤ longest) × (first + 512 ≤ bits (now packet)) × (second + 512 ≤ bits (now packet)) × InRange range qi × (length (now out) ≡ 64) ⌝ }
     ensures { λ _. ⌜ now (out .exit) ≡ tabulated (λ c. valueAt kind dc ac range qi c (number (now (packet .entry)) (first + c * 8) 8) (number (now (packet .entry)) (second + c * 8) 8)) 0 64 ⌝ }
 {
     out[0] = value_at(packet, first, second, range, kind, qi, dc, 0);
@@ -150,7 +150,7 @@ pub fn matrix(
     qi: usize,
     out: &mut [u16],
 )
-    requires { ⌜ (length (now packet) ≤ 2 ^ 58) × Held (now packet) loaded × (kind < 2) × (plane < 3) × (qi < 64) × (length (now out) ≡ 64) ⌝ }
+    requires { ⌜ (length (now packet) ≤ longest) × Held (now packet) loaded × (kind < 2) × (plane < 3) × (qi < 64) × (length (now out) ≡ 64) ⌝ }
     ensures { λ _. ⌜ MatrixIs (now (packet .entry)) loaded kind plane qi (now (out .exit)) ⌝ }
 {
     let place = loaded.place;

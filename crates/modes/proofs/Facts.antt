@@ -7,10 +7,9 @@ use mathlib.Core.Bool.{true, false}
 use lib.Dec.{eqb, ltb, eqb→eq}
 use lib.ListN.{getD, set, replicate}
 use borrow.Author.Tests.{lt-ltb, eq-eqb, ne-eqb}
-use Rattle.bitstream.specs.Reading.{Outcome, got, refused, field, whole}
+use Rattle.bitstream.specs.Reading.{Outcome, got, refused, field, whole, unary}
 use Rattle.bitstream.proofs.Laws.{whole-got, whole-refused}
-use Rattle.runs.specs.Runs.{rank}
-use Rattle.runs.proofs.Table.{at, between}
+use Rattle.bitstream.proofs.Table.{between, at}
 use Rattle.modes.specs.Modes.{ranksFrom, sentAlphabet, modeOfRank, digits, digit, mode, lumaCoded, modeOf, modesFrom, macroModes, asMode}
 use Rattle.modes.specs.declared.Mode.{Mode}
 use Rattle.modes.specs.declared.Mode.the-variants.{Is, Refused}
@@ -24,7 +23,7 @@ pub mode-refused : (o : Outcome ℕ) {r : Mode} {k e : ℕ} → r ≡ asMode o �
 mode-refused (got a d) s g = let z : _≡_ {A = ℕ} 0 1 = cc in absurd (omega arith)
 mode-refused (refused k d) s g = cc
 
--- ---- scheme 0: one rank more
+-- ---- scheme 0: one unary more
 module _ (p : List ℕ) (i m : ℕ) (alphabet : List ℕ) where
   pub ranks-done : 8 ≤ m → ranksFrom (8 - m) m alphabet p i ≡ got alphabet i
   unfolding ranksFrom
@@ -78,13 +77,13 @@ module _ (scheme : ℕ) (alphabet : List ℕ) where
     unfolding mode
     mode-raw h = rw (eq-eqb scheme 7 h)
 
-    pub mode-cut : (scheme ≡ 7 → ⊥) → {k e : ℕ} → rank 7 0 p i ≡ refused k e → mode scheme alphabet p i ≡ refused k i
+    pub mode-cut : (scheme ≡ 7 → ⊥) → {k e : ℕ} → unary 7 0 p i ≡ refused k e → mode scheme alphabet p i ≡ refused k i
     unfolding mode
-    mode-cut h f = rw (ne-eqb scheme 7 h, whole-refused (rank 7 0) p i f)
+    mode-cut h f = rw (ne-eqb scheme 7 h, whole-refused (unary 7 0) p i f)
 
-    pub mode-ranked : (scheme ≡ 7 → ⊥) → {r e : ℕ} → rank 7 0 p i ≡ got r e → mode scheme alphabet p i ≡ got (modeOfRank scheme alphabet r) e
+    pub mode-ranked : (scheme ≡ 7 → ⊥) → {r e : ℕ} → unary 7 0 p i ≡ got r e → mode scheme alphabet p i ≡ got (modeOfRank scheme alphabet r) e
     unfolding mode
-    mode-ranked h f = rw (ne-eqb scheme 7 h, whole-got (rank 7 0) p i f)
+    mode-ranked h f = rw (ne-eqb scheme 7 h, whole-got (unary 7 0) p i f)
 
 -- ---- whether a luma block is coded
 module _ (flags : List ℕ) (m : ℕ) where

@@ -12,7 +12,7 @@ use Rattle.bitstream.specs.Reading.{got, bind, field}
 use Rattle.bitstream.proofs.Laws.{Lawful, pure-lawful, pick-lawful, bind-lawful, field-lawful, whole-lawful, bind-got}
 use Rattle.bitstream.proofs.Inside.{Inside, pure-inside, pick-inside, bind-inside, field-inside, whole-inside, Refuses, pure-refuses, pick-refuses, bind-refuses, field-refuses, whole-refuses}
 use Rattle.bitstream.proofs.Spends.{Spends, spends-more, pure-spends, field-spends, bind-spends, pick-spends, whole-spends}
-use Rattle.runs.proofs.Laws.{rank-lawful, rank-inside, rank-refuses, rank-spends}
+use Rattle.bitstream.proofs.Unary.{unary-lawful, unary-inside, unary-refuses, unary-spends}
 use Rattle.modes.specs.Modes.{ranksFrom, sentAlphabet, mode, lumaCoded, modeOf, modesFrom, macroModes}
 
 ranks-lawful : (n m : ℕ) (alphabet : List ℕ) → Lawful (ranksFrom n m alphabet)
@@ -27,7 +27,7 @@ sent-lawful scheme = pick-lawful (eqb scheme 0) (ranks-lawful 8 0 (replicate 8 0
 mode-lawful : (scheme : ℕ) (alphabet flags : List ℕ) (m : ℕ) → Lawful (modeOf scheme alphabet flags m)
 unfolding modeOf mode
 mode-lawful scheme alphabet flags m =
-    pick-lawful (lumaCoded flags m) (pick-lawful (eqb scheme 7) (field-lawful 3) (bind-lawful (whole-lawful (rank-lawful 7 0)) (λ r. pure-lawful _))) (pure-lawful 0)
+    pick-lawful (lumaCoded flags m) (pick-lawful (eqb scheme 7) (field-lawful 3) (bind-lawful (whole-lawful (unary-lawful 7 0)) (λ r. pure-lawful _))) (pure-lawful 0)
 
 modes-lawful : (scheme : ℕ) (alphabet flags : List ℕ) (n m : ℕ) (done : List ℕ) → Lawful (modesFrom scheme alphabet flags n m done)
 unfolding modesFrom
@@ -51,7 +51,7 @@ sent-inside scheme = pick-inside (eqb scheme 0) (ranks-inside 8 0 (replicate 8 0
 mode-inside : {d : ℕ} (scheme : ℕ) (alphabet flags : List ℕ) (m : ℕ) → Inside d (modeOf scheme alphabet flags m)
 unfolding modeOf mode
 mode-inside scheme alphabet flags m =
-    pick-inside (lumaCoded flags m) (pick-inside (eqb scheme 7) (field-inside 3) (bind-inside (whole-inside (rank-inside 7 0)) (λ r. pure-inside _))) (pure-inside 0)
+    pick-inside (lumaCoded flags m) (pick-inside (eqb scheme 7) (field-inside 3) (bind-inside (whole-inside (unary-inside 7 0)) (λ r. pure-inside _))) (pure-inside 0)
 
 modes-inside : {d : ℕ} (scheme : ℕ) (alphabet flags : List ℕ) (n m : ℕ) (done : List ℕ) → Inside d (modesFrom scheme alphabet flags n m done)
 unfolding modesFrom
@@ -76,7 +76,7 @@ module _ {ks : List ℕ} (four : among ks 4 ≡ true) where
   mode-refuses : (scheme : ℕ) (alphabet flags : List ℕ) (m : ℕ) → Refuses ks (modeOf scheme alphabet flags m)
   unfolding modeOf mode
   mode-refuses scheme alphabet flags m =
-      pick-refuses (lumaCoded flags m) (pick-refuses (eqb scheme 7) (field-refuses 3 four) (bind-refuses (whole-refuses (rank-refuses four 7 0)) (λ r. pure-refuses _))) (pure-refuses 0)
+      pick-refuses (lumaCoded flags m) (pick-refuses (eqb scheme 7) (field-refuses 3 four) (bind-refuses (whole-refuses (unary-refuses four 7 0)) (λ r. pure-refuses _))) (pure-refuses 0)
 
   modes-refuses : (scheme : ℕ) (alphabet flags : List ℕ) (n m : ℕ) (done : List ℕ) → Refuses ks (modesFrom scheme alphabet flags n m done)
   unfolding modesFrom
@@ -101,7 +101,7 @@ mode-spends : (scheme : ℕ) (alphabet flags : List ℕ) (m : ℕ) → Spends 7 
 unfolding modeOf mode
 mode-spends scheme alphabet flags m =
     pick-spends (lumaCoded flags m)
-    (λ _. pick-spends (eqb scheme 7) (λ _. spends-more (omega arith) (field-spends 3)) (λ _. spends-more (omega arith) (bind-spends {b = 0} (whole-spends (rank-spends 7 0)) (λ r. pure-spends _))))
+    (λ _. pick-spends (eqb scheme 7) (λ _. spends-more (omega arith) (field-spends 3)) (λ _. spends-more (omega arith) (bind-spends {b = 0} (whole-spends (unary-spends 7 0)) (λ r. pure-spends _))))
     (λ _. spends-more (omega arith) (pure-spends 0))
 
 modes-spends : (scheme : ℕ) (alphabet flags : List ℕ) (n m : ℕ) (done : List ℕ) → Spends (n * 7) (modesFrom scheme alphabet flags n m done)

@@ -1,11 +1,12 @@
 // The coding modes of an inter frame's macro blocks.
+use bitstream::End;
 use bitstream::Field;
-use runs::Done;
 ghost use mathlib.Core.Path.{_≡_};
-ghost use Prim.Native.Nat.{_+_, _*_, _<_, _≤_, _^_};
+ghost use Prim.Native.Nat.{_+_, _*_, _<_, _≤_};
 ghost use mathlib.Core.List.{[]};
 ghost use lib.ListN.{length, replicate};
-ghost use Rattle.runs.specs.Runs.{asDone, Stored};
+ghost use Rattle.bitstream.specs.Bits.{longest};
+ghost use Rattle.bitstream.specs.Answer.{Stored, asEnd};
 ghost use Rattle.modes.specs.Modes.{ranksFrom, sentAlphabet, modeOfRank, mode, lumaCoded, modeOf, modesFrom, macroModes, asMode};
 
 // A mode and the place behind it, or the number of the refusal and the place of the field at fault.
@@ -20,9 +21,9 @@ const DIGITS: [u32; 6] = [34201567, 34021567, 32401567, 32041567, 3421567, 53421
 const PLACES: [u32; 8] = [10000000, 1000000, 100000, 10000, 1000, 100, 10, 1];
 
 // Scheme 0: for each mode its rank, put into the modes of the ranks.
-fn read_ranks(packet: &[u8], at: usize, alphabet: &mut [u8; 8]) -> Done
-    requires { ⌜ length (now packet) ≤ 2 ^ 58 ⌝ }
-    ensures { λ r. ⌜ r ≡ asDone (ranksFrom 8 0 (now (alphabet .entry)) (now (packet .entry)) at) ⌝ }
+fn read_ranks(packet: &[u8], at: usize, alphabet: &mut [u8; 8]) -> End
+    requires { ⌜ length (now packet) ≤ longest ⌝ }
+    ensures { λ r. ⌜ r ≡ asEnd (ranksFrom 8 0 (now (alphabet .entry)) (now (packet .entry)) at) ⌝ }
     ensures { λ r. ⌜ Stored (now (alphabet .exit)) (ranksFrom 8 0 (now (alphabet .entry)) (now (packet .entry)) at) ⌝ }
 {
     let mut m: u8 = 0;
@@ -31,7 +32,7 @@ fn read_ranks(packet: &[u8], at: usize, alphabet: &mut [u8; 8]) -> Done
         let one = bitstream::read(packet, place, 3);
         match one {
             Field::Refused(k, e) => {
-                return Done::Refused(k, e);
+                return End::Refused(k, e);
             }
             Field::Got(r, next) => {
                 let rank = r as usize;
@@ -41,19 +42,19 @@ fn read_ranks(packet: &[u8], at: usize, alphabet: &mut [u8; 8]) -> Done
             }
         }
     }
-    Done::At(place)
+    End::At(place)
 }
 
 // The modes of the ranks that the scheme sends, put into 8 zeros.
-fn read_alphabet(packet: &[u8], at: usize, scheme: u32, alphabet: &mut [u8; 8]) -> Done
-    requires { ⌜ (length (now packet) ≤ 2 ^ 58) × (now alphabet ≡ replicate 8 0) ⌝ }
-    ensures { λ r. ⌜ r ≡ asDone (sentAlphabet scheme (now (packet .entry)) at) ⌝ }
+fn read_alphabet(packet: &[u8], at: usize, scheme: u32, alphabet: &mut [u8; 8]) -> End
+    requires { ⌜ (length (now packet) ≤ longest) × (now alphabet ≡ replicate 8 0) ⌝ }
+    ensures { λ r. ⌜ r ≡ asEnd (sentAlphabet scheme (now (packet .entry)) at) ⌝ }
     ensures { λ r. ⌜ Stored (now (alphabet .exit)) (sentAlphabet scheme (now (packet .entry)) at) ⌝ }
 {
     if scheme == 0 {
         return read_ranks(packet, at, alphabet);
     }
-    Done::At(at)
+    End::At(at)
 }
 
 fn mode_of_rank(scheme: u32, alphabet: &[u8; 8], r: u32) -> u8
@@ -70,7 +71,7 @@ fn mode_of_rank(scheme: u32, alphabet: &[u8; 8], r: u32) -> u8
 
 // The mode of a macro block that has a coded luma block.
 fn read_mode(packet: &[u8], at: usize, scheme: u32, alphabet: &[u8; 8]) -> Mode
-    requires { ⌜ (length (now packet) ≤ 2 ^ 58) × (scheme ≤ 7) ⌝ }
+    requires { ⌜ (length (now packet) ≤ longest) × (scheme ≤ 7) ⌝ }
     ensures { λ r. ⌜ r ≡ asMode (mode scheme (now (alphabet .entry)) (now (packet .entry)) at) ⌝ }
 {
     if scheme == 7 {
@@ -84,7 +85,7 @@ fn read_mode(packet: &[u8], at: usize, scheme: u32, alphabet: &[u8; 8]) -> Mode
             }
         }
     }
-    let code = runs::read_rank(packet, at, 7);
+    let code = bitstream::read_unary(packet, at, 7);
     match code {
         Field::Refused(k, _) => Mode::Refused(k, at),
         Field::Got(r, next) => Mode::Is(mode_of_rank(scheme, alphabet, r), next),
@@ -117,7 +118,7 @@ fn read_mode_of(
     flags: &[u8],
     m: usize,
 ) -> Mode
-    requires { ⌜ (length (now packet) ≤ 2 ^ 58) × (scheme ≤ 7) × (m * 4 + 3 < length (now flags)) ⌝ }
+    requires { ⌜ (length (now packet) ≤ longest) × (scheme ≤ 7) × (m * 4 + 3 < length (now flags)) ⌝ }
     ensures { λ r. ⌜ r ≡ asMode (modeOf scheme (now (alphabet .entry)) (now (flags .entry)) m (now (packet .entry)) at) ⌝ }
 {
     if luma_is_coded(flags, m) {
@@ -134,9 +135,9 @@ fn read_each(
     alphabet: &[u8; 8],
     flags: &[u8],
     modes: &mut [u8],
-) -> Done
-    requires { ⌜ (length (now packet) ≤ 2 ^ 58) × (scheme ≤ 7) × (length (now modes) * 4 ≤ length (now flags)) ⌝ }
-    ensures { λ r. ⌜ r ≡ asDone (modesFrom scheme (now (alphabet .entry)) (now (flags .entry)) (length (now (modes .entry))) 0 [] (now (packet .entry)) at) ⌝ }
+) -> End
+    requires { ⌜ (length (now packet) ≤ longest) × (scheme ≤ 7) × (length (now modes) * 4 ≤ length (now flags)) ⌝ }
+    ensures { λ r. ⌜ r ≡ asEnd (modesFrom scheme (now (alphabet .entry)) (now (flags .entry)) (length (now (modes .entry))) 0 [] (now (packet .entry)) at) ⌝ }
     ensures { λ r. ⌜ Stored (now (modes .exit)) (modesFrom scheme (now (alphabet .entry)) (now (flags .entry)) (length (now (modes .entry))) 0 [] (now (packet .entry)) at) ⌝ }
 {
     let n = modes.len();
@@ -146,7 +147,7 @@ fn read_each(
         let one = read_mode_of(packet, place, scheme, alphabet, flags, m);
         match one {
             Mode::Refused(k, e) => {
-                return Done::Refused(k, e);
+                return End::Refused(k, e);
             }
             Mode::Is(v, next) => {
                 modes[m] = v;
@@ -155,24 +156,24 @@ fn read_each(
             }
         }
     }
-    Done::At(place)
+    End::At(place)
 }
 
 // The scheme, and the mode of each macro block in coded order. flags holds a 0 or 1 for each block, in coded order.
-pub fn read_modes(packet: &[u8], at: usize, flags: &[u8], modes: &mut [u8]) -> Done
-    requires { ⌜ (length (now packet) ≤ 2 ^ 58) × (length (now modes) * 4 ≤ length (now flags)) ⌝ }
-    ensures { λ r. ⌜ r ≡ asDone (macroModes (now (flags .entry)) (length (now (modes .entry))) (now (packet .entry)) at) ⌝ }
+pub fn read_modes(packet: &[u8], at: usize, flags: &[u8], modes: &mut [u8]) -> End
+    requires { ⌜ (length (now packet) ≤ longest) × (length (now modes) * 4 ≤ length (now flags)) ⌝ }
+    ensures { λ r. ⌜ r ≡ asEnd (macroModes (now (flags .entry)) (length (now (modes .entry))) (now (packet .entry)) at) ⌝ }
     ensures { λ r. ⌜ Stored (now (modes .exit)) (macroModes (now (flags .entry)) (length (now (modes .entry))) (now (packet .entry)) at) ⌝ }
 {
     let first = bitstream::read(packet, at, 3);
     match first {
-        Field::Refused(k, e) => Done::Refused(k, e),
+        Field::Refused(k, e) => End::Refused(k, e),
         Field::Got(scheme, next) => {
             let mut alphabet = [0u8; 8];
             let sent = read_alphabet(packet, next, scheme, &mut alphabet);
             match sent {
-                Done::Refused(k, e) => Done::Refused(k, e),
-                Done::At(start) => read_each(packet, start, scheme, &alphabet, flags, modes),
+                End::Refused(k, e) => End::Refused(k, e),
+                End::At(start) => read_each(packet, start, scheme, &alphabet, flags, modes),
             }
         }
     }

@@ -10,7 +10,7 @@ ghost use Prim.Native.Nat.{_+_, _*_, _≤_, _<_};
 ghost use lib.IntN.{pos, natAbs, _+ℤ_};
 ghost use lib.ListN.{length, getD};
 ghost use Rattle.numeric.specs.Clamp.{clamp255};
-ghost use Rattle.geometry.specs.Sizes.{across, blocksOf};
+ghost use Rattle.geometry.specs.Sizes.{across, blocksOf, largest};
 ghost use Rattle.geometry.specs.Frame.{InFrame};
 ghost use Rattle.geometry.specs.Sample.{sampleAt};
 ghost use Rattle.block_record.specs.Record.{VectorInRange, PredictionInRange};
@@ -244,18 +244,6 @@ fn sum_rows(source: &[u8], a: usize, b: usize, stride: usize, residual: &[i16]) 
     t
 }
 
-// 8 samples from `at` on: those of t from k on.
-fn copy_row(new: &mut [u8], at: usize, t: &[u8], k: usize)
-    requires { ⌜ (at + 8 ≤ length (now new)) × (k + 8 ≤ length (now t)) ⌝ }
-    ensures { λ _. ⌜ now (new .exit) ≡ rowAt (λ c. getD (now (t .entry)) (k + c) 0) at (now (new .entry)) ⌝ }
-{
-    let mut c: usize = 0;
-    while c < 8 {
-        new[at + c] = t[k + c];
-        c += 1;
-    }
-}
-
 // A block of `new`, where a row has `row` samples: those of t, row by row.
 fn copy_rows(new: &mut [u8], corner: usize, row: usize, t: &[u8])
     requires { ⌜ (corner + 7 * row + 8 ≤ length (now new)) × (length (now t) ≡ 64) ⌝ }
@@ -263,7 +251,7 @@ fn copy_rows(new: &mut [u8], corner: usize, row: usize, t: &[u8])
 {
     let mut r: usize = 0;
     while r < 8 {
-        copy_row(new, corner + r * row, t, r * 8);
+        ways::copy_row(new, corner + r * row, t, r * 8);
         r += 1;
     }
 }
@@ -363,7 +351,7 @@ pub fn write_block(
     b: Block,
     p: Prediction,
 )
-    requires { ⌜ (w ≤ 65535) × (h ≤ 65535) × InFrame format w h b × PredictionInRange p × (length (now new) ≡ 64 * blocksOf format w h)
+    requires { ⌜ (w ≤ largest) × (h ≤ largest) × InFrame format w h b × PredictionInRange p × (length (now new) ≡ 64 * blocksOf format w h)
         × (length (now golden) ≡ 64 * blocksOf format w h) × (length (now previous) ≡ 64 * blocksOf format w h) × (length (now residual) ≡ 64) ⌝ }
     ensures { λ _. ⌜ now (new .exit) ≡ blockAt (summed format w h (now (golden .entry)) (now (previous .entry)) (now (residual .entry)) p b) (sampleAt format w h b 0 0) (8 * across format w (b .plane)) (now (new .entry)) ⌝ }
 {

@@ -1,76 +1,19 @@
--- A loop that reads n values, turn by turn, and what an answer says of the outcome. Assumes nothing.
-use Prim.Native.Nat.{ℕ, suc, _+_, _-_, _≤_, _<_}
-use native.Mathlib.Omega.{arith}
-use native.Mathlib.Nat.{sub-zero}
-use native.Mathlib.Numerals.{add-one}
-use mathlib.Core.Path.{_≡_, refl, sym, ap, _∙_}
-use mathlib.Core.List.{List, [], _∷_, _++_}
-use lib.ListN.{length, take, set}
-use lib.Seq.{take-suc-set}
-use Rattle.bitstream.specs.Reading.{Outcome, got, refused, Parse, pure, bind, times, many}
-use Rattle.bitstream.proofs.Laws.{times-is-many}
-use Rattle.quantization.specs.Answer.{asPlace, Filled}
-use Rattle.quantization.specs.declared.Place.{Place}
-use Rattle.quantization.specs.declared.Place.the-variants.{At, Refused}
-
--- ---- what an answer says
-pub place-at : {A : Type 0} (o : Outcome A) {r : Place} {e : ℕ} → r ≡ asPlace o → r ≡ At e → (a : A) × (o ≡ got a e)
-place-at (got a d) s h = (a, cc)
-place-at (refused k d) s h = let z : _≡_ {A = ℕ} 0 1 = cc in absurd (omega arith)
-
-pub place-refused : {A : Type 0} (o : Outcome A) {r : Place} {k e : ℕ} → r ≡ asPlace o → r ≡ Refused k e → o ≡ refused k e
-place-refused (got a d) s h = let z : _≡_ {A = ℕ} 0 1 = cc in absurd (omega arith)
-place-refused (refused j d) s h = cc
+-- What a reader of a list answers and leaves, by the outcome. Assumes nothing.
+use Prim.Native.Nat.{ℕ}
+use mathlib.Core.Path.{_≡_, refl}
+use mathlib.Core.List.{List}
+use Rattle.bitstream.specs.Reading.{Outcome, got, refused}
+use Rattle.bitstream.specs.Answer.{asEnd}
+use Rattle.bitstream.specs.declared.End.the-variants.{At, Refused}
+use Rattle.bitstream.proofs.Ends.{if-got, on-refused, on-got}
+use Rattle.quantization.specs.Answer.{Filled}
 
 -- a slice that a callee has filled
 pub filled-is : (o : Outcome (List ℕ)) {l : List ℕ} {e : ℕ} (new : List ℕ) → Filled o new → o ≡ got l e → new ≡ l
-filled-is (got x d) {l} new f h = let z : x ≡ l = cc in f ∙ z
-filled-is (refused k d) new f h = let z : _≡_ {A = ℕ} 0 1 = cc in absurd (omega arith)
+filled-is o new f h = if-got (λ (l : List ℕ). new ≡ l) o f h
 
--- ---- a turn of a loop that reads n values, at the k-th
-module _ {A : Type 0} (m : Parse A) (p : List ℕ) (i n k : ℕ) (done : List A) (l : k < n) where
-  one-more : n - k ≡ suc (n - (k + 1))
-  one-more = omega arith
+pub all-refused : (o : Outcome (List ℕ)) (new : List ℕ) {k e : ℕ} → o ≡ refused k e → (Refused k e ≡ asEnd o) × Filled o new
+all-refused o new h = on-refused (λ (l : List ℕ). new ≡ l) o h
 
-  pub times-got : {a : A} {e : ℕ} → m p i ≡ got a e → times (n - k) m done p i ≡ times (n - (k + 1)) m (done ++ a ∷ []) p e
-  unfolding times
-  times-got h = rw (one-more, h)
-
-  pub times-refused : {j e : ℕ} → m p i ≡ refused j e → times (n - k) m done p i ≡ refused j e
-  unfolding times
-  times-refused h = rw (one-more, h)
-
--- the first turn, and after the last
-pub times-start : {A : Type 0} (m : Parse A) (p : List ℕ) (i n : ℕ) → many n m p i ≡ times (n - 0) m [] p i
-times-start m p i n = times-is-many n m p i ∙ ap (λ (j : ℕ). times j m [] p i) (sym (sub-zero n))
-
-pub times-all : {A : Type 0} (m : Parse A) (p : List ℕ) (i n k : ℕ) (done : List A) → n ≤ k → times (n - k) m done p i ≡ got done i
-unfolding times
-times-all m p i n k done h = let e : n - k ≡ 0 = omega arith in rw e
-
--- a turn where the values so far are those at the front of a list, and the one that was got is stored behind them
-pub times-stored : (m : Parse ℕ) (p : List ℕ) (i n k : ℕ) (out : List ℕ) {a e : ℕ} → k < n → k < length out → m p i ≡ got a e
-    → times (n - k) m (take k out) p i ≡ times (n - (k + 1)) m (take (k + 1) (set out k a)) p e
-times-stored m p i n k out {a} {e} l r h =
-    times-got m p i n k (take k out) l h ∙ ap (λ (done : List ℕ). times (n - (k + 1)) m done p e) (sym (rw (add-one k) (take-suc-set out k a r)))
-
--- ---- `many`, by its first value
-module _ {A : Type 0} (n : ℕ) (m : Parse A) (p : List ℕ) (i : ℕ) where
-  pub many-first : {k e : ℕ} → m p i ≡ refused k e → many (suc n) m p i ≡ refused k e
-  unfolding many
-  many-first h = rw h
-
-  pub many-later : {a : A} {e k d : ℕ} → m p i ≡ got a e → many n m p e ≡ refused k d → many (suc n) m p i ≡ refused k d
-  unfolding many
-  many-later h g = rw (h, g)
-
-  pub many-cons : {a : A} {l : List A} {e d : ℕ} → m p i ≡ got a e → many n m p e ≡ got l d → many (suc n) m p i ≡ got (a ∷ l) d
-  unfolding many
-  many-cons h g = rw (h, g)
-
--- what is answered and left, by the outcome
-pub all-refused : (o : Outcome (List ℕ)) (new : List ℕ) {k e : ℕ} → o ≡ refused k e → (Refused k e ≡ asPlace o) × Filled o new
-all-refused o new h = rw h (refl, tt)
-
-pub all-got : (o : Outcome (List ℕ)) (new : List ℕ) {e : ℕ} → o ≡ got new e → (At e ≡ asPlace o) × Filled o new
-all-got o new h = rw h (refl, refl)
+pub all-got : (o : Outcome (List ℕ)) (new : List ℕ) {e : ℕ} → o ≡ got new e → (At e ≡ asEnd o) × Filled o new
+all-got o new h = on-got (λ (l : List ℕ). new ≡ l) o h refl

@@ -15,10 +15,11 @@ use Rattle.bitstream.proofs.Fields.{no-mix, field-value}
 use Rattle.bitstream.proofs.Laws.{bind-got}
 use Rattle.quantization.specs.Parameters.{Ranges, Begun, withRange, index, rangeSize, range, newSet, origin, none, setFrom, moreSets}
 use Rattle.quantization.specs.Layout.{over, laid}
-use Rattle.quantization.specs.Answer.{asPlace, SetFilled, Held, HeldMore, SetAnswer, SetsHeld}
-use Rattle.quantization.specs.declared.Place.{Place}
-use Rattle.quantization.specs.declared.Place.the-variants.{At, Refused}
-use Rattle.quantization.proofs.Loops.{place-at, place-refused}
+use Rattle.quantization.specs.Answer.{SetFilled, Held, HeldMore, SetAnswer, SetsHeld}
+use Rattle.bitstream.specs.Answer.{asEnd}
+use Rattle.bitstream.specs.declared.End.{End}
+use Rattle.bitstream.specs.declared.End.the-variants.{Refused, At}
+use Rattle.bitstream.proofs.Ends.{end-refused, end-at}
 use Rattle.quantization.proofs.Layouts.{laid-length, over-zeros, over-parts, free-part, put-more, paste-more}
 use Rattle.quantization.proofs.Steps.{size-le}
 
@@ -166,7 +167,7 @@ module _ (n : ℕ) (p : List ℕ) (at : ℕ) (sizes₀ indices₀ : List ℕ) wh
 
   module _ (place reached k : ℕ) (sizes indices : List ℕ) (g : Reading n p at sizes₀ indices₀ place reached k sizes indices) where
     -- the set is whole: the slice of indices was `old` before its first element was written
-    pub reading-done : 63 ≤ reached → (old : List ℕ) (b : ℕ) → indices₀ ≡ set old 0 b → (At place ≡ asPlace (newSet n p at)) × SetFilled (newSet n p at) sizes₀ sizes old indices
+    pub reading-done : 63 ≤ reached → (old : List ℕ) (b : ℕ) → indices₀ ≡ set old 0 b → (At place ≡ asEnd (newSet n p at)) × SetFilled (newSet n p at) sizes₀ sizes old indices
     reading-done h old b q =
         let e : newSet n p at ≡ got (ranges (begun reached k sizes indices)) place = g .goes ∙ ap finish (until-stop n p place (g .fuel) (begun reached k sizes indices) (le-leb 63 reached h)) in
         let l = g .long in
@@ -213,7 +214,7 @@ module _ (n : ℕ) (p : List ℕ) (at : ℕ) (sizes₀ indices₀ : List ℕ) wh
               goes = s .2 ∙ ap (λ (o : Outcome Begun). finish (after o (λ t e. until ended (range n) 7 (s .0) t p e))) (range-got n (begun reached k sizes indices) p place f r ∙ ap (λ (x : Begun). got x d) t);
             }
 
-pub set-refused : (o : Outcome Ranges) (sizes sizes′ indices indices′ : List ℕ) {r : Place} {k e : ℕ} → r ≡ Refused k e → o ≡ refused k e → (r ≡ asPlace o) × SetFilled o sizes sizes′ indices indices′
+pub set-refused : (o : Outcome Ranges) (sizes sizes′ indices indices′ : List ℕ) {r : End} {k e : ℕ} → r ≡ Refused k e → o ≡ refused k e → (r ≡ asEnd o) × SetFilled o sizes sizes′ indices indices′
 set-refused o sizes sizes′ indices indices′ q h = rw h (q, tt)
 
 -- ---- one set in its place
@@ -233,11 +234,11 @@ module _ (n : ℕ) (done : List Ranges) (p : List ℕ) (i : ℕ) where
 
   module _ (sizes indices : List ℕ) (held : Held done sizes indices) (room : length done < 6) where
     -- a new one, through the parts that a callee was lent
-    pub new-held : (s′ i′ : List ℕ) {r : Place} → r ≡ asPlace (newSet n p i)
+    pub new-held : (s′ i′ : List ℕ) {r : End} → r ≡ asEnd (newSet n p i)
         → SetFilled (newSet n p i) (midOf (length done * 64) 64 sizes) s′ (midOf (length done * 64) 64 indices) i′
         → length s′ ≡ 64 → length i′ ≡ 64
-        → (r ≡ asPlace (setFrom n done 0 p i)) × HeldMore done (setFrom n done 0 p i) (putMid (length done * 64) 64 sizes s′) (putMid (length done * 64) 64 indices i′)
-    new-held s′ i′ {r} a f ls li = (a ∙ sym (ap asPlace set-new), go (newSet n p i) refl)
+        → (r ≡ asEnd (setFrom n done 0 p i)) × HeldMore done (setFrom n done 0 p i) (putMid (length done * 64) 64 sizes s′) (putMid (length done * 64) 64 indices i′)
+    new-held s′ i′ {r} a f ls li = (a ∙ sym (ap asEnd set-new), go (newSet n p i) refl)
       where
         go : (o : Outcome Ranges) → newSet n p i ≡ o → HeldMore done (setFrom n done 0 p i) (putMid (length done * 64) 64 sizes s′) (putMid (length done * 64) 64 indices i′)
         go (got x d) e =
@@ -257,7 +258,7 @@ module _ (n : ℕ) (done : List Ranges) (p : List ℕ) (i : ℕ) where
     pub copy-held : (back : ℕ) → (back ≡ 0 → ⊥) → back ≤ length done → (s′ i′ : List ℕ)
         → s′ ≡ paste sizes (length done * 64) (drop ((length done - back) * 64) sizes) 64
         → i′ ≡ paste indices (length done * 64) (drop ((length done - back) * 64) indices) 64
-        → (At i ≡ asPlace (setFrom n done back p i)) × HeldMore done (setFrom n done back p i) s′ i′
+        → (At i ≡ asEnd (setFrom n done back p i)) × HeldMore done (setFrom n done back p i) s′ i′
     copy-held back h l s′ i′ es ei =
         let j : length done - back < length done = omega (arith, one-le back h) in
         rw (set-copy back h) (
@@ -270,7 +271,7 @@ module _ (n : ℕ) (done : List Ranges) (p : List ℕ) (i : ℕ) where
 
 -- the answer to one set more: new, in the parts of two slices that were lent, or a copy
 module _ (n : ℕ) (p : List ℕ) (i k : ℕ) (sizes indices : List ℕ) (room : k < 6) (back : ℕ) where
-  pub new-answer : (w : ℕ) → w ≡ 64 → length sizes ≡ 384 → length indices ≡ 384 → back ≡ 0 → (s′ i′ : List ℕ) {r : Place} → r ≡ asPlace (newSet n p i)
+  pub new-answer : (w : ℕ) → w ≡ 64 → length sizes ≡ 384 → length indices ≡ 384 → back ≡ 0 → (s′ i′ : List ℕ) {r : End} → r ≡ asEnd (newSet n p i)
       → SetFilled (newSet n p i) (midOf (k * 64) w sizes) s′ (midOf (k * 64) w indices) i′
       → length s′ ≡ length (midOf (k * 64) w sizes) → length i′ ≡ length (midOf (k * 64) w indices)
       → SetAnswer n p i k back sizes (putMid (k * 64) w sizes s′) indices (putMid (k * 64) w indices i′) r
@@ -326,7 +327,7 @@ module _ (n : ℕ) (p : List ℕ) (at : ℕ) where
     pub sets-long : k ≤ 6 → (length sizes ≡ 384) × (length indices ≡ 384)
     sets-long h = (held-long (λ r. r .sizes) (g .done) sizes (g .held .sizes-are) (omega (arith, g .long)), held-long (λ r. r .indices) (g .done) indices (g .held .indices-are) (omega (arith, g .long)))
 
-    pub sets-done : 6 ≤ k → k ≤ 6 → (At place ≡ asPlace (moreSets 6 n [] p at)) × SetsHeld (moreSets 6 n [] p at) sizes indices
+    pub sets-done : 6 ≤ k → k ≤ 6 → (At place ≡ asEnd (moreSets 6 n [] p at)) × SetsHeld (moreSets 6 n [] p at) sizes indices
     unfolding moreSets
     sets-done h l =
         let z : 6 - k ≡ 0 = omega arith in
@@ -342,17 +343,17 @@ module _ (n : ℕ) (p : List ℕ) (at : ℕ) where
       pub sets-origin : {j e : ℕ} → origin k p place ≡ refused j e → moreSets 6 n [] p at ≡ refused j e
       sets-origin f = g .goes ∙ rw more (sets-first (6 - (k + 1)) n (g .done) p place (rw (g .long) f))
 
-      module _ {b e : ℕ} (f : origin k p place ≡ got b e) (s′ i′ : List ℕ) {r : Place} (a : SetAnswer n p e k b sizes s′ indices i′ r) where
+      module _ {b e : ℕ} (f : origin k p place ≡ got b e) (s′ i′ : List ℕ) {r : End} (a : SetAnswer n p e k b sizes s′ indices i′ r) where
         f′ : origin (length (g .done)) p place ≡ got b e
         f′ = rw (g .long) f
 
         pub sets-refused : {j d : ℕ} → r ≡ Refused j d → moreSets 6 n [] p at ≡ refused j d
-        sets-refused q = g .goes ∙ rw more (sets-set (6 - (k + 1)) n (g .done) p place f′ (place-refused (setFrom n (g .done) b p e) (a (g .done) (g .long) (g .held) .0) q))
+        sets-refused q = g .goes ∙ rw more (sets-set (6 - (k + 1)) n (g .done) p place f′ (end-refused (setFrom n (g .done) b p e) (a (g .done) (g .long) (g .held) .0) q))
 
         pub sets-more : {d : ℕ} → r ≡ At d → Sets n p at d (k + 1) s′ i′
         sets-more {d} q =
             let w = a (g .done) (g .long) (g .held) in
-            let o = place-at (setFrom n (g .done) b p e) (w .0) q in
+            let o = end-at (setFrom n (g .done) b p e) (w .0) q in
             record {
               done = g .done ++ o .0 ∷ [];
               long = length-append (g .done) (o .0 ∷ []) ∙ omega (arith, g .long);
@@ -360,5 +361,5 @@ module _ (n : ℕ) (p : List ℕ) (at : ℕ) where
               goes = g .goes ∙ rw more (sets-next (6 - (k + 1)) n (g .done) p place f′ (o .1));
             }
 
-pub sets-bad : (o : Outcome (List Ranges)) (sizes indices : List ℕ) {r : Place} {k e : ℕ} → r ≡ Refused k e → o ≡ refused k e → (r ≡ asPlace o) × SetsHeld o sizes indices
+pub sets-bad : (o : Outcome (List Ranges)) (sizes indices : List ℕ) {r : End} {k e : ℕ} → r ≡ Refused k e → o ≡ refused k e → (r ≡ asEnd o) × SetsHeld o sizes indices
 sets-bad o sizes indices q h = rw h (q, tt)

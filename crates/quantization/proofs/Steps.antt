@@ -13,10 +13,11 @@ use Rattle.bitstream.specs.Reading.{got, refused, pure, bind, guard, choose, fi
 use Rattle.bitstream.proofs.Fields.{no-mix, field-got, field-end, judged-end, judged-fails, judged-passes}
 use Rattle.bitstream.proofs.Laws.{bind-got}
 use Rattle.quantization.specs.Parameters.{digits, ilog, scales, matrixCount, baseMatrix, index, rangeSize}
-use Rattle.quantization.specs.Answer.{asPlace, Filled}
-use Rattle.quantization.specs.declared.Place.{Place}
-use Rattle.quantization.specs.declared.Place.the-variants.{At}
-use Rattle.quantization.proofs.Loops.{many-first, many-later, many-cons}
+use Rattle.quantization.specs.Answer.{Filled}
+use Rattle.bitstream.specs.Answer.{asEnd}
+use Rattle.bitstream.specs.declared.End.{End}
+use Rattle.bitstream.specs.declared.End.the-variants.{At}
+use Rattle.bitstream.proofs.Loops.{many-cons, many-later, many-first}
 
 -- ---- the number of binary digits
 pub Digits : ℕ → ℕ → ℕ → Type 0
@@ -204,8 +205,8 @@ matrices-whole (suc n) p i h =
     each ms a f zero r = let e : i + 0 * 512 ≡ i = omega arith in rw e a
     each ms a f (suc m) r = let e : i + suc m * 512 ≡ i + 512 + m * 512 = omega arith in rw e (f m (omega arith))
 
-pub matrices-place : (n : ℕ) (p : List ℕ) (i : ℕ) → i + n * 512 ≤ bits p → At (i + n * 512) ≡ asPlace (many n baseMatrix p i)
-matrices-place n p i h = sym (ap asPlace (matrices-whole n p i h .1))
+pub matrices-place : (n : ℕ) (p : List ℕ) (i : ℕ) → i + n * 512 ≤ bits p → At (i + n * 512) ≡ asEnd (many n baseMatrix p i)
+matrices-place n p i h = sym (ap asEnd (matrices-whole n p i h .1))
 
 -- what base matrices that were got say: they are there whole, and are the packet's numbers
 pub matrices-are : (n : ℕ) (p : List ℕ) (i : ℕ) {ms : List (List ℕ)} {e : ℕ} → i ≤ bits p → many n baseMatrix p i ≡ got ms e → (i + n * 512 ≤ bits p) × Matrices p i n ms
@@ -221,6 +222,6 @@ matrices-are n p i {ms} {e} h f = go (leb (i + n * 512) (bits p)) refl
     go false t = let s : bits p < i + n * 512 = leb-false _ _ t in no-mix (sym f ∙ matrices-end n p i h (omega arith))
 
 -- the values behind the width, as a callee answers them
-pub scales-filled : (p : List ℕ) (i : ℕ) {v e : ℕ} → field 4 p i ≡ got v e → (n : ℕ) → n ≡ 64 → (r : Place) (new : List ℕ)
-    → r ≡ asPlace (many n (field (v + 1)) p e) → Filled (many n (field (v + 1)) p e) new → (r ≡ asPlace (scales p i)) × Filled (scales p i) new
+pub scales-filled : (p : List ℕ) (i : ℕ) {v e : ℕ} → field 4 p i ≡ got v e → (n : ℕ) → n ≡ 64 → (r : End) (new : List ℕ)
+    → r ≡ asEnd (many n (field (v + 1)) p e) → Filled (many n (field (v + 1)) p e) new → (r ≡ asEnd (scales p i)) × Filled (scales p i) new
 scales-filled p i f n z r new a s = rw (scales-got p i f, ← z) (a, s)

@@ -1,21 +1,16 @@
 // The quantization parameters of the setup header, read into lent slices; the base matrices stay in the packet.
+use bitstream::End;
 use bitstream::Field;
 ghost use mathlib.Core.Path.{_≡_};
 ghost use mathlib.Core.List.{List, []};
-ghost use Prim.Native.Nat.{ℕ, _+_, _-_, _*_, _≤_, _<_, _^_};
+ghost use Prim.Native.Nat.{ℕ, _+_, _-_, _*_, _≤_, _<_};
 ghost use lib.ListN.{length, drop, replicate};
 ghost use lib.Seq.{paste};
-ghost use Rattle.bitstream.specs.Bits.{bits};
+ghost use Rattle.bitstream.specs.Bits.{bits, longest};
 ghost use Rattle.bitstream.specs.Reading.{field, many};
-ghost use Rattle.bitstream.specs.Answer.{asField};
+ghost use Rattle.bitstream.specs.Answer.{asField, asEnd};
 ghost use Rattle.quantization.specs.Parameters.{ilog, scales, matrixCount, baseMatrix, index, rangeSize, newSet, origin, moreSets, quantization};
-ghost use Rattle.quantization.specs.Answer.{placeOf, asPlace, Filled, SetFilled, SetAnswer, SetsHeld, asParameters, Loaded};
-
-// The place behind what was read, or the number of the refusal and the place of the field at fault.
-pub enum Place {
-    At(usize),
-    Refused(u32, usize),
-}
+ghost use Rattle.quantization.specs.Answer.{endOf, Filled, SetFilled, SetAnswer, SetsHeld, asParameters, Loaded};
 
 // The place of the first base matrix and the place behind the parameters, or the refusal.
 pub enum Parameters {
@@ -34,19 +29,19 @@ pub struct LoadedParameters {
 }
 
 // The place that a field's answer says.
-fn place_of(field: Field) -> Place
-    ensures { λ r. ⌜ r ≡ placeOf field ⌝ }
+fn end_of(field: Field) -> End
+    ensures { λ r. ⌜ r ≡ endOf field ⌝ }
 {
     match field {
-        Field::Got(_, next) => Place::At(next),
-        Field::Refused(number, fault) => Place::Refused(number, fault),
+        Field::Got(_, next) => End::At(next),
+        Field::Refused(number, fault) => End::Refused(number, fault),
     }
 }
 
 // As many fields of one width as `out` has elements.
-pub fn read_fields(packet: &[u8], at: usize, width: usize, out: &mut [u16]) -> Place
-    requires { ⌜ (length (now packet) ≤ 2 ^ 58) × (width ≤ 16) ⌝ }
-    ensures { λ r. ⌜ r ≡ asPlace (many (length (now (out .entry))) (field width) (now (packet .entry)) at) ⌝ }
+pub fn read_fields(packet: &[u8], at: usize, width: usize, out: &mut [u16]) -> End
+    requires { ⌜ (length (now packet) ≤ longest) × (width ≤ 16) ⌝ }
+    ensures { λ r. ⌜ r ≡ asEnd (many (length (now (out .entry))) (field width) (now (packet .entry)) at) ⌝ }
     ensures { λ r. ⌜ Filled (many (length (now (out .entry))) (field width) (now (packet .entry)) at) (now (out .exit)) ⌝ }
 {
     let mut place = at;
@@ -55,7 +50,7 @@ pub fn read_fields(packet: &[u8], at: usize, width: usize, out: &mut [u16]) -> P
         let one = bitstream::read(packet, place, width);
         match one {
             Field::Refused(number, fault) => {
-                return Place::Refused(number, fault);
+                return End::Refused(number, fault);
             }
             Field::Got(value, next) => {
                 out[k] = value as u16;
@@ -64,18 +59,18 @@ pub fn read_fields(packet: &[u8], at: usize, width: usize, out: &mut [u16]) -> P
         }
         k += 1;
     }
-    Place::At(place)
+    End::At(place)
 }
 
 // 64 scale values.
-fn read_scales(packet: &[u8], at: usize, out: &mut [u16]) -> Place
-    requires { ⌜ (length (now packet) ≤ 2 ^ 58) × (length (now out) ≡ 64) ⌝ }
-    ensures { λ r. ⌜ r ≡ asPlace (scales (now (packet .entry)) at) ⌝ }
+fn read_scales(packet: &[u8], at: usize, out: &mut [u16]) -> End
+    requires { ⌜ (length (now packet) ≤ longest) × (length (now out) ≡ 64) ⌝ }
+    ensures { λ r. ⌜ r ≡ asEnd (scales (now (packet .entry)) at) ⌝ }
     ensures { λ r. ⌜ Filled (scales (now (packet .entry)) at) (now (out .exit)) ⌝ }
 {
     let first = bitstream::read(packet, at, 4);
     match first {
-        Field::Refused(number, fault) => Place::Refused(number, fault),
+        Field::Refused(number, fault) => End::Refused(number, fault),
         Field::Got(value, next) => {
             let width = value as usize + 1;
             read_fields(packet, next, width, out)
@@ -98,7 +93,7 @@ fn ilog(n: usize) -> usize
 
 // The number of base matrices.
 fn read_count(packet: &[u8], at: usize) -> Field
-    requires { ⌜ length (now packet) ≤ 2 ^ 58 ⌝ }
+    requires { ⌜ length (now packet) ≤ longest ⌝ }
     ensures { λ r. ⌜ r ≡ asField (matrixCount (now (packet .entry)) at) ⌝ }
 {
     let one = bitstream::read(packet, at, 9);
@@ -114,20 +109,20 @@ fn read_count(packet: &[u8], at: usize) -> Field
 }
 
 // The place behind the base matrices, which stay where they are: the refusal is at the first number that is not there whole.
-fn matrices_end(packet: &[u8], at: usize, count: usize) -> Place
-    requires { ⌜ (length (now packet) ≤ 2 ^ 58) × (at ≤ bits (now packet)) × (count ≤ 384) ⌝ }
-    ensures { λ r. ⌜ r ≡ asPlace (many count baseMatrix (now (packet .entry)) at) ⌝ }
+fn matrices_end(packet: &[u8], at: usize, count: usize) -> End
+    requires { ⌜ (length (now packet) ≤ longest) × (at ≤ bits (now packet)) × (count ≤ 384) ⌝ }
+    ensures { λ r. ⌜ r ≡ asEnd (many count baseMatrix (now (packet .entry)) at) ⌝ }
 {
     let left = packet.len() * 8 - at;
     if left < count * 512 {
-        return Place::Refused(4, at + left / 8 * 8);
+        return End::Refused(4, at + left / 8 * 8);
     }
-    Place::At(at + count * 512)
+    End::At(at + count * 512)
 }
 
 // The index of one of `count` base matrices.
 fn read_index(packet: &[u8], at: usize, count: usize) -> Field
-    requires { ⌜ (length (now packet) ≤ 2 ^ 58) × (1 ≤ count) × (count ≤ 384) ⌝ }
+    requires { ⌜ (length (now packet) ≤ longest) × (1 ≤ count) × (count ≤ 384) ⌝ }
     ensures { λ r. ⌜ r ≡ asField (index count (now (packet .entry)) at) ⌝ }
 {
     let width = ilog(count - 1);
@@ -145,7 +140,7 @@ fn read_index(packet: &[u8], at: usize, count: usize) -> Field
 
 // The size less one of the range that begins at qi.
 fn read_size(packet: &[u8], at: usize, qi: usize) -> Field
-    requires { ⌜ (length (now packet) ≤ 2 ^ 58) × (qi < 63) ⌝ }
+    requires { ⌜ (length (now packet) ≤ longest) × (qi < 63) ⌝ }
     ensures { λ r. ⌜ r ≡ asField (rangeSize qi (now (packet .entry)) at) ⌝ }
 {
     let width = ilog(62 - qi);
@@ -162,14 +157,14 @@ fn read_size(packet: &[u8], at: usize, qi: usize) -> Field
 }
 
 // A new set of ranges, at the front of two slices.
-fn read_new(packet: &[u8], at: usize, count: usize, sizes: &mut [u16], indices: &mut [u16]) -> Place
-    requires { ⌜ (length (now packet) ≤ 2 ^ 58) × (1 ≤ count) × (count ≤ 384) × (length (now sizes) ≡ 64) × (length (now indices) ≡ 64) ⌝ }
-    ensures { λ r. ⌜ r ≡ asPlace (newSet count (now (packet .entry)) at) ⌝ }
+fn read_new(packet: &[u8], at: usize, count: usize, sizes: &mut [u16], indices: &mut [u16]) -> End
+    requires { ⌜ (length (now packet) ≤ longest) × (1 ≤ count) × (count ≤ 384) × (length (now sizes) ≡ 64) × (length (now indices) ≡ 64) ⌝ }
+    ensures { λ r. ⌜ r ≡ asEnd (newSet count (now (packet .entry)) at) ⌝ }
     ensures { λ r. ⌜ SetFilled (newSet count (now (packet .entry)) at) (now (sizes .entry)) (now (sizes .exit)) (now (indices .entry)) (now (indices .exit)) ⌝ }
 {
     let first = read_index(packet, at, count);
     let Field::Got(begin, behind) = first else {
-        return place_of(first);
+        return end_of(first);
     };
     indices[0] = begin as u16;
     let mut place = behind;
@@ -178,11 +173,11 @@ fn read_new(packet: &[u8], at: usize, count: usize, sizes: &mut [u16], indices: 
     while reached < 63 {
         let size = read_size(packet, place, reached);
         let Field::Got(less, next) = size else {
-            return place_of(size);
+            return end_of(size);
         };
         let end = read_index(packet, next, count);
         let Field::Got(index, after) = end else {
-            return place_of(end);
+            return end_of(end);
         };
         let one = less as usize + 1;
         sizes[k] = one as u16;
@@ -191,12 +186,12 @@ fn read_new(packet: &[u8], at: usize, count: usize, sizes: &mut [u16], indices: 
         reached += one;
         place = after;
     }
-    Place::At(place)
+    End::At(place)
 }
 
 // Where set k comes from: 0 if it is new, else how many sets before it the one stands that it copies.
 fn read_origin(packet: &[u8], at: usize, k: usize) -> Field
-    requires { ⌜ length (now packet) ≤ 2 ^ 58 ⌝ }
+    requires { ⌜ length (now packet) ≤ longest ⌝ }
     ensures { λ r. ⌜ r ≡ asField (origin k (now (packet .entry)) at) ⌝ }
 {
     if k == 0 {
@@ -243,8 +238,8 @@ fn read_set(
     back: usize,
     sizes: &mut [u16],
     indices: &mut [u16],
-) -> Place
-    requires { ⌜ (length (now packet) ≤ 2 ^ 58) × (1 ≤ count) × (count ≤ 384) × (k < 6) × (back ≤ k) × (length (now sizes) ≡ 384) × (length (now indices) ≡ 384) ⌝ }
+) -> End
+    requires { ⌜ (length (now packet) ≤ longest) × (1 ≤ count) × (count ≤ 384) × (k < 6) × (back ≤ k) × (length (now sizes) ≡ 384) × (length (now indices) ≡ 384) ⌝ }
     ensures { λ r. ⌜ SetAnswer count (now (packet .entry)) at k back (now (sizes .entry)) (now (sizes .exit)) (now (indices .entry)) (now (indices .exit)) r ⌝ }
 {
     let start = k * 64;
@@ -261,19 +256,13 @@ fn read_set(
     let from = start - back * 64;
     copy_part(sizes, from, start);
     copy_part(indices, from, start);
-    Place::At(at)
+    End::At(at)
 }
 
 // The six sets.
-fn read_sets(
-    packet: &[u8],
-    at: usize,
-    count: usize,
-    sizes: &mut [u16],
-    indices: &mut [u16],
-) -> Place
-    requires { ⌜ (length (now packet) ≤ 2 ^ 58) × (1 ≤ count) × (count ≤ 384) × (now sizes ≡ replicate 384 0) × (now indices ≡ replicate 384 0) ⌝ }
-    ensures { λ r. ⌜ r ≡ asPlace (moreSets 6 count [] (now (packet .entry)) at) ⌝ }
+fn read_sets(packet: &[u8], at: usize, count: usize, sizes: &mut [u16], indices: &mut [u16]) -> End
+    requires { ⌜ (length (now packet) ≤ longest) × (1 ≤ count) × (count ≤ 384) × (now sizes ≡ replicate 384 0) × (now indices ≡ replicate 384 0) ⌝ }
+    ensures { λ r. ⌜ r ≡ asEnd (moreSets 6 count [] (now (packet .entry)) at) ⌝ }
     ensures { λ r. ⌜ SetsHeld (moreSets 6 count [] (now (packet .entry)) at) (now (sizes .exit)) (now (indices .exit)) ⌝ }
 {
     let mut place = at;
@@ -281,16 +270,16 @@ fn read_sets(
     while k < 6 {
         let from = read_origin(packet, place, k);
         let Field::Got(back, next) = from else {
-            return place_of(from);
+            return end_of(from);
         };
         let set = read_set(packet, next, count, k, back as usize, sizes, indices);
-        let Place::At(behind) = set else {
+        let End::At(behind) = set else {
             return set;
         };
         place = behind;
         k += 1;
     }
-    Place::At(place)
+    End::At(place)
 }
 
 // All the parameters. The base matrices stay in the packet.
@@ -302,23 +291,23 @@ pub fn read_parameters(
     sizes: &mut [u16],
     indices: &mut [u16],
 ) -> Parameters
-    requires { ⌜ (length (now packet) ≤ 2 ^ 58) × (length (now ac) ≡ 64) × (length (now dc) ≡ 64) × (now sizes ≡ replicate 384 0) × (now indices ≡ replicate 384 0) ⌝ }
+    requires { ⌜ (length (now packet) ≤ longest) × (length (now ac) ≡ 64) × (length (now dc) ≡ 64) × (now sizes ≡ replicate 384 0) × (now indices ≡ replicate 384 0) ⌝ }
     ensures { λ r. ⌜ r ≡ asParameters (quantization (now (packet .entry)) at) ⌝ }
     ensures { λ r. ⌜ Loaded (quantization (now (packet .entry)) at) (now (ac .exit)) (now (dc .exit)) (now (sizes .exit)) (now (indices .exit)) ⌝ }
 {
     let first = read_scales(packet, at, ac);
     let a = match first {
-        Place::Refused(number, fault) => {
+        End::Refused(number, fault) => {
             return Parameters::Refused(number, fault);
         }
-        Place::At(place) => place,
+        End::At(place) => place,
     };
     let second = read_scales(packet, a, dc);
     let b = match second {
-        Place::Refused(number, fault) => {
+        End::Refused(number, fault) => {
             return Parameters::Refused(number, fault);
         }
-        Place::At(place) => place,
+        End::At(place) => place,
     };
     let number = read_count(packet, b);
     match number {
@@ -326,15 +315,15 @@ pub fn read_parameters(
         Field::Got(count, c) => {
             let matrices = matrices_end(packet, c, count as usize);
             let d = match matrices {
-                Place::Refused(number, fault) => {
+                End::Refused(number, fault) => {
                     return Parameters::Refused(number, fault);
                 }
-                Place::At(place) => place,
+                End::At(place) => place,
             };
             let sets = read_sets(packet, d, count as usize, sizes, indices);
             match sets {
-                Place::Refused(number, fault) => Parameters::Refused(number, fault),
-                Place::At(e) => Parameters::Read(c, e),
+                End::Refused(number, fault) => Parameters::Refused(number, fault),
+                End::At(e) => Parameters::Read(c, e),
             }
         }
     }

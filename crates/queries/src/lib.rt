@@ -1,9 +1,9 @@
 // What a caller may ask of a session and of a table memory: orders of blocks, offsets of samples, loop limits, quantization matrices.
+use bitstream::End as Behind;
 use geometry::Block;
 use geometry::PixelFormat;
 use geometry::Place;
 use headers::Session;
-use quantization::Place as Behind;
 ghost use mathlib.Core.Path.{_≡_};
 ghost use Prim.Native.Nat.{ℕ, _≤_, _<_};
 ghost use Rattle.geometry.specs.Frame.{block};

@@ -4,7 +4,7 @@ use mathlib.Core.Path.{_≡_, refl, sym, ap, _∙_, subst}
 use mathlib.Core.Bool.{Bool, true, false, cond}
 use mathlib.Core.List.{List, [], _∷_, map}
 use mathlib.Core.Logic.{inl, inr}
-use Prim.Native.Nat.{ℕ, zero, suc, _+_, _-_, _*_, _/_, _%_, _≤_, _<_}
+use Prim.Native.Nat.{ℕ, zero, suc, _+_, _-_, _*_, _≤_, _<_}
 use native.Mathlib.Nat.{not-suc-le-zero}
 use native.Mathlib.Omega.{arith}
 use borrow.Author.Tests.{eq-eqb, eqb-true}
@@ -14,20 +14,16 @@ use lib.ListN.{length, getD, set, take, drop, length-take, length-map, List·get
 use lib.Seq.{take-all, getD-take, getD-drop}
 use Rattle.geometry.specs.declared.PixelFormat.{PixelFormat}
 use Rattle.geometry.specs.declared.Block.{Block}
-use Rattle.geometry.specs.declared.Plane.{Plane}
-use Rattle.geometry.specs.Sizes.{across, up, blocksBefore, blocksOf, planeOf}
-use Rattle.geometry.specs.Frame.{block, InFrame}
-use Rattle.geometry.specs.Raster.{rasterNumber}
-use Rattle.geometry.proofs.SizeLaws.{before-next}
-use Rattle.geometry.proofs.Raster.{raster-back}
+use Rattle.geometry.specs.Sizes.{blocksOf}
+use Rattle.geometry.specs.Frame.{block}
+use Rattle.geometry.specs.Raster.{rasterNumber, blockNo}
 use Rattle.block_record.specs.Packed.{unpacked}
 use Rattle.block_record.specs.Record.{InRange, uncoded}
 use Rattle.block_record.proofs.Laws.{unpacked-at}
 use Rattle.prediction.specs.Predicted.{summed}
 use Rattle.ways.specs.Loops.{_∈_, upTo, over}
-use Rattle.ways.specs.Raster.{blockNo}
 use Rattle.ways.proofs.Steps.{upTo-same, over-more}
-use Rattle.ways.proofs.Where.{block-at-number, number-of-block}
+use Rattle.geometry.proofs.RasterLaws.{number-of-block}
 use Rattle.reconstruct.specs.Picture.{Blocks, Matrices, rankOf, gathered, blockResidual, dcOf, recordOf, residualOf, sampleOf}
 use Rattle.reconstruct.specs.Lent.{blocksIn, matrixPlace, matrixIn, CodedBlocks}
 
@@ -112,34 +108,8 @@ module _ (ms : List ℕ) (type plane : ℕ) where
       let s : at + 64 - at ≡ 64 = omega arith in
       λ i. take (s i) (drop (e i) ms)
 
--- ---- the block with a raster number
+-- ---- the samples of the block of rank k
 module _ (f : PixelFormat) (w h : ℕ) where
-  -- the number of a plane's first block
-  pub first-number : (p : ℕ) (q : Plane) → q ≡ planeOf f w h p → q .offset / 64 ≡ blocksBefore f w h p
-  first-number p q e = let o : q .offset ≡ 64 * blocksBefore f w h p = ap (λ (q : Plane). q .offset) e in omega arith
-
-  numbered : (p i n : ℕ) → i / across f w p * across f w p + i % across f w p ≡ i → blocksBefore f w h p + i ≡ n → rasterNumber f w h (block p (i % across f w p) (i / across f w p)) ≡ n
-  unfolding rasterNumber
-  numbered p i n e l = omega arith
-
-  -- number n of plane p
-  pub number-in : (p n : ℕ) (q : Plane) → p < 3 → q ≡ planeOf f w h p → blocksBefore f w h p ≤ n → n < blocksBefore f w h (suc p)
-      → (0 < q .across) × (q .offset / 64 ≤ n) × (block p ((n - q .offset / 64) % q .across) ((n - q .offset / 64) / q .across) ≡ blockNo f w h n)
-  number-in p n q hp e lo hi =
-      let a : q .across ≡ across f w p = ap (λ (q : Plane). q .across) e in
-      let d = first-number p q e in
-      let i = n - blocksBefore f w h p in
-      let b = raster-back (across f w p) (up f h p) i (omega (arith, before-next f w h p)) in
-      let s : n - q .offset / 64 ≡ i = omega arith in
-      let here : Block = block p (i % across f w p) (i / across f w p) in
-      let k : InFrame f w h here = record { of-three = hp; column = b .1; row = b .2 } in
-      let m : rasterNumber f w h here ≡ n = numbered p i n (b .3) (omega arith) in (
-        subst (λ (m : ℕ). 0 < m) (sym a) (b .0),
-        omega arith,
-        (λ j. block p (s j % a j) (s j / a j)) ∙ sym (block-at-number f w h here k) ∙ ap (blockNo f w h) m,
-      )
-
-  -- ---- the samples of the block of rank k
   module _ (records coded : List ℕ) (count : ℕ) (coefs : List ℤ) (lasts : List ℕ) (fits : count ≤ length coded) (all : CodedBlocks f w h (blocksIn records coded count coefs lasts)) (k : ℕ) (l : k < count) where
     abbrev pub number : ℕ
     number = getD coded k 0

@@ -10,8 +10,8 @@ use lib.ListN.{length, getD, take}
 use Rattle.geometry.specs.declared.PixelFormat.{PixelFormat}
 use Rattle.geometry.specs.declared.Block.{Block}
 use Rattle.geometry.specs.Sizes.{blocksOf}
-use Rattle.geometry.specs.Raster.{rasterNumber}
-use Rattle.geometry.proofs.RasterLaws.{raster-number-below}
+use Rattle.geometry.specs.Raster.{rasterNumber, blockNo}
+use Rattle.geometry.proofs.RasterLaws.{raster-number-below, number-of-block}
 use Rattle.block_record.specs.declared.BlockRecord.{BlockRecord}
 use Rattle.block_record.specs.Packed.{unpacked}
 use Rattle.block_record.specs.Record.{uncoded}
@@ -19,10 +19,8 @@ use Rattle.block_record.proofs.Laws.{unpacked-at}
 use Rattle.loop_filter.specs.Filter.{filtered}
 use Rattle.loop_filter.specs.Flags.{codedAt, codedBy}
 use Rattle.ways.specs.Loops.{_∈_, over}
-use Rattle.ways.specs.Raster.{blockNo}
 use Rattle.ways.specs.Ways.{Picture, filterAll, firstWay, writeBlock}
 use Rattle.ways.proofs.Corner.{write-at}
-use Rattle.ways.proofs.Where.{number-of-block}
 use Rattle.ways.proofs.Agree.{Coded, numbers-coded, any-order, ways-agree, nothing-coded}
 use Rattle.reconstruct.specs.Picture.{Blocks, Matrices, recordOf, sampleOf, pictureOf}
 use Rattle.reconstruct.specs.Lent.{blocksIn, CodedBlocks, putBlock}

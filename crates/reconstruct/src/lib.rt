@@ -1,22 +1,19 @@
 // The frame that a packet asks for, made in the second way: previous whole, the coded blocks over it, then the loop filter.
 use block_record::Prediction;
-use geometry::Block;
 use geometry::PixelFormat;
-use geometry::Plane;
 ghost use mathlib.Core.Path.{_≡_};
 ghost use mathlib.Core.List.{map};
-ghost use Prim.Native.Nat.{_+_, _*_, _-_, _/_, _%_, _≤_, _<_};
+ghost use Prim.Native.Nat.{_+_, _*_, _≤_, _<_};
 ghost use lib.IntN.{pos};
 ghost use lib.ListN.{length, getD, take, replicate};
-ghost use Rattle.geometry.specs.Sizes.{across, up, blocksOf};
-ghost use Rattle.geometry.specs.Frame.{block};
+ghost use Rattle.geometry.specs.Sizes.{across, up, blocksOf, largest};
 ghost use Rattle.block_record.specs.Record.{InRange};
 ghost use Rattle.block_record.specs.Packed.{unpacked};
 ghost use Rattle.transform.specs.Residual.{residual};
 ghost use Rattle.dc_prediction.specs.Planes.{predictedDc};
 ghost use Rattle.prediction.specs.Predicted.{summed};
 ghost use Rattle.ways.specs.Loops.{over};
-ghost use Rattle.ways.specs.Raster.{blockNo};
+ghost use Rattle.geometry.specs.Raster.{blockNo};
 ghost use Rattle.ways.specs.Ways.{firstWay};
 ghost use Rattle.reconstruct.specs.Picture.{gathered, typeOf, blockResidual, dcOf, sampleOf, pictureOf};
 ghost use Rattle.reconstruct.specs.Lent.{blocksIn, matrixPlace, matrixIn, Below, Lent, ZerosBehind, putBlock};
@@ -37,7 +34,7 @@ fn gather_dc(dc: &mut [i16], coded: &[u64], count: usize, coefs: &[i16])
 
 // DC prediction over the planes of a frame.
 fn predict_frame_dc(dc: &mut [i16], records: &[u32], format: PixelFormat, w: u64, h: u64)
-    requires { ⌜ (w ≤ 65535) × (h ≤ 65535) × (length (now dc) ≡ blocksOf format w h) × (length (now records) ≡ blocksOf format w h) ⌝ }
+    requires { ⌜ (w ≤ largest) × (h ≤ largest) × (length (now dc) ≡ blocksOf format w h) × (length (now records) ≡ blocksOf format w h) ⌝ }
     ensures { λ _. ⌜ now (dc .exit) ≡ predictedDc (map unpacked (now (records .entry))) (across format w 0) (up format h 0) (across format w 1) (up format h 1) (now (dc .entry)) ⌝ }
 {
     let luma = geometry::plane_of(format, w, h, 0);
@@ -50,35 +47,6 @@ fn predict_frame_dc(dc: &mut [i16], records: &[u32], format: PixelFormat, w: u64
         chroma.across as usize,
         chroma.up as usize,
     );
-}
-
-// Block number n of a frame, which lies in plane p.
-fn block_in(p: u64, plane: Plane, n: u64) -> Block
-    requires { ⌜ (plane .offset / 64 ≤ n) × (0 < plane .across) ⌝ }
-    ensures { λ r. ⌜ r ≡ block p ((n - plane .offset / 64) % plane .across) ((n - plane .offset / 64) / plane .across) ⌝ }
-{
-    let i = n - plane.offset / 64;
-    Block {
-        plane: p,
-        x: i % plane.across,
-        y: i / plane.across,
-    }
-}
-
-// The block with raster number n.
-fn block_with(format: PixelFormat, w: u64, h: u64, n: u64) -> Block
-    requires { ⌜ (w ≤ 65535) × (h ≤ 65535) × (n < blocksOf format w h) ⌝ }
-    ensures { λ r. ⌜ r ≡ blockNo format w h n ⌝ }
-{
-    let cb = geometry::plane_of(format, w, h, 1);
-    if n < cb.offset / 64 {
-        return block_in(0, geometry::plane_of(format, w, h, 0), n);
-    }
-    let cr = geometry::plane_of(format, w, h, 2);
-    if n < cr.offset / 64 {
-        return block_in(1, cb, n);
-    }
-    block_in(2, cr, n)
 }
 
 // Where the matrix of a block's type and plane stands, for one of the frame's qi.
@@ -132,11 +100,11 @@ fn write_coded(
     dc: i16,
     last: u8,
 )
-    requires { ⌜ (w ≤ 65535) × (h ≤ 65535) × (n < blocksOf format w h) × InRange (unpacked packed) × ((k + 1) * 64 ≤ length (now coefs)) × (length (now matrices) ≡ 1152)
+    requires { ⌜ (w ≤ largest) × (h ≤ largest) × (n < blocksOf format w h) × InRange (unpacked packed) × ((k + 1) * 64 ≤ length (now coefs)) × (length (now matrices) ≡ 1152)
         × (length (now new) ≡ 64 * blocksOf format w h) × (length (now golden) ≡ 64 * blocksOf format w h) × (length (now previous) ≡ 64 * blocksOf format w h) ⌝ }
     ensures { λ _. ⌜ now (new .exit) ≡ putBlock format w h (λ b. summed format w h (now (golden .entry)) (now (previous .entry)) (blockResidual (matrixIn (now (matrices .entry))) (now (coefs .entry)) k dc last (unpacked packed) (b .plane)) (unpacked packed .prediction) b) (blockNo format w h n) (now (new .entry)) ⌝ }
 {
-    let b = block_with(format, w, h, n);
+    let b = geometry::raster_block(format, w, h, n);
     let r = block_record::unpack(packed);
     let p = r.prediction;
     let mut residual = [0i16; 64];
@@ -170,7 +138,7 @@ fn write_blocks(
     w: u64,
     h: u64,
 )
-    requires { ⌜ (w ≤ 65535) × (h ≤ 65535) × Lent format w h (now records) (now coded) count (now coefs) (now lasts) (now matrices) × (now dc ≡ dcOf format w h (blocksIn (now records) (now coded) count (now coefs) (now lasts)))
+    requires { ⌜ (w ≤ largest) × (h ≤ largest) × Lent format w h (now records) (now coded) count (now coefs) (now lasts) (now matrices) × (now dc ≡ dcOf format w h (blocksIn (now records) (now coded) count (now coefs) (now lasts)))
         × (length (now dc) ≡ blocksOf format w h) × (length (now new) ≡ 64 * blocksOf format w h) × (length (now golden) ≡ 64 * blocksOf format w h) × (length (now previous) ≡ 64 * blocksOf format w h) ⌝ }
     ensures { λ _. ⌜ now (new .exit) ≡ over (map (blockNo format w h) (take count (now (coded .entry)))) (putBlock format w h (sampleOf format w h (blocksIn (now (records .entry)) (now (coded .entry)) count (now (coefs .entry)) (now (lasts .entry))) (matrixIn (now (matrices .entry))) (now (golden .entry)) (now (previous .entry)))) (now (new .entry)) ⌝ }
 {
@@ -217,7 +185,7 @@ fn reconstruct(
     w: u64,
     h: u64,
 )
-    requires { ⌜ (w ≤ 65535) × (h ≤ 65535) × Lent format w h (now records) (now coded) count (now coefs) (now lasts) (now matrices) × (now dc ≡ replicate (blocksOf format w h) (pos 0)) × (limit ≤ 127)
+    requires { ⌜ (w ≤ largest) × (h ≤ largest) × Lent format w h (now records) (now coded) count (now coefs) (now lasts) (now matrices) × (now dc ≡ replicate (blocksOf format w h) (pos 0)) × (limit ≤ 127)
         × (length (now new) ≡ 64 * blocksOf format w h) × (length (now golden) ≡ 64 * blocksOf format w h) × (length (now previous) ≡ 64 * blocksOf format w h) ⌝ }
     ensures { λ _. ⌜ now (new .exit) ≡ firstWay format w h (pictureOf format w h (blocksIn (now (records .entry)) (now (coded .entry)) count (now (coefs .entry)) (now (lasts .entry))) (matrixIn (now (matrices .entry))) limit (now (golden .entry)) (now (previous .entry))) (now (previous .entry)) ⌝ }
     ensures { λ _. ⌜ now (dc .exit) ≡ dcOf format w h (blocksIn (now (records .entry)) (now (coded .entry)) count (now (coefs .entry)) (now (lasts .entry))) ⌝ }
@@ -282,7 +250,7 @@ pub fn make_frame(
     w: u64,
     h: u64,
 )
-    requires { ⌜ (w ≤ 65535) × (h ≤ 65535) × Lent format w h (now records) (now coded) count (now coefs) (now lasts) (now matrices) × ZerosBehind (now coded) count (now coefs) (now lasts) × (now dc ≡ replicate (blocksOf format w h) (pos 0)) × (limit ≤ 127)
+    requires { ⌜ (w ≤ largest) × (h ≤ largest) × Lent format w h (now records) (now coded) count (now coefs) (now lasts) (now matrices) × ZerosBehind (now coded) count (now coefs) (now lasts) × (now dc ≡ replicate (blocksOf format w h) (pos 0)) × (limit ≤ 127)
         × (length (now new) ≡ 64 * blocksOf format w h) × (length (now golden) ≡ 64 * blocksOf format w h) × (length (now previous) ≡ 64 * blocksOf format w h) ⌝ }
     ensures { λ _. ⌜ now (new .exit) ≡ firstWay format w h (pictureOf format w h (blocksIn (now (records .entry)) (now (coded .entry)) count (now (coefs .entry)) (now (lasts .entry))) (matrixIn (now (matrices .entry))) limit (now (golden .entry)) (now (previous .entry))) (now (previous .entry)) ⌝ }
     ensures { λ _. ⌜ (now (records .exit) ≡ replicate (length (now (records .entry))) 0) × (now (coded .exit) ≡ replicate (length (now (coded .entry))) 0) × (now (coefs .exit) ≡ replicate (length (now (coefs .entry))) (pos 0))

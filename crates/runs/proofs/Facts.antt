@@ -1,41 +1,22 @@
--- The ranks, runs and strings, step by step. Assumes nothing.
+-- Runs and strings, step by step. Assumes nothing.
 use Prim.Native.Nat.{ℕ, zero, suc, _+_, _-_, _≤_, _<_}
 use native.Mathlib.Omega.{arith}
-use native.Mathlib.Nat.{add-zero}
 use mathlib.Core.Path.{_≡_, refl, sym, ap, _∙_}
-use mathlib.Core.List.{List, [], _∷_, _++_, append-nil, append-assoc}
+use mathlib.Core.List.{List, [], _∷_, _++_}
 use mathlib.Core.Bool.{Bool, true, false}
 use lib.Dec.{eqb, leb}
-use lib.ListN.{length, getD, take, drop, set, replicate, length-append, length-replicate, take-append-drop, replicate-append-replicate, List·getD-append}
-use lib.Seq.{set-at, drop-cons, take-at, length-take-le, take-all}
+use lib.ListN.{length, getD, take, replicate, List·getD-append}
+use lib.Seq.{length-take-le, take-all}
 use borrow.Author.Tests.{le-leb, lt-leb, eq-eqb, ne-eqb}
-use Rattle.bitstream.specs.Reading.{Outcome, got, refused, Parse, bind, pure, pick, field, until}
+use Rattle.bitstream.specs.Reading.{got, refused, bind, pure, pick, field, until, unary}
 use Rattle.bitstream.proofs.Fields.{no-mix, field-lt}
 use Rattle.bitstream.proofs.Laws.{bind-got, whole-got, whole-refused, whole-cases}
-use Rattle.runs.specs.Runs.{rank, most, start, extra, runLength, run, Sent, nextBit, fresh, oneRun, complete, sent, bitString, asDone, StoredAs, Stored}
+use Rattle.runs.specs.Runs.{most, start, extra, runLength, run, Sent, nextBit, fresh, oneRun, complete, sent, bitString}
 use Rattle.runs.specs.declared.RunCode.{RunCode}
 use Rattle.runs.specs.declared.RunCode.the-variants.{Long, Short}
-use Rattle.runs.specs.declared.Done.{Done}
-use Rattle.runs.specs.declared.Done.the-variants.{At, Refused}
-use Rattle.runs.proofs.Table.{between}
-
--- ---- a list with count copies of v from `from` on
-abbrev pub filledTo : List ℕ → ℕ → ℕ → ℕ → List ℕ
-filledTo l from count v = take from l ++ replicate count v ++ drop (from + count) l
-
-pub filled-none : (l : List ℕ) (from v : ℕ) → l ≡ filledTo l from 0 v
-filled-none l from v = sym (rw (append-nil, add-zero) (take-append-drop from l))
-
-pub filled-more : (l : List ℕ) (from k v : ℕ) → from + k < length l → set (filledTo l from k v) (from + k) v ≡ filledTo l from (k + 1) v
-filled-more l from k v h =
-    let e : replicate (k + 1) v ≡ replicate k v ++ v ∷ [] = sym (replicate-append-replicate k 1 v) in
-    let d : from + (k + 1) ≡ suc (from + k) = omega arith in
-    rw (drop-cons l (from + k) 0 h)
-    (set-at (take from l ++ replicate k v) _ _ v (from + k) (simp (length-append, length-replicate, length-take-le from l (omega arith)) refl)
-    ∙ rw (e, d) (simp append-assoc))
-
-pub filled-front : (l : List ℕ) (from count v : ℕ) → from + count ≤ length l → take (from + count) (filledTo l from count v) ≡ take from l ++ replicate count v
-filled-front l from count v h = take-at (take from l ++ replicate count v) _ (from + count) (simp (length-append, length-replicate, length-take-le from l (omega arith)) refl)
+use Rattle.bitstream.proofs.Unary.{unary-most}
+use Rattle.buffer.proofs.Laws.{filledTo, filled-front}
+use Rattle.bitstream.proofs.Table.{between}
 
 -- ---- the bit behind a run
 pub fresh-yes : (r : ℕ) → r ≡ 4129 → 1 ≡ fresh r
@@ -43,39 +24,6 @@ fresh-yes r h = rw (eq-eqb r 4129 h)
 
 pub fresh-no : (r : ℕ) → (r ≡ 4129 → ⊥) → 0 ≡ fresh r
 fresh-no r h = rw (ne-eqb r 4129 h)
-
--- ---- a rank, one bit at a time
-module _ (p : List ℕ) (i n r : ℕ) where
-  pub rank-full : n ≤ r → rank (n - r) r p i ≡ got r i
-  unfolding rank
-  rank-full h = let z : n - r ≡ 0 = omega arith in rw z
-
-  pub rank-end : r < n → {k e : ℕ} → field 1 p i ≡ refused k e → rank (n - r) r p i ≡ refused k e
-  unfolding rank
-  rank-end l f = let z : n - r ≡ suc (n - (r + 1)) = omega arith in rw (z, f)
-
-  pub rank-stop : r < n → {b e : ℕ} → field 1 p i ≡ got b e → b ≡ 0 → rank (n - r) r p i ≡ got r e
-  unfolding rank
-  rank-stop l f h = let z : n - r ≡ suc (n - (r + 1)) = omega arith in rw (z, f, eq-eqb _ _ h)
-
-  rank-suc : (m : ℕ) {b e : ℕ} → field 1 p i ≡ got b e → (b ≡ 0 → ⊥) → rank (suc m) r p i ≡ rank m (r + 1) p e
-  unfolding rank
-  rank-suc m f h = rw (f, ne-eqb _ _ h)
-
-  pub rank-on : r < n → {b e : ℕ} → field 1 p i ≡ got b e → (b ≡ 0 → ⊥) → rank (n - r) r p i ≡ rank (n - (r + 1)) (r + 1) p e
-  rank-on l f h = let z : n - r ≡ suc (n - (r + 1)) = omega arith in ap (λ (m : ℕ). rank m r p i) z ∙ rank-suc (n - (r + 1)) f h
-
--- a rank is at most what it may be
-pub rank-most : (n r : ℕ) (p : List ℕ) (i v e : ℕ) → rank n r p i ≡ got v e → v ≤ r + n
-unfolding rank
-rank-most zero r p i v e h = let z : r ≡ v = cc in omega (arith, z)
-rank-most (suc n) r p i v e h =
-    let u = bind-got (field 1) (λ b. pick (eqb b 0) (pure r) (rank n (r + 1))) p i h in
-    go (eqb (u .0) 0) (u .1) (u .3) (λ j x. rank-most n (r + 1) p j v e x)
-  where
-    go : (b : Bool) (j : ℕ) → pick b (pure r) (rank n (r + 1)) p j ≡ got v e → ((j : ℕ) → rank n (r + 1) p j ≡ got v e → v ≤ r + 1 + n) → v ≤ r + suc n
-    go true j x f = let z : r ≡ v = cc in omega (arith, z)
-    go false j x f = omega (arith, f j x)
 
 -- ---- the next bit
 module _ (anew value : ℕ) (p : List ℕ) (i : ℕ) where
@@ -123,21 +71,21 @@ start-some Short r h = first (between 1 34 (1 ∷ 3 ∷ 5 ∷ 7 ∷ 11 ∷ 15 �
 length-some : (code : RunCode) (p : List ℕ) (i r e : ℕ) → runLength code p i ≡ got r e → 1 ≤ r
 unfolding runLength
 length-some code p i r e h =
-    let u = bind-got (rank (most code) 0) (λ r. bind (field (extra code r)) (λ x. pure (start code r + x))) p i h in
+    let u = bind-got (unary (most code) 0) (λ r. bind (field (extra code r)) (λ x. pure (start code r + x))) p i h in
     let v = bind-got (field (extra code (u .0))) (λ x. pure (start code (u .0) + x)) p (u .1) (u .3) in
     let z : start code (u .0) + v .0 ≡ r = cc in
-    omega (arith, z, start-some code (u .0) (omega (arith, rank-most (most code) 0 p i (u .0) (u .1) (u .2))))
+    omega (arith, z, start-some code (u .0) (omega (arith, unary-most (most code) 0 p i (u .0) (u .1) (u .2))))
 
 module _ (code : RunCode) (p : List ℕ) (i : ℕ) where
-  pub run-end : {k e : ℕ} → rank (most code) 0 p i ≡ refused k e → run code p i ≡ refused k i
+  pub run-end : {k e : ℕ} → unary (most code) 0 p i ≡ refused k e → run code p i ≡ refused k i
   unfolding run runLength
   run-end {k} {e} h = whole-refused (runLength code) p i {k = k} {e = e} (rw h)
 
-  pub run-cut : {r e k d : ℕ} → rank (most code) 0 p i ≡ got r e → field (extra code r) p e ≡ refused k d → run code p i ≡ refused k i
+  pub run-cut : {r e k d : ℕ} → unary (most code) 0 p i ≡ got r e → field (extra code r) p e ≡ refused k d → run code p i ≡ refused k i
   unfolding run runLength
   run-cut {r} {e} {k} {d} h f = whole-refused (runLength code) p i {k = k} {e = d} (rw (h, f))
 
-  pub run-got : {r e x d : ℕ} → rank (most code) 0 p i ≡ got r e → field (extra code r) p e ≡ got x d → run code p i ≡ got (start code r + x) d
+  pub run-got : {r e x d : ℕ} → unary (most code) 0 p i ≡ got r e → field (extra code r) p e ≡ got x d → run code p i ≡ got (start code r + x) d
   unfolding run runLength
   run-got h f = whole-got (runLength code) p i (rw (h, f))
 
@@ -234,14 +182,3 @@ module _ (code : RunCode) (p : List ℕ) (first n : ℕ) where
             omega (arith, g .1, run-some code p e r d h),
             rw z (g .2 ∙ until-got code n p place s short (g .0) fuelled (one-got code n p place s f h (rw so-long (omega arith)))),
           )
-
--- ---- what a return has to show
-pub on-refusal-as : {A : Type 0} (form : A → List ℕ) (out : List ℕ) (o : Outcome A) {k e : ℕ} → o ≡ refused k e → (Refused k e ≡ asDone o) × StoredAs form out o
-on-refusal-as form out o h = rw h (refl, tt)
-
-module _ (out : List ℕ) (o : Outcome (List ℕ)) where
-  pub on-refusal : {k e : ℕ} → o ≡ refused k e → (Refused k e ≡ asDone o) × Stored out o
-  on-refusal h = on-refusal-as (λ (l : List ℕ). l) out o h
-
-  pub on-string : {e : ℕ} → o ≡ got out e → (At e ≡ asDone o) × Stored out o
-  on-string h = rw h (refl, refl)

@@ -1,4 +1,4 @@
--- Ranks, runs and strings keep the reading algebra's laws. Assumes nothing.
+-- Runs and strings keep the reading algebra's laws. Assumes nothing.
 use Prim.Native.Nat.{ℕ, zero, suc, _+_, _*_, _≤_, _<_}
 use native.Mathlib.Omega.{arith}
 use mathlib.Core.Path.{_≡_, refl, sym, ap, _∙_}
@@ -7,22 +7,18 @@ use mathlib.Core.Bool.{true}
 use lib.Dec.{eqb, leb}
 use lib.ListN.{length}
 use Rattle.bitstream.specs.Lists.{among}
-use Rattle.bitstream.specs.Reading.{got, refused, field, pure}
+use Rattle.bitstream.specs.Reading.{pure, unary}
 use Rattle.bitstream.proofs.Laws.{Lawful, lawful, pure-lawful, here-lawful, guard-lawful, pick-lawful, bind-lawful, field-lawful, until-lawful, whole-lawful}
 use Rattle.bitstream.proofs.Inside.{Inside, inside, pure-inside, field-inside, pick-inside, bind-inside, whole-inside, until-inside, Refuses, refuses, pure-refuses, field-refuses, pick-refuses, bind-refuses, here-refuses, guard-refuses, whole-refuses, until-refuses}
 use Rattle.bitstream.proofs.Spends.{Spends, spends-more, pure-spends, field-spends, bind-spends, bind-spends-got, here-then, guard-then, pick-spends, until-spends, whole-spends}
 use Rattle.runs.specs.declared.RunCode.{RunCode}
-use Rattle.runs.specs.Runs.{rank, most, start, extra, runLength, run, Sent, nextBit, oneRun, complete, sent, bitString}
-use Rattle.runs.proofs.Facts.{rank-most, most-small, extra-small}
-
-pub rank-lawful : (n r : ℕ) → Lawful (rank n r)
-unfolding rank
-rank-lawful zero r = pure-lawful r
-rank-lawful (suc n) r = bind-lawful (field-lawful 1) (λ b. pick-lawful (eqb b 0) (pure-lawful r) (rank-lawful n (r + 1)))
+use Rattle.runs.specs.Runs.{most, extra, runLength, run, Sent, nextBit, oneRun, complete, sent, bitString}
+use Rattle.runs.proofs.Facts.{most-small, extra-small}
+use Rattle.bitstream.proofs.Unary.{unary-most, unary-lawful, unary-inside, unary-refuses, unary-spends}
 
 pub run-lawful : (code : RunCode) → Lawful (run code)
 unfolding run runLength
-run-lawful code = whole-lawful (search (lawful, rank-lawful) depth 10)
+run-lawful code = whole-lawful (search (lawful, unary-lawful) depth 10)
 
 nextBit-lawful : (anew value : ℕ) → Lawful (nextBit anew value)
 unfolding nextBit
@@ -39,14 +35,9 @@ unfolding bitString sent
 bitString-lawful code n = bind-lawful (until-lawful (complete n) (oneRun code n) 12 n _ (oneRun-lawful code n)) (λ s. pure-lawful _)
 
 -- ---- what is refused lies in the packet
-pub rank-inside : {d : ℕ} (n r : ℕ) → Inside d (rank n r)
-unfolding rank
-rank-inside zero r = pure-inside r
-rank-inside (suc n) r = bind-inside (field-inside 1) (λ b. pick-inside (eqb b 0) (pure-inside r) (rank-inside n (r + 1)))
-
 run-inside : {d : ℕ} (code : RunCode) → Inside d (run code)
 unfolding run runLength
-run-inside code = whole-inside (search (inside, rank-inside) depth 10)
+run-inside code = whole-inside (search (inside, unary-inside) depth 10)
 
 nextBit-inside : {d : ℕ} (anew value : ℕ) → Inside d (nextBit anew value)
 unfolding nextBit
@@ -62,14 +53,9 @@ bitString-inside code n = bind-inside (until-inside (complete n) (oneRun code n)
 
 -- ---- and is refused by 4 or 12
 module _ {ks : List ℕ} (four : among ks 4 ≡ true) where
-  pub rank-refuses : (n r : ℕ) → Refuses ks (rank n r)
-  unfolding rank
-  rank-refuses zero r = pure-refuses r
-  rank-refuses (suc n) r = bind-refuses (field-refuses 1 four) (λ b. pick-refuses (eqb b 0) (pure-refuses r) (rank-refuses n (r + 1)))
-
   run-refuses : (code : RunCode) → Refuses ks (run code)
   unfolding run runLength
-  run-refuses code = whole-refuses (search (refuses, rank-refuses, four) depth 10)
+  run-refuses code = whole-refuses (search (refuses, unary-refuses, four) depth 10)
 
   nextBit-refuses : (anew value : ℕ) → Refuses ks (nextBit anew value)
   unfolding nextBit
@@ -86,17 +72,12 @@ module _ {ks : List ℕ} (four : among ks 4 ≡ true) where
     unfolding bitString sent
     bitString-refuses code n = bind-refuses (until-refuses (complete n) (oneRun code n) 12 n _ twelve (oneRun-refuses code n)) (λ s. pure-refuses _)
 
--- ---- bits that are spent: a rank of at most n, a run of at most 18, and n runs with a bit each for a string of n bits
-pub rank-spends : (n r : ℕ) → Spends n (rank n r)
-unfolding rank
-rank-spends zero r = pure-spends r
-rank-spends (suc n) r = spends-more (omega arith) (bind-spends {b = n} (field-spends 1) (λ b. pick-spends (eqb b 0) (λ _. spends-more (omega arith) (pure-spends r)) (λ _. rank-spends n (r + 1))))
-
+-- ---- bits that are spent: a run of at most 18, and n runs with a bit each for a string of n bits
 run-spends : (code : RunCode) → Spends 18 (run code)
 unfolding run runLength
 run-spends code =
-    whole-spends (spends-more (omega (arith, most-small code)) (bind-spends-got {b = 12} (rank-spends (most code) 0) (λ r p i e h.
-    spends-more (omega (arith, extra-small code r (omega (arith, rank-most (most code) 0 p i r e h, most-small code)))) (bind-spends (field-spends (extra code r)) (λ x. pure-spends _)))))
+    whole-spends (spends-more (omega (arith, most-small code)) (bind-spends-got {b = 12} (unary-spends (most code) 0) (λ r p i e h.
+    spends-more (omega (arith, extra-small code r (omega (arith, unary-most (most code) 0 p i r e h, most-small code)))) (bind-spends (field-spends (extra code r)) (λ x. pure-spends _)))))
 
 nextBit-spends : (anew value : ℕ) → Spends 1 (nextBit anew value)
 unfolding nextBit

@@ -1,7 +1,5 @@
--- What other crates cite: Laws, Strings (what a string is), Facts, ListLaws, Table. Examples: worked examples. Assumes nothing.
-pub mod Table
+-- What other crates cite: Laws, Strings (what a string is). Facts has what the functions' proofs need, Examples worked examples. Assumes nothing.
 pub mod Facts
 pub mod Laws
-pub mod ListLaws
 pub mod Strings
 pub mod Examples

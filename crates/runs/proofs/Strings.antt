@@ -1,4 +1,4 @@
--- What a string that was read is: as long as was wanted, each of it 0 or 1; n runs are enough for n bits. And what the answer of `read_string` says. Assumes nothing.
+-- What a string that was read is: as long as was wanted, each of it 0 or 1; n runs are enough for n bits. Assumes nothing.
 use Prim.Native.Nat.{ℕ, zero, suc, _+_, _-_, _≤_, _<_}
 use native.Mathlib.Omega.{arith}
 use mathlib.Core.Path.{_≡_, refl, sym, ap, _∙_, subst}
@@ -7,45 +7,14 @@ use mathlib.Core.Bool.{Bool, true, false}
 use lib.Dec.{leb}
 use lib.ListN.{length, replicate, length-append, length-replicate}
 use borrow.Author.Tests.{leb-true, le-leb}
-use Rattle.bitstream.specs.Reading.{Outcome, got, refused, Parse, pure, bind, here, refuse, guard, pick, until}
+use Rattle.bitstream.specs.Reading.{got, pure, bind, here, guard, until}
 use Rattle.bitstream.proofs.Fields.{no-mix}
-use Rattle.bitstream.proofs.Laws.{bind-got, until-enough}
+use Rattle.bitstream.proofs.Laws.{bind-got, until-enough, until-keeps}
 use Rattle.runs.specs.declared.RunCode.{RunCode}
-use Rattle.runs.specs.declared.Done.{Done}
-use Rattle.runs.specs.declared.Done.the-variants.{At, Refused}
-use Rattle.runs.specs.Runs.{run, Sent, nextBit, fresh, oneRun, complete, sent, bitString, asDone, StoredAs, Stored}
-use Rattle.runs.specs.Lists.{none, AllBelow}
+use Rattle.runs.specs.Runs.{run, Sent, nextBit, fresh, oneRun, complete, sent, bitString}
+use Rattle.bitstream.specs.Lists.{AllBelow, none}
 use Rattle.runs.proofs.Facts.{bit-most, run-some}
-use Rattle.runs.proofs.ListLaws.{all-append, all-replicate}
-
--- ---- the answer of `read_string`, by its arm
-pub done-refused : {A : Type 0} (o : Outcome A) {r : Done} {k e : ℕ} → r ≡ asDone o → r ≡ Refused k e → o ≡ refused k e
-done-refused (got l d) s g = let z : _≡_ {A = ℕ} 0 1 = cc in absurd (omega arith)
-done-refused (refused j d) s g = cc
-
-pub done-at-as : {A : Type 0} (form : A → List ℕ) (o : Outcome A) (out : List ℕ) {r : Done} {e : ℕ} → r ≡ asDone o → StoredAs form out o → r ≡ At e → (a : A) × (o ≡ got a e) × (out ≡ form a)
-done-at-as form (got a d) out {r} {e} s t g = let z : At d ≡ At e = sym s ∙ g in (a, cc, t)
-done-at-as form (refused j d) out s t g = let z : _≡_ {A = ℕ} 0 1 = cc in absurd (omega arith)
-
-pub done-at : (o : Outcome (List ℕ)) (out : List ℕ) {r : Done} {e : ℕ} → r ≡ asDone o → Stored out o → r ≡ At e → o ≡ got out e
-done-at o out s t g = let u = done-at-as (λ (l : List ℕ). l) o out s t g in rw (u .2) (u .1)
-
--- ---- what every step keeps holds at the end, and so does the test
-until-keeps : {S : Type 0} (stop : S → Bool) (step : S → Parse S) (k : ℕ) (P : S → Type 0)
-    → ((s : S) (p : List ℕ) (i : ℕ) (t : S) (e : ℕ) → P s → step s p i ≡ got t e → P t)
-    → (n : ℕ) (s : S) → P s → (p : List ℕ) (i : ℕ) (t : S) (e : ℕ) → until stop step k n s p i ≡ got t e → P t × (stop t ≡ true)
-unfolding until
-until-keeps {S} stop step k P f zero s h p i t e g = go (stop s) refl g
-  where
-    go : (b : Bool) → stop s ≡ b → pick b (pure s) (bind here (refuse k)) p i ≡ got t e → P t × (stop t ≡ true)
-    go true q r = let z : s ≡ t = cc in (subst P z h, ap stop (sym z) ∙ q)
-    go false q r = no-mix (sym r)
-until-keeps {S} stop step k P f (suc n) s h p i t e g = go (stop s) refl g (λ u j x. until-keeps stop step k P f n u x p j t e)
-  where
-    go : (b : Bool) → stop s ≡ b → pick b (pure s) (bind (step s) (until stop step k n)) p i ≡ got t e
-        → ((u : S) (j : ℕ) → P u → until stop step k n u p j ≡ got t e → P t × (stop t ≡ true)) → P t × (stop t ≡ true)
-    go true q r _ = let z : s ≡ t = cc in (subst P z h, ap stop (sym z) ∙ q)
-    go false q r f′ = let u = bind-got (step s) (until stop step k n) p i r in f′ (u .0) (u .1) (f s p i (u .0) (u .1) h (u .2)) (u .3)
+use Rattle.bitstream.proofs.ListLaws.{all-replicate, all-append}
 
 record Sound (n : ℕ) (s : Sent) : Type 0 where
   most : length (s .done) ≤ n

@@ -1,22 +1,12 @@
 -- Strings of bits that are sent as runs.
-use Prim.Native.Nat.{ℕ, zero, suc, _+_, _-_}
-use mathlib.Core.Path.{_≡_}
+use Prim.Native.Nat.{ℕ, _+_, _-_}
 use mathlib.Core.List.{List, [], _∷_, _++_}
 use mathlib.Core.Bool.{Bool}
 use lib.Dec.{eqb, leb}
 use lib.ListN.{length, getD, replicate}
-use Rattle.bitstream.specs.Reading.{Outcome, got, refused, Parse, pure, bind, here, guard, pick, choose, field, whole, until, _>>=_, _>>_}
+use Rattle.bitstream.specs.Reading.{Parse, pure, bind, here, guard, pick, choose, field, unary, whole, until, _>>=_, _>>_}
 use Rattle.runs.specs.declared.RunCode.{RunCode}
 use Rattle.runs.specs.declared.RunCode.the-variants.{Long, Short}
-use Rattle.runs.specs.declared.Done.{Done}
-use Rattle.runs.specs.declared.Done.the-variants.{At, Refused}
-
--- "that many 1s and a 0": how many 1s come before a 0, where r of them were read and n more are the most
-unfoldable pub rank : ℕ → ℕ → Parse ℕ
-rank zero r = pure r
-rank (suc n) r = do
-  b ← field 1
-  pick (eqb b 0) (pure r) (rank n (r + 1))
 
 -- "Long runs: codes 0, 10, 110, 1110, 11110, 111110, 111111"; "Short runs: 0, 10, 110, 1110, 11110, 11111"
 unfoldable pub most : RunCode → ℕ
@@ -33,10 +23,10 @@ unfoldable pub extra : RunCode → ℕ → ℕ
 extra Long r = getD (0 ∷ 1 ∷ 1 ∷ 2 ∷ 3 ∷ 4 ∷ 12 ∷ []) r 0
 extra Short r = getD (1 ∷ 1 ∷ 1 ∷ 2 ∷ 2 ∷ 4 ∷ 0 ∷ []) r 0
 
--- a run's length: its prefix, and the extra bits that the prefix asks for
+-- a run's length: its prefix, "that many 1s and a 0", and the extra bits that the prefix asks for
 unfoldable pub runLength : RunCode → Parse ℕ
 runLength code = do
-  r ← rank (most code) 0
+  r ← unary (most code) 0
   x ← field (extra code r)
   pure (start code r + x)
 
@@ -78,17 +68,3 @@ unfoldable pub bitString : RunCode → ℕ → Parse (List ℕ)
 bitString code n = do
   s ← sent code n
   pure (s .done)
-
--- ---- what the code answers and leaves
-abbrev pub asDone : {A : Type 0} → Outcome A → Done
-asDone (got a e) = At e
-asDone (refused k e) = Refused k e
-
--- what stands in the slice after an outcome, for values that are kept in some form; after a refusal that is open
-abbrev pub StoredAs : {A : Type 0} → (A → List ℕ) → List ℕ → Outcome A → Type 0
-StoredAs form out (got a e) = out ≡ form a
-StoredAs form out (refused k e) = Unit {0}
-
--- the same for the list itself
-abbrev pub Stored : List ℕ → Outcome (List ℕ) → Type 0
-Stored out o = StoredAs (λ (l : List ℕ). l) out o

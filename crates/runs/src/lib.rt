@@ -1,22 +1,17 @@
 // Strings of bits that a frame packet sends as runs.
+use bitstream::End;
 use bitstream::Field;
 ghost use mathlib.Core.Path.{_≡_};
-ghost use mathlib.Core.List.{_++_};
-ghost use Prim.Native.Nat.{ℕ, _+_, _<_, _≤_, _^_};
-ghost use lib.ListN.{length, take, drop, replicate};
-ghost use Rattle.bitstream.specs.Answer.{asField};
-ghost use Rattle.runs.specs.Runs.{rank, most, start, extra, run, nextBit, fresh, bitString, asDone, Stored};
+ghost use Prim.Native.Nat.{ℕ, _<_, _≤_};
+ghost use lib.ListN.{length};
+ghost use Rattle.bitstream.specs.Bits.{longest};
+ghost use Rattle.bitstream.specs.Answer.{asField, asEnd, Stored};
+ghost use Rattle.runs.specs.Runs.{most, start, extra, run, nextBit, fresh, bitString};
 
 // The two codes of run lengths.
 pub enum RunCode {
     Long,
     Short,
-}
-
-// The place behind a string, or the number of the refusal and the place of the field at fault.
-pub enum Done {
-    At(usize),
-    Refused(u32, usize),
 }
 
 const LONG_START: [u32; 7] = [1, 2, 4, 6, 10, 18, 34];
@@ -69,50 +64,13 @@ fn bit_is_fresh(length: usize) -> u8
     0
 }
 
-// Sets `count` bytes from `from` on.
-pub fn fill(bytes: &mut [u8], from: usize, count: usize, value: u8)
-    requires { ⌜ from + count ≤ length (now bytes) ⌝ }
-    ensures { λ _. ⌜ now (bytes .exit) ≡ take from (now (bytes .entry)) ++ replicate count value ++ drop (from + count) (now (bytes .entry)) ⌝ }
-{
-    let mut k = 0;
-    while k < count {
-        bytes[from + k] = value;
-        k += 1;
-    }
-}
-
-// How many 1s come before a 0, at most `ones`.
-pub fn read_rank(packet: &[u8], at: usize, ones: u32) -> Field
-    requires { ⌜ length (now packet) ≤ 2 ^ 58 ⌝ }
-    ensures { λ r. ⌜ r ≡ asField (rank ones 0 (now (packet .entry)) at) ⌝ }
-{
-    let mut r: u32 = 0;
-    let mut place = at;
-    while r < ones {
-        let one = bitstream::read(packet, place, 1);
-        match one {
-            Field::Refused(k, e) => {
-                return Field::Refused(k, e);
-            }
-            Field::Got(b, next) => {
-                if b == 0 {
-                    return Field::Got(r, next);
-                }
-                place = next;
-                r += 1;
-            }
-        }
-    }
-    Field::Got(r, place)
-}
-
 // A run's length; whatever is wrong with it is reported at its prefix.
 fn read_run(packet: &[u8], at: usize, code: RunCode) -> Field
-    requires { ⌜ length (now packet) ≤ 2 ^ 58 ⌝ }
+    requires { ⌜ length (now packet) ≤ longest ⌝ }
     ensures { λ r. ⌜ r ≡ asField (run code (now (packet .entry)) at) ⌝ }
 {
     let ones = most_ones(code);
-    let prefix = read_rank(packet, at, ones);
+    let prefix = bitstream::read_unary(packet, at, ones);
     match prefix {
         Field::Refused(k, _) => Field::Refused(k, at),
         Field::Got(r, next) => {
@@ -129,7 +87,7 @@ fn read_run(packet: &[u8], at: usize, code: RunCode) -> Field
 
 // The bit of the next run.
 fn next_bit(packet: &[u8], at: usize, fresh: u8, value: u8) -> Field
-    requires { ⌜ length (now packet) ≤ 2 ^ 58 ⌝ }
+    requires { ⌜ length (now packet) ≤ longest ⌝ }
     ensures { λ r. ⌜ r ≡ asField (nextBit fresh value (now (packet .entry)) at) ⌝ }
 {
     if fresh == 1 {
@@ -139,9 +97,9 @@ fn next_bit(packet: &[u8], at: usize, fresh: u8, value: u8) -> Field
 }
 
 // A string as long as `out`, one bit to a byte.
-pub fn read_string(packet: &[u8], at: usize, code: RunCode, out: &mut [u8]) -> Done
-    requires { ⌜ length (now packet) ≤ 2 ^ 58 ⌝ }
-    ensures { λ r. ⌜ r ≡ asDone (bitString code (length (now (out .entry))) (now (packet .entry)) at) ⌝ }
+pub fn read_string(packet: &[u8], at: usize, code: RunCode, out: &mut [u8]) -> End
+    requires { ⌜ length (now packet) ≤ longest ⌝ }
+    ensures { λ r. ⌜ r ≡ asEnd (bitString code (length (now (out .entry))) (now (packet .entry)) at) ⌝ }
     ensures { λ r. ⌜ Stored (now (out .exit)) (bitString code (length (now (out .entry))) (now (packet .entry)) at) ⌝ }
 {
     let n = out.len();
@@ -153,20 +111,20 @@ pub fn read_string(packet: &[u8], at: usize, code: RunCode, out: &mut [u8]) -> D
         let bit = next_bit(packet, place, fresh, value);
         match bit {
             Field::Refused(k, e) => {
-                return Done::Refused(k, e);
+                return End::Refused(k, e);
             }
             Field::Got(b, first) => {
                 let one = read_run(packet, first, code);
                 match one {
                     Field::Refused(k, e) => {
-                        return Done::Refused(k, e);
+                        return End::Refused(k, e);
                     }
                     Field::Got(r, next) => {
                         let count = r as usize;
                         if n - filled < count {
-                            return Done::Refused(12, first);
+                            return End::Refused(12, first);
                         }
-                        fill(out, filled, count, b as u8);
+                        buffer::fill_bytes(out, filled, count, b as u8);
                         filled += count;
                         value = (1 - b) as u8;
                         fresh = bit_is_fresh(count);
@@ -176,5 +134,5 @@ pub fn read_string(packet: &[u8], at: usize, code: RunCode, out: &mut [u8]) -> D
             }
         }
     }
-    Done::At(place)
+    End::At(place)
 }

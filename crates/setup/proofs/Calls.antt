@@ -8,12 +8,11 @@ use lib.ListN.{length, replicate}
 use borrow.Author.Tests.{eq-eqb, ne-eqb}
 use Rattle.bitstream.specs.Bits.{bits}
 use Rattle.bitstream.specs.Reading.{got, refused}
-use Rattle.bitstream.specs.Answer.{readable}
+use Rattle.bitstream.specs.Answer.{readable, asEnd}
 use Rattle.bitstream.proofs.Spends.{readable-same}
-use Rattle.quantization.specs.Answer.{asPlace}
-use Rattle.quantization.specs.declared.Place.{Place}
-use Rattle.quantization.specs.declared.Place.the-variants as place
-use Rattle.quantization.proofs.Loops.{place-at, place-refused}
+use Rattle.bitstream.specs.declared.End.{End}
+use Rattle.bitstream.specs.declared.End.the-variants as end
+use Rattle.bitstream.proofs.Ends.{end-refused, end-at}
 use Rattle.table_memory.specs.Kept.{kept, clearFrom}
 use Rattle.table_memory.specs.Genuine.{Bytes, genuine}
 use Rattle.setup.specs.Header.{Setup, setupHeader}
@@ -24,15 +23,15 @@ use Rattle.setup.specs.declared.SetupAnswer.the-variants.{Accepted, Refu
 use Rattle.setup.proofs.Laws.{setup-lawful, setup-spends, exactly-so}
 
 -- ---- a packet of any length is read as its readable part
-module _ (p : List ℕ) {r : Place} (a : r ≡ asPlace (setupHeader (readable p) 0)) where
+module _ (p : List ℕ) {r : End} (a : r ≡ asEnd (setupHeader (readable p) 0)) where
   same : setupHeader (readable p) 0 ≡ setupHeader p 0
   same = readable-same setup-lawful setup-spends (omega arith) p
 
-  pub whole-read : {e : ℕ} → r ≡ place.At e → (s : Setup) × (setupHeader p 0 ≡ got s e)
-  whole-read q = let g = place-at (setupHeader (readable p) 0) a q in (g .0, sym same ∙ g .1)
+  pub whole-read : {e : ℕ} → r ≡ end.At e → (s : Setup) × (setupHeader p 0 ≡ got s e)
+  whole-read q = let g = end-at (setupHeader (readable p) 0) a q in (g .0, sym same ∙ g .1)
 
-  pub whole-refused : {k e : ℕ} → r ≡ place.Refused k e → setupHeader p 0 ≡ refused k e
-  whole-refused q = sym same ∙ place-refused (setupHeader (readable p) 0) a q
+  pub whole-refused : {k e : ℕ} → r ≡ end.Refused k e → setupHeader p 0 ≡ refused k e
+  whole-refused q = sym same ∙ end-refused (setupHeader (readable p) 0) a q
 
 pub header-end : (p : List ℕ) {s : Setup} {e : ℕ} → setupHeader p 0 ≡ got s e → e ≤ bits p
 header-end p h = setup-lawful .moves p 0 _ _ (omega arith) h .1

@@ -14,8 +14,8 @@ use Rattle.headers.specs.Judgement.{commonHeader}
 use Rattle.huffman.specs.Tree.{Tree, leaf, Proper, nodesOf, huffmanTree}
 use Rattle.huffman.proofs.Trees.{read-proper}
 use Rattle.quantization.specs.Layout.{laid}
-use Rattle.quantization.specs.Answer.{asPlace}
-use Rattle.quantization.specs.declared.Place.the-variants.{At, Refused}
+use Rattle.bitstream.specs.Answer.{asEnd}
+use Rattle.bitstream.specs.declared.End.the-variants.{Refused, At}
 use Rattle.quantization.specs.Parameters.{Quantization, quantization}
 use Rattle.quantization.specs.Sound as parameters
 use Rattle.quantization.proofs.Soundness.{read-holds, many-long}
@@ -155,11 +155,11 @@ pub held-8 : (t : List ℕ) {r : SetupRead} {k e : ℕ} → r ≡ asSetupRead (h
 unfolding heldSetup genuine
 held-8 t {r} {k} {e} a n = go (eqb (length t) tableBytes) (setupHeader t 0) (sym n ∙ ap (λ (x : SetupRead). x .place) a)
   where
-    ends : (b : Bool) (s : Setup) (d : ℕ) → Refused k e ≡ asPlace (choose b (got s d) (refused 8 0)) → choose b (got s d) (refused 8 0) ≡ refused 8 0
+    ends : (b : Bool) (s : Setup) (d : ℕ) → Refused k e ≡ asEnd (choose b (got s d) (refused 8 0)) → choose b (got s d) (refused 8 0) ≡ refused 8 0
     ends true s d h = let z : _≡_ {A = ℕ} 0 1 = cc in absurd (omega arith)
     ends false s d h = refl
 
-    go : (b : Bool) (o : Outcome Setup) → Refused k e ≡ asPlace (choose (b && endsClear t o) o (refused 8 0)) → choose (b && endsClear t o) o (refused 8 0) ≡ refused 8 0
+    go : (b : Bool) (o : Outcome Setup) → Refused k e ≡ asEnd (choose (b && endsClear t o) o (refused 8 0)) → choose (b && endsClear t o) o (refused 8 0) ≡ refused 8 0
     go false o h = refl
     go true (got s d) h = ends (clearFrom t d) s d h
     go true (refused j d) h = refl

@@ -8,26 +8,22 @@ use lib.Seq.{take-at}
 use borrow.Rule.Slice.PartMut.{midOf, putMid}
 use Rattle.bitstream.specs.Reading.{Outcome, got, refused, field, many, times}
 use Rattle.bitstream.proofs.Fields.{no-mix}
-use Rattle.headers.specs.Judgement.{commonHeader, asPassed}
-use Rattle.headers.specs.declared.Passed.{Passed}
-use Rattle.headers.specs.declared.Passed.the-variants.{To, Refused as NotPassed}
+use Rattle.headers.specs.Judgement.{commonHeader}
+use Rattle.bitstream.specs.Answer.{asEnd}
+use Rattle.bitstream.specs.declared.End.{End}
+use Rattle.bitstream.specs.declared.End.the-variants.{At, Refused}
 use Rattle.huffman.specs.Tree.{Tree, Proper, nodesOf, huffmanTree}
 use Rattle.huffman.specs.Answer.{nodesAfter}
-use Rattle.huffman.specs.Answer as huffman
-use Rattle.huffman.specs.declared.Place as huffman-place
-use Rattle.huffman.specs.declared.Place.the-variants.{Next, Refused as NoTree}
-use Rattle.huffman.proofs.Answers.{place-next, place-refused as tree-refused}
+use Rattle.huffman.proofs.Answers.{tree-refused, tree-next}
 use Rattle.huffman.proofs.Nodes.{nodes-length}
 use Rattle.huffman.proofs.Trees.{read-proper}
 use Rattle.quantization.specs.Parameters.{Quantization, quantization}
 use Rattle.quantization.specs.Layout.{padded, laid}
-use Rattle.quantization.specs.Answer.{asPlace, Filled, asParameters, loadedParameters}
+use Rattle.quantization.specs.Answer.{Filled, asParameters, loadedParameters}
 use Rattle.quantization.specs.Answer as parameters
-use Rattle.quantization.specs.declared.Place.{Place}
-use Rattle.quantization.specs.declared.Place.the-variants.{At, Refused}
 use Rattle.quantization.specs.declared.Parameters.{Parameters}
 use Rattle.quantization.specs.declared.Parameters.the-variants as parameters-are
-use Rattle.quantization.proofs.Loops.{times-start, times-got, times-refused, times-all}
+use Rattle.bitstream.proofs.Loops.{times-all, times-start, times-refused, times-got}
 use Rattle.quantization.proofs.Layouts.{laid-length, put-more}
 use Rattle.setup.specs.Header.{Setup, loopLimits, setupHeader}
 use Rattle.setup.specs.Answer.{TreesFilled}
@@ -39,8 +35,8 @@ module _ (p : List ℕ) (i : ℕ) where
   unfolding loopLimits
   limits-end f = rw f
 
-  pub limits-filled : {v e : ℕ} → field 3 p i ≡ got v e → (n : ℕ) → n ≡ 64 → (r : Place) (new : List ℕ)
-      → r ≡ asPlace (many n (field v) p e) → Filled (many n (field v) p e) new → (r ≡ asPlace (loopLimits p i)) × Filled (loopLimits p i) new
+  pub limits-filled : {v e : ℕ} → field 3 p i ≡ got v e → (n : ℕ) → n ≡ 64 → (r : End) (new : List ℕ)
+      → r ≡ asEnd (many n (field v) p e) → Filled (many n (field v) p e) new → (r ≡ asEnd (loopLimits p i)) × Filled (loopLimits p i) new
   unfolding loopLimits
   limits-filled f n z r new a s = rw (f, ← z) (a, s)
 
@@ -66,21 +62,21 @@ module _ (p : List ℕ) (at : ℕ) where
         ap (λ (x : List ℕ). length x) (g .held) ∙ length-append (laid nodesOf (g .done)) (replicate (5120 - length (g .done) * 64) 0)
         ∙ omega (arith, laid-length nodesOf (g .done), length-replicate {A = ℕ} (5120 - length (g .done) * 64) 0, g .long)
 
-    pub trees-done : 80 ≤ k → k ≤ 80 → (At place ≡ asPlace (many 80 huffmanTree p at)) × TreesFilled (many 80 huffmanTree p at) nodes
+    pub trees-done : 80 ≤ k → k ≤ 80 → (At place ≡ asEnd (many 80 huffmanTree p at)) × TreesFilled (many 80 huffmanTree p at) nodes
     trees-done h l =
         let y : 5120 - length (g .done) * 64 ≡ 0 = omega (arith, g .long) in
         let e : many 80 huffmanTree p at ≡ got (g .done) place = g .goes ∙ times-all huffmanTree p place 80 k (g .done) h in
         rw e (refl, g .held ∙ rw (y, append-nil))
 
-    module _ (h : k < 80) (w : ℕ) (z : w ≡ 64) (new : List ℕ) {r : huffman-place.Place} (a : r ≡ huffman.asPlace (huffmanTree p place)) (f : new ≡ nodesAfter (midOf (k * 64) w nodes) (huffmanTree p place)) where
-      pub trees-refused : {j d : ℕ} → r ≡ NoTree j d → (Refused j d ≡ asPlace (many 80 huffmanTree p at)) × TreesFilled (many 80 huffmanTree p at) (putMid (k * 64) w nodes new)
+    module _ (h : k < 80) (w : ℕ) (z : w ≡ 64) (new : List ℕ) {r : End} (a : r ≡ asEnd (huffmanTree p place)) (f : new ≡ nodesAfter (midOf (k * 64) w nodes) (huffmanTree p place)) where
+      pub trees-refused : {j d : ℕ} → r ≡ Refused j d → (Refused j d ≡ asEnd (many 80 huffmanTree p at)) × TreesFilled (many 80 huffmanTree p at) (putMid (k * 64) w nodes new)
       trees-refused q =
           let o = tree-refused (huffmanTree p place) (midOf (k * 64) w nodes) new a f q in
           rw (g .goes ∙ times-refused huffmanTree p place 80 k (g .done) h (o .0)) (refl, tt)
 
-      pub trees-more : {d : ℕ} → r ≡ Next d → Trees p at d (k + 1) (putMid (k * 64) w nodes new)
+      pub trees-more : {d : ℕ} → r ≡ At d → Trees p at d (k + 1) (putMid (k * 64) w nodes new)
       trees-more {d} q =
-          let o = place-next (huffmanTree p place) (midOf (k * 64) w nodes) new a f q in
+          let o = tree-next (huffmanTree p place) (midOf (k * 64) w nodes) new a f q in
           let l = g .long in
           let t : putMid (length (g .done) * 64) 64 nodes new ≡ laid nodesOf (g .done ++ o .0 ∷ []) ++ replicate (5120 - length (g .done ++ o .0 ∷ []) * 64) 0 =
           put-more nodesOf 5120 (g .done) nodes (g .held) (omega arith) (o .0) new (o .2 ∙ sym (proper-padded (read-proper p place (o .1)))) in
@@ -92,14 +88,6 @@ module _ (p : List ℕ) (at : ℕ) where
           }
 
 -- ---- the whole header
-pub passed-to : {A : Type 0} (o : Outcome A) {r : Passed} {e : ℕ} → r ≡ asPassed o → r ≡ To e → (a : A) × (o ≡ got a e)
-passed-to (got a d) s h = (a, cc)
-passed-to (refused k d) s h = let z : _≡_ {A = ℕ} 0 1 = cc in absurd (omega arith)
-
-pub passed-refused : {A : Type 0} (o : Outcome A) {r : Passed} {k e : ℕ} → r ≡ asPassed o → r ≡ NotPassed k e → o ≡ refused k e
-passed-refused (got a d) s h = let z : _≡_ {A = ℕ} 0 1 = cc in absurd (omega arith)
-passed-refused (refused j d) s h = cc
-
 pub parameters-read : (o : Outcome Quantization) {r : Parameters} {m e : ℕ} → r ≡ asParameters o → r ≡ parameters-are.Read m e → (q : Quantization) × (o ≡ got q e) × (q .matricesAt ≡ m)
 parameters-read (got q d) s h = (q, cc, cc)
 parameters-read (refused k d) s h = let z : _≡_ {A = ℕ} 0 1 = cc in absurd (omega arith)

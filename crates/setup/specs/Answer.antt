@@ -2,11 +2,11 @@
 use Prim.Native.Nat.{ℕ}
 use mathlib.Core.Path.{_≡_}
 use mathlib.Core.List.{List}
-use Rattle.bitstream.specs.Reading.{Outcome, got, refused}
+use Rattle.bitstream.specs.Reading.{Outcome}
+use Rattle.bitstream.specs.Answer.{IfGot}
 use Rattle.huffman.specs.Tree.{Tree, nodesOf}
 use Rattle.quantization.specs.Layout.{laid}
 
 -- the nodes of the trees, one after the other; after a refusal they may be anything
 abbrev pub TreesFilled : Outcome (List Tree) → List ℕ → Type 0
-TreesFilled (got ts e) nodes = nodes ≡ laid nodesOf ts
-TreesFilled (refused k e) nodes = Unit {0}
+TreesFilled o nodes = IfGot (λ ts. nodes ≡ laid nodesOf ts) o

@@ -6,7 +6,8 @@ use lib.ListN.{getD, replicate}
 use Rattle.bitstream.specs.Reading.{Outcome, got, refused}
 use Rattle.huffman.specs.Tree.{nodesOf}
 use Rattle.quantization.specs.Layout.{laid}
-use Rattle.quantization.specs.Answer.{asPlace, loadedParameters}
+use Rattle.quantization.specs.Answer.{loadedParameters}
+use Rattle.bitstream.specs.Answer.{asEnd}
 use Rattle.setup.specs.Header.{Setup, setupHeader}
 use Rattle.setup.specs.declared.LoadedSetup.{LoadedSetup}
 use Rattle.setup.specs.declared.SetupRead.{SetupRead}
@@ -44,4 +45,4 @@ setupOf (refused k e) = emptySetup
 
 -- what the reader of a setup answers
 abbrev pub asSetupRead : Outcome Setup → SetupRead
-asSetupRead o = record { place = asPlace o; setup = setupOf o }
+asSetupRead o = record { place = asEnd o; setup = setupOf o }

@@ -1,16 +1,16 @@
 // The setup header: read into a struct, kept in table memory, and read from there.
+use bitstream::End as Place;
 use bitstream::Field;
-use headers::Passed;
 use quantization::LoadedParameters;
 use quantization::Parameters;
-use quantization::Place;
 ghost use mathlib.Core.Path.{_≡_};
 ghost use mathlib.Core.List.{List};
 ghost use Prim.Native.Nat.{ℕ, _+_, _-_, _*_, _≤_, _<_, _^_};
 ghost use lib.ListN.{length, replicate};
 ghost use Rattle.bitstream.specs.Reading.{refused, many};
 ghost use Rattle.huffman.specs.Tree.{huffmanTree};
-ghost use Rattle.quantization.specs.Answer.{asPlace, Filled};
+ghost use Rattle.quantization.specs.Answer.{Filled};
+ghost use Rattle.bitstream.specs.Answer.{asEnd};
 ghost use Rattle.setup.specs.Header.{loopLimits, setupHeader};
 ghost use Rattle.setup.specs.Answer.{TreesFilled};
 ghost use Rattle.setup.specs.Loaded.{emptySetup, asSetupRead};
@@ -41,7 +41,7 @@ pub const TABLE_BYTES: usize = 28184;
 // The loop limits.
 fn read_limits(packet: &[u8], at: usize, limits: &mut [u16]) -> Place
     requires { ⌜ (length (now packet) ≤ 2 ^ 58) × (length (now limits) ≡ 64) ⌝ }
-    ensures { λ r. ⌜ r ≡ asPlace (loopLimits (now (packet .entry)) at) ⌝ }
+    ensures { λ r. ⌜ r ≡ asEnd (loopLimits (now (packet .entry)) at) ⌝ }
     ensures { λ r. ⌜ Filled (loopLimits (now (packet .entry)) at) (now (limits .exit)) ⌝ }
 {
     let first = bitstream::read(packet, at, 3);
@@ -57,7 +57,7 @@ fn read_limits(packet: &[u8], at: usize, limits: &mut [u16]) -> Place
 // The 80 Huffman trees, 64 nodes each.
 fn read_trees(packet: &[u8], at: usize, nodes: &mut [u8]) -> Place
     requires { ⌜ (length (now packet) ≤ 2 ^ 58) × (now nodes ≡ replicate 5120 0) ⌝ }
-    ensures { λ r. ⌜ r ≡ asPlace (many 80 huffmanTree (now (packet .entry)) at) ⌝ }
+    ensures { λ r. ⌜ r ≡ asEnd (many 80 huffmanTree (now (packet .entry)) at) ⌝ }
     ensures { λ r. ⌜ TreesFilled (many 80 huffmanTree (now (packet .entry)) at) (now (nodes .exit)) ⌝ }
 {
     let mut place = at;
@@ -67,10 +67,10 @@ fn read_trees(packet: &[u8], at: usize, nodes: &mut [u8]) -> Place
         let end = start + 64;
         let one = huffman::read_tree(packet, place, &mut nodes[start..end]);
         match one {
-            huffman::Place::Refused(number, fault) => {
+            Place::Refused(number, fault) => {
                 return Place::Refused(number, fault);
             }
-            huffman::Place::Next(next) => {
+            Place::At(next) => {
                 place = next;
             }
         }
@@ -118,10 +118,10 @@ fn load(packet: &[u8]) -> SetupRead
 {
     let head = headers::read_common_header(packet, 0, 0x82);
     let a = match head {
-        Passed::Refused(number, fault) => {
+        Place::Refused(number, fault) => {
             return not_read(number, fault);
         }
-        Passed::To(place) => place,
+        Place::At(place) => place,
     };
     let mut limits = [0u16; 64];
     let first = read_limits(packet, a, &mut limits);
@@ -197,7 +197,7 @@ pub fn setup(packet: &[u8], table: &mut [u8]) -> SetupAnswer
 // The header of a packet: what the packet says is not wanted any further.
 fn scan(packet: &[u8]) -> Place
     requires { ⌜ length (now packet) ≤ 2 ^ 58 ⌝ }
-    ensures { λ r. ⌜ r ≡ asPlace (setupHeader (now (packet .entry)) 0) ⌝ }
+    ensures { λ r. ⌜ r ≡ asEnd (setupHeader (now (packet .entry)) 0) ⌝ }
 {
     let read = load(packet);
     read.place

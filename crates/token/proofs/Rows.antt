@@ -6,20 +6,9 @@ use mathlib.Core.List.{List, [], _∷_}
 use mathlib.Core.Bool.{Bool, true, false}
 use lib.Dec.{T, leb, leb→le}
 use lib.ListN.{length, getD, List·getD-map}
+use Rattle.bitstream.proofs.Table.{both, both-left, both-right}
 use Rattle.token.specs.Token.{Row, counted, rows, rowOf}
 use Rattle.token.specs.Answer.{asExtra, packed, packedRows, Small}
-
-abbrev pub both : Bool → Bool → Bool
-both true b = b
-both false b = false
-
-both-left : (a b : Bool) → T (both a b) → T a
-both-left true b t = tt
-both-left false b t = t
-
-both-right : (a b : Bool) → T (both a b) → T b
-both-right true b t = t
-both-right false b t = absurd t
 
 -- the test passes at each row and at the row that stands for a number past the table
 abbrev pub every : (Row → Bool) → List Row → Bool

@@ -3,6 +3,7 @@ use bitstream::Field;
 ghost use mathlib.Core.Path.{_≡_};
 ghost use Prim.Native.Nat.{_+_, _<_, _≤_, _%_, _^_};
 ghost use lib.ListN.{length};
+ghost use Rattle.bitstream.specs.Bits.{longest};
 ghost use Rattle.bitstream.specs.Reading.{got, whole};
 ghost use Rattle.token.specs.Token.{extra, meaning, rowOf};
 ghost use Rattle.numeric.specs.Sign.{withSign};
@@ -123,7 +124,7 @@ fn meaning_of(t: usize, row: Extra, x: u32, next: usize) -> Token
 
 // The extra bits of the token t, read as one field, by the rows of all tokens.
 pub fn read_extra(packet: &[u8], at: usize, t: usize, rows: &[u32]) -> Token
-    requires { ⌜ (length (now packet) ≤ 2 ^ 58) × (t < 32) × (now rows ≡ packedRows) ⌝ }
+    requires { ⌜ (length (now packet) ≤ longest) × (t < 32) × (now rows ≡ packedRows) ⌝ }
     ensures { λ r. ⌜ r ≡ asToken (whole (extra t) (now (packet .entry)) at) ⌝ }
 {
     let row = extra_of(rows, t);

@@ -7,6 +7,7 @@ use lib.Dec.{eqb, ltb}
 use lib.ListN.{length, getD, take, drop, replicate}
 use lib.IntN.{ℤ, pos}
 use Rattle.bitstream.specs.Reading.{Outcome, got, refused, choose}
+use Rattle.bitstream.specs.Answer.{IfGot}
 use Rattle.huffman.specs.Tree.{Tree, Proper, leaf, nodesOf}
 use Rattle.huffman.specs.Code.{treeOf}
 use Rattle.huffman.specs.Lookup.{Lookup}
@@ -24,8 +25,7 @@ asVisit (refused k e) = visit.Refused k e
 
 -- what stands in the slices after an outcome; after a refusal that is open
 abbrev pub Kept : List ℕ → List ℕ → List ℤ → Outcome State → Type 0
-Kept ps ls cs (got s e) = (ps ≡ s .positions) × (ls ≡ s .lasts) × (cs ≡ s .coefs)
-Kept ps ls cs (refused k e) = Unit {0}
+Kept ps ls cs o = IfGot (λ s. (ps ≡ s .positions) × (ls ≡ s .lasts) × (cs ≡ s .coefs)) o
 
 -- the answer and the slices together
 abbrev pub Visited : Visit → List ℕ → List ℕ → List ℤ → Outcome State → Type 0
@@ -87,8 +87,7 @@ pub record Cleared (count : ℕ) (ps ls : List ℕ) (cs : List ℤ) (bs : List �
 
 -- what was read stands in front; after a refusal that is open
 abbrev pub Stored : ℕ → List ℕ → List ℤ → Outcome Tokens → Type 0
-Stored count ls cs (got t e) = (take count ls ≡ t .lasts) × (take (64 * count) cs ≡ t .coefs)
-Stored count ls cs (refused k e) = Unit {0}
+Stored count ls cs o = IfGot (λ t. (take count ls ≡ t .lasts) × (take (64 * count) cs ≡ t .coefs)) o
 
 -- what lies behind the elements of the coded blocks is as it was
 pub record Untouched (count : ℕ) (ps ls : List ℕ) (cs : List ℤ) (bs ps′ ls′ : List ℕ) (cs′ : List ℤ) (bs′ : List ℕ) : Type 0 where

@@ -6,6 +6,7 @@ ghost use mathlib.Core.Path.{_≡_};
 ghost use Prim.Native.Nat.{_+_, _-_, _*_, _<_, _≤_, _^_};
 ghost use mathlib.Core.List.{[], _∷_};
 ghost use lib.ListN.{length, getD, take, drop};
+ghost use Rattle.bitstream.specs.Bits.{longest};
 ghost use Rattle.token.specs.Answer.{asToken, packedRows};
 ghost use Rattle.huffman.specs.Code.{treeOf, Formed};
 ghost use Rattle.huffman.specs.Lookup.{Lookup};
@@ -32,7 +33,7 @@ pub enum Counted {
 
 // A token at the place `at`, by the table of nodes and its lookup. The rows say which extra bits it has.
 fn read_token(packet: &[u8], at: usize, nodes: &[u8], lookup: &[u16], rows: &[u32]) -> Token
-    requires { ⌜ (length (now packet) ≤ 2 ^ 58) × Formed (now nodes) × Lookup (now nodes) (now lookup) × (now rows ≡ packedRows) ⌝ }
+    requires { ⌜ (length (now packet) ≤ longest) × Formed (now nodes) × Lookup (now nodes) (now lookup) × (now rows ≡ packedRows) ⌝ }
     ensures { λ r. ⌜ r ≡ asToken (token (treeOf (now (nodes .entry))) (now (packet .entry)) at) ⌝ }
 {
     let code = huffman::read_code_by(packet, at, nodes, lookup);
@@ -94,7 +95,7 @@ fn read_for(
     lasts: &mut [u8],
     coefs: &mut [i16],
 ) -> Visit
-    requires { ⌜ (length (now packet) ≤ 2 ^ 58) × Formed (now nodes) × Lookup (now nodes) (now lookup) × (now rows ≡ packedRows) ⌝ }
+    requires { ⌜ (length (now packet) ≤ longest) × Formed (now nodes) × Lookup (now nodes) (now lookup) × (now rows ≡ packedRows) ⌝ }
     requires { ⌜ Shape (now positions) (now lasts) (now coefs) × (k < 64) × (b < length (now positions)) × (getD (now positions) b 0 ≡ k) × (tokens < 2 ^ 60) ⌝ }
     ensures { λ r. ⌜ Visited r (now (positions .exit)) (now (lasts .exit)) (now (coefs .exit)) (readFor (treeOf (now (nodes .entry))) k b (stateOf (now (positions .entry)) (now (lasts .entry)) (now (coefs .entry)) run tokens) (now (packet .entry)) at) ⌝ }
 {
@@ -144,7 +145,7 @@ fn visit_block(
     lasts: &mut [u8],
     coefs: &mut [i16],
 ) -> Visit
-    requires { ⌜ (length (now packet) ≤ 2 ^ 58) × Formed (now nodes) × Lookup (now nodes) (now lookup) × (now rows ≡ packedRows) ⌝ }
+    requires { ⌜ (length (now packet) ≤ longest) × Formed (now nodes) × Lookup (now nodes) (now lookup) × (now rows ≡ packedRows) ⌝ }
     requires { ⌜ Shape (now positions) (now lasts) (now coefs) × (k < 64) × (b < length (now positions)) × (tokens < 2 ^ 60) ⌝ }
     ensures { λ r. ⌜ Visited r (now (positions .exit)) (now (lasts .exit)) (now (coefs .exit)) (visit (treeOf (now (nodes .entry))) k b (stateOf (now (positions .entry)) (now (lasts .entry)) (now (coefs .entry)) run tokens) (now (packet .entry)) at) ⌝ }
 {
@@ -188,7 +189,7 @@ fn pass_blocks(
     lasts: &mut [u8],
     coefs: &mut [i16],
 ) -> Visit
-    requires { ⌜ (length (now packet) ≤ 2 ^ 58) × Formed (now nodes) × Lookup (now nodes) (now lookup) ⌝ }
+    requires { ⌜ (length (now packet) ≤ longest) × Formed (now nodes) × Lookup (now nodes) (now lookup) ⌝ }
     requires { ⌜ Shape (now positions) (now lasts) (now coefs) × (k < 64) × Below (length (now positions)) (now blocks) × (tokens + room (now positions) < 2 ^ 60) ⌝ }
     ensures { λ r. ⌜ Visited r (now (positions .exit)) (now (lasts .exit)) (now (coefs .exit)) (pass (treeOf (now (nodes .entry))) k (now (blocks .entry)) (stateOf (now (positions .entry)) (now (lasts .entry)) (now (coefs .entry)) run tokens) (now (packet .entry)) at) ⌝ }
 {
@@ -301,7 +302,7 @@ fn group_of(k: usize) -> usize
 
 // The table choices at the position k: new ones at 0 and 1, and else the present ones.
 fn read_choices(packet: &[u8], at: usize, k: usize, luma: usize, chroma: usize) -> Chosen
-    requires { ⌜ length (now packet) ≤ 2 ^ 58 ⌝ }
+    requires { ⌜ length (now packet) ≤ longest ⌝ }
     ensures { λ r. ⌜ r ≡ asChosen (choices k (choicesOf luma chroma) (now (packet .entry)) at) ⌝ }
 {
     if 2 <= k {
@@ -333,7 +334,7 @@ fn pass_table(
     lasts: &mut [u8],
     coefs: &mut [i16],
 ) -> Visit
-    requires { ⌜ (length (now packet) ≤ 2 ^ 58) × Tables (now nodes) × (j < 80) × Lookup (nodesAt (now nodes) j) (now lookup) ⌝ }
+    requires { ⌜ (length (now packet) ≤ longest) × Tables (now nodes) × (j < 80) × Lookup (nodesAt (now nodes) j) (now lookup) ⌝ }
     requires { ⌜ Shape (now positions) (now lasts) (now coefs) × (k < 64) × Below (length (now positions)) (now blocks) × (tokens + room (now positions) < 2 ^ 60) ⌝ }
     ensures { λ r. ⌜ Visited r (now (positions .exit)) (now (lasts .exit)) (now (coefs .exit)) (pass (treeAt (now (nodes .entry)) j) k (now (blocks .entry)) (stateOf (now (positions .entry)) (now (lasts .entry)) (now (coefs .entry)) run tokens) (now (packet .entry)) at) ⌝ }
 {
@@ -374,7 +375,7 @@ fn read_position(
     lasts: &mut [u8],
     coefs: &mut [i16],
 ) -> Visit
-    requires { ⌜ (length (now packet) ≤ 2 ^ 58) × Tables (now nodes) × (y < 16) × (c < 16) × (k < 64) × Ready (now nodes) k y (now «luma_lookup») × Ready (now nodes) k c (now «chroma_lookup») ⌝ }
+    requires { ⌜ (length (now packet) ≤ longest) × Tables (now nodes) × (y < 16) × (c < 16) × (k < 64) × Ready (now nodes) k y (now «luma_lookup») × Ready (now nodes) k c (now «chroma_lookup») ⌝ }
     requires { ⌜ (lumas ≤ luma) × (luma ≤ end) × (end ≤ length (now active)) × Below (length (now positions)) (take lumas (now active)) × Below (length (now positions)) (take (end - luma) (drop luma (now active))) ⌝ }
     requires { ⌜ Shape (now positions) (now lasts) (now coefs) × (tokens + room (now positions) < 2 ^ 60) ⌝ }
     ensures { λ r. ⌜ Visited r (now (positions .exit)) (now (lasts .exit)) (now (coefs .exit)) (atPosition (treesOf (now (nodes .entry))) (take lumas (now (active .entry))) (take (end - luma) (drop luma (now (active .entry)))) k (choicesOf y c) (stateOf (now (positions .entry)) (now (lasts .entry)) (now (coefs .entry)) run tokens) (now (packet .entry)) at) ⌝ }
@@ -447,7 +448,7 @@ fn read_positions(
     coefs: &mut [i16],
     active: &mut [u64],
 ) -> Visit
-    requires { ⌜ (length (now packet) ≤ 2 ^ 58) × Tables (now nodes) × (luma ≤ length (now positions)) ⌝ }
+    requires { ⌜ (length (now packet) ≤ longest) × Tables (now nodes) × (luma ≤ length (now positions)) ⌝ }
     requires { ⌜ Shape (now positions) (now lasts) (now coefs) × AllOpen (now positions) × (now active ≡ ranks 0 (length (now positions))) ⌝ }
     ensures { λ r. ⌜ Visited r (now (positions .exit)) (now (lasts .exit)) (now (coefs .exit)) (positionsFrom (treesOf (now (nodes .entry))) (ranks 0 luma) (ranks luma (length (now (positions .entry)) - luma)) 64 0 (choicesOf 0 0) (stateOf (now (positions .entry)) (now (lasts .entry)) (now (coefs .entry)) 0 0) (now (packet .entry)) at) ⌝ }
 {
@@ -520,7 +521,7 @@ pub fn read_tokens(
     coefs: &mut [i16],
     active: &mut [u64],
 ) -> Counted
-    requires { ⌜ (length (now packet) ≤ 2 ^ 58) × Tables (now nodes) × (luma ≤ count) ⌝ }
+    requires { ⌜ (length (now packet) ≤ longest) × Tables (now nodes) × (luma ≤ count) ⌝ }
     requires { ⌜ Cleared count (now positions) (now lasts) (now coefs) (now active) ⌝ }
     ensures { λ r. ⌜ r ≡ asCounted (readTokens (treesOf (now (nodes .entry))) luma count (now (packet .entry)) at) ⌝ }
     ensures { λ r. ⌜ Stored count (now (lasts .exit)) (now (coefs .exit)) (readTokens (treesOf (now (nodes .entry))) luma count (now (packet .entry)) at) ⌝ }

@@ -21,9 +21,9 @@ use Rattle.block_record.specs.Packed.{packed, unpacked}
 use Rattle.block_record.specs.Memory.{AllPacked, recordsOf}
 use Rattle.block_record.proofs.Laws.{unpacked-packed}
 use Rattle.block_record.proofs.MemoryLaws.{is-packed, packed-at, packed-set, packed-records, record-at, records-set}
-use Rattle.runs.specs.Runs.{asDone, StoredAs}
-use Rattle.runs.specs.declared.Done.{Done}
-use Rattle.runs.specs.declared.Done.the-variants as done
+use Rattle.bitstream.specs.Answer.{StoredAs, asEnd}
+use Rattle.bitstream.specs.declared.End.{End}
+use Rattle.bitstream.specs.declared.End.the-variants as end
 use Rattle.vectors.specs.declared.Motion.{Motion}
 use Rattle.vectors.specs.declared.Moved.{Moved}
 use Rattle.vectors.specs.declared.Step.{Step}
@@ -175,15 +175,15 @@ module _ (out : List ℕ) (o : Outcome State) where
   pub on-step : {s : State} {e : ℕ} → o ≡ got s e → recordsOf out ≡ s .records → AllPacked out → (Next (s .last) (s .last2) e ≡ asStep o) × StoredState out o
   on-step h k a = rw h (refl, (k, a))
 
-  pub on-each-refused : {k e : ℕ} → o ≡ refused k e → (done.Refused k e ≡ asDone o) × StoredState out o
+  pub on-each-refused : {k e : ℕ} → o ≡ refused k e → (end.Refused k e ≡ asEnd o) × StoredState out o
   on-each-refused h = rw h (refl, tt)
 
-  pub on-each : {v v2 : Vector} {e : ℕ} → o ≡ got (stateOf out v v2) e → AllPacked out → (done.At e ≡ asDone o) × StoredState out o
+  pub on-each : {v v2 : Vector} {e : ℕ} → o ≡ got (stateOf out v v2) e → AllPacked out → (end.At e ≡ asEnd o) × StoredState out o
   on-each h a = rw h (refl, (refl, a))
 
 -- the records of the last state are what is stored
-pub on-vectors : (out : List ℕ) (o : Outcome State) (v : Outcome (List BlockRecord)) {r : Done}
+pub on-vectors : (out : List ℕ) (o : Outcome State) (v : Outcome (List BlockRecord)) {r : End}
     → ((k e : ℕ) → o ≡ refused k e → v ≡ refused k e) → ((s : State) (e : ℕ) → o ≡ got s e → v ≡ got (s .records) e)
-    → r ≡ asDone o → StoredState out o → (r ≡ asDone v) × StoredAs (map packed) out v
+    → r ≡ asEnd o → StoredState out o → (r ≡ asEnd v) × StoredAs (map packed) out v
 on-vectors out (got s e) v f g a k = rw (g s e refl) (a, packed-records out (k .1) ∙ ap (map packed) (k .0))
 on-vectors out (refused j e) v f g a k = rw (f j e refl) (a, tt)

@@ -3,6 +3,7 @@ use Prim.Native.Nat.{ℕ}
 use mathlib.Core.Path.{_≡_}
 use mathlib.Core.List.{List}
 use Rattle.bitstream.specs.Reading.{Outcome, got, refused}
+use Rattle.bitstream.specs.Answer.{IfGot}
 use Rattle.block_record.specs.declared.Vector.{Vector}
 use Rattle.block_record.specs.Memory.{AllPacked, recordsOf}
 use Rattle.vectors.specs.declared.Step.{Step}
@@ -15,8 +16,7 @@ stateOf ns last last2 = record { records = recordsOf ns; last = last; last2 = la
 
 -- what stands in the slice after an outcome; after a refusal that is open
 abbrev pub StoredState : List ℕ → Outcome State → Type 0
-StoredState out (got s e) = (recordsOf out ≡ s .records) × AllPacked out
-StoredState out (refused k e) = Unit {0}
+StoredState out o = IfGot (λ s. (recordsOf out ≡ s .records) × AllPacked out) o
 
 -- what the code answers behind a macro block
 abbrev pub asStep : Outcome State → Step

@@ -1,22 +1,23 @@
 // The motion vectors of an inter frame, and the prediction of each of its blocks.
+use bitstream::End;
 use bitstream::Field;
 use block_record::Prediction;
 use block_record::Vector;
 use geometry::PixelFormat;
 use geometry::Place;
-use runs::Done;
 ghost use mathlib.Core.Path.{_≡_};
 ghost use mathlib.Core.List.{map};
 ghost use Prim.Native.Nat.{_+_, _-_, _<_, _≤_, _^_};
 ghost use lib.IntN.{_+ℤ_, natAbs};
 ghost use lib.ListN.{length};
+ghost use Rattle.bitstream.specs.Bits.{longest};
 ghost use Rattle.numeric.specs.Divide.{roundOver};
-ghost use Rattle.geometry.specs.Sizes.{macroBlocksOf, blocksOf, blocksEach};
+ghost use Rattle.geometry.specs.Sizes.{macroBlocksOf, blocksOf, blocksEach, largest};
 ghost use Rattle.geometry.specs.Order.{at};
 ghost use Rattle.block_record.specs.Record.{VectorInRange, PredictionInRange};
 ghost use Rattle.block_record.specs.Packed.{packed};
 ghost use Rattle.block_record.specs.Memory.{AllPacked, recordsOf};
-ghost use Rattle.runs.specs.Runs.{asDone, StoredAs};
+ghost use Rattle.bitstream.specs.Answer.{StoredAs, asEnd};
 ghost use Rattle.numeric.specs.Sign.{withSign};
 ghost use Rattle.vectors.specs.Component.{added, shortest, variable, byCode, component, vector, asComponent, asVector};
 ghost use Rattle.vectors.specs.Vectors.{numberIn, codedIn, predictedAt, predictedFrom, macroBlock, macroBlocks, vectors};
@@ -96,7 +97,7 @@ fn shortest_value(t: u32) -> i32
 
 // A field of `bits` bits added to `base`, and a sign bit.
 fn read_added(packet: &[u8], at: usize, bits: u32, base: u32) -> ComponentRead
-    requires { ⌜ (length (now packet) ≤ 2 ^ 58) × (bits ≤ 5) × (base + 2 ^ bits ≤ 32) ⌝ }
+    requires { ⌜ (length (now packet) ≤ longest) × (bits ≤ 5) × (base + 2 ^ bits ≤ 32) ⌝ }
     ensures { λ r. ⌜ r ≡ asComponent (added bits base (now (packet .entry)) at) ⌝ }
 {
     let more = bitstream::read(packet, at, bits as usize);
@@ -113,7 +114,7 @@ fn read_added(packet: &[u8], at: usize, bits: u32, base: u32) -> ComponentRead
 }
 
 fn read_variable(packet: &[u8], at: usize) -> ComponentRead
-    requires { ⌜ length (now packet) ≤ 2 ^ 58 ⌝ }
+    requires { ⌜ length (now packet) ≤ longest ⌝ }
     ensures { λ r. ⌜ r ≡ asComponent (variable (now (packet .entry)) at) ⌝ }
 {
     let prefix = bitstream::read(packet, at, 3);
@@ -130,7 +131,7 @@ fn read_variable(packet: &[u8], at: usize) -> ComponentRead
 }
 
 fn read_by_code(packet: &[u8], at: usize, code: u32) -> ComponentRead
-    requires { ⌜ length (now packet) ≤ 2 ^ 58 ⌝ }
+    requires { ⌜ length (now packet) ≤ longest ⌝ }
     ensures { λ r. ⌜ r ≡ asComponent (byCode code (now (packet .entry)) at) ⌝ }
 {
     if code == 0 {
@@ -141,7 +142,7 @@ fn read_by_code(packet: &[u8], at: usize, code: u32) -> ComponentRead
 
 // A component; one that is cut is reported at its first bit.
 fn read_component(packet: &[u8], at: usize, code: u32) -> ComponentRead
-    requires { ⌜ length (now packet) ≤ 2 ^ 58 ⌝ }
+    requires { ⌜ length (now packet) ≤ longest ⌝ }
     ensures { λ r. ⌜ r ≡ asComponent (component code (now (packet .entry)) at) ⌝ }
 {
     let one = read_by_code(packet, at, code);
@@ -152,7 +153,7 @@ fn read_component(packet: &[u8], at: usize, code: u32) -> ComponentRead
 }
 
 fn read_vector(packet: &[u8], at: usize, code: u32) -> VectorRead
-    requires { ⌜ length (now packet) ≤ 2 ^ 58 ⌝ }
+    requires { ⌜ length (now packet) ≤ longest ⌝ }
     ensures { λ r. ⌜ r ≡ asVector (vector code (now (packet .entry)) at) ⌝ }
 {
     let first = read_component(packet, at, code);
@@ -176,7 +177,7 @@ fn zero_vector() -> Vector
 
 // A vector for a coded block, else zero.
 fn read_if_coded(packet: &[u8], at: usize, code: u32, coded: bool) -> VectorRead
-    requires { ⌜ length (now packet) ≤ 2 ^ 58 ⌝ }
+    requires { ⌜ length (now packet) ≤ longest ⌝ }
     ensures { λ r. ⌜ r ≡ asVector (ifCoded code coded (now (packet .entry)) at) ⌝ }
 {
     if coded {
@@ -186,7 +187,7 @@ fn read_if_coded(packet: &[u8], at: usize, code: u32, coded: bool) -> VectorRead
 }
 
 fn read_row(packet: &[u8], at: usize, code: u32, left: bool, right: bool) -> RowRead
-    requires { ⌜ length (now packet) ≤ 2 ^ 58 ⌝ }
+    requires { ⌜ length (now packet) ≤ longest ⌝ }
     ensures { λ r. ⌜ r ≡ asRow (row code left right (now (packet .entry)) at) ⌝ }
 {
     let first = read_if_coded(packet, at, code, left);
@@ -235,7 +236,7 @@ fn still_motion(mode: u8, last: Vector, last2: Vector) -> Moved
 
 // MV: a vector, which is kept.
 fn read_moving(packet: &[u8], at: usize, code: u32, last: Vector) -> MovedRead
-    requires { ⌜ length (now packet) ≤ 2 ^ 58 ⌝ }
+    requires { ⌜ length (now packet) ≤ longest ⌝ }
     ensures { λ r. ⌜ r ≡ asMoved (moving code last (now (packet .entry)) at) ⌝ }
 {
     let one = read_vector(packet, at, code);
@@ -250,7 +251,7 @@ fn read_moving(packet: &[u8], at: usize, code: u32, last: Vector) -> MovedRead
 
 // GOLDEN_MV: a vector, which is not kept.
 fn read_moving_golden(packet: &[u8], at: usize, code: u32, last: Vector, last2: Vector) -> MovedRead
-    requires { ⌜ length (now packet) ≤ 2 ^ 58 ⌝ }
+    requires { ⌜ length (now packet) ≤ longest ⌝ }
     ensures { λ r. ⌜ r ≡ asMoved (movingGolden code last last2 (now (packet .entry)) at) ⌝ }
 {
     let one = read_vector(packet, at, code);
@@ -290,7 +291,7 @@ fn read_moving_four(
     d: bool,
     last: Vector,
 ) -> MovedRead
-    requires { ⌜ length (now packet) ≤ 2 ^ 58 ⌝ }
+    requires { ⌜ length (now packet) ≤ longest ⌝ }
     ensures { λ r. ⌜ r ≡ asMoved (movingFour code a b c d last (now (packet .entry)) at) ⌝ }
 {
     let first = read_row(packet, at, code, a, b);
@@ -329,7 +330,7 @@ fn read_motion(
     last: Vector,
     last2: Vector,
 ) -> MovedRead
-    requires { ⌜ length (now packet) ≤ 2 ^ 58 ⌝ }
+    requires { ⌜ length (now packet) ≤ longest ⌝ }
     ensures { λ r. ⌜ r ≡ asMoved (motion code mode a b c d last last2 (now (packet .entry)) at) ⌝ }
 {
     if mode == 2 {
@@ -443,7 +444,7 @@ fn prediction_of(format: PixelFormat, m: Motion, k: u64) -> Prediction
 
 // The raster number of block k of macro block q.
 fn number_in(format: PixelFormat, w: u64, h: u64, q: Place, k: u64) -> usize
-    requires { ⌜ (w ≤ 65535) × (h ≤ 65535) × (q .x < w) × (q .y < h) × (k < blocksEach format) ⌝ }
+    requires { ⌜ (w ≤ largest) × (h ≤ largest) × (q .x < w) × (q .y < h) × (k < blocksEach format) ⌝ }
     ensures { λ r. ⌜ (r ≡ numberIn format w h q k) × (r < blocksOf format w h) ⌝ }
 {
     let b = geometry::block_of_macro(format, q.x, q.y, k);
@@ -452,7 +453,7 @@ fn number_in(format: PixelFormat, w: u64, h: u64, q: Place, k: u64) -> usize
 
 // Whether it is coded.
 fn is_coded_in(format: PixelFormat, w: u64, h: u64, q: Place, records: &[u32], k: u64) -> bool
-    requires { ⌜ (w ≤ 65535) × (h ≤ 65535) × (q .x < w) × (q .y < h) × (k < blocksEach format) × (length (now records) ≡ blocksOf format w h) ⌝ }
+    requires { ⌜ (w ≤ largest) × (h ≤ largest) × (q .x < w) × (q .y < h) × (k < blocksEach format) × (length (now records) ≡ blocksOf format w h) ⌝ }
     ensures { λ r. ⌜ r ≡ codedIn format w h q (recordsOf (now (records .entry))) k ⌝ }
 {
     let i = number_in(format, w, h, q, k);
@@ -473,7 +474,7 @@ fn predict_block(records: &mut [u32], i: usize, p: Prediction)
 
 // Each coded block of macro block q gets its prediction.
 fn predict_blocks(format: PixelFormat, w: u64, h: u64, q: Place, m: Motion, records: &mut [u32])
-    requires { ⌜ (w ≤ 65535) × (h ≤ 65535) × (q .x < w) × (q .y < h) × (length (now records) ≡ blocksOf format w h) × MotionInRange m × AllPacked (now records) ⌝ }
+    requires { ⌜ (w ≤ largest) × (h ≤ largest) × (q .x < w) × (q .y < h) × (length (now records) ≡ blocksOf format w h) × MotionInRange m × AllPacked (now records) ⌝ }
     ensures { λ _. ⌜ (recordsOf (now (records .exit)) ≡ predictedFrom format w h q m (blocksEach format) 0 (recordsOf (now (records .entry)))) × AllPacked (now (records .exit)) ⌝ }
 {
     let n = geometry::blocks_each(format);
@@ -500,7 +501,7 @@ fn read_macro_block(
     last2: Vector,
     records: &mut [u32],
 ) -> Step
-    requires { ⌜ (length (now packet) ≤ 2 ^ 58) × (w ≤ 65535) × (h ≤ 65535) × (q .x < w) × (q .y < h) × (length (now records) ≡ blocksOf format w h) × VectorInRange last × VectorInRange last2 × AllPacked (now records) ⌝ }
+    requires { ⌜ (length (now packet) ≤ longest) × (w ≤ largest) × (h ≤ largest) × (q .x < w) × (q .y < h) × (length (now records) ≡ blocksOf format w h) × VectorInRange last × VectorInRange last2 × AllPacked (now records) ⌝ }
     ensures { λ r. ⌜ r ≡ asStep (macroBlock format w h code mode q (stateOf (now (records .entry)) last last2) (now (packet .entry)) at) ⌝ }
     ensures { λ r. ⌜ StoredState (now (records .exit)) (macroBlock format w h code mode q (stateOf (now (records .entry)) last last2) (now (packet .entry)) at) ⌝ }
 {
@@ -531,9 +532,9 @@ fn read_each(
     h: u64,
     modes: &[u8],
     records: &mut [u32],
-) -> Done
-    requires { ⌜ (length (now packet) ≤ 2 ^ 58) × (w ≤ 65535) × (h ≤ 65535) × (length (now modes) ≡ macroBlocksOf w h) × (length (now records) ≡ blocksOf format w h) × AllPacked (now records) ⌝ }
-    ensures { λ r. ⌜ r ≡ asDone (macroBlocks format w h code (now (modes .entry)) (length (now (modes .entry))) 0 (stateOf (now (records .entry)) zeroVector zeroVector) (now (packet .entry)) at) ⌝ }
+) -> End
+    requires { ⌜ (length (now packet) ≤ longest) × (w ≤ largest) × (h ≤ largest) × (length (now modes) ≡ macroBlocksOf w h) × (length (now records) ≡ blocksOf format w h) × AllPacked (now records) ⌝ }
+    ensures { λ r. ⌜ r ≡ asEnd (macroBlocks format w h code (now (modes .entry)) (length (now (modes .entry))) 0 (stateOf (now (records .entry)) zeroVector zeroVector) (now (packet .entry)) at) ⌝ }
     ensures { λ r. ⌜ StoredState (now (records .exit)) (macroBlocks format w h code (now (modes .entry)) (length (now (modes .entry))) 0 (stateOf (now (records .entry)) zeroVector zeroVector) (now (packet .entry)) at) ⌝ }
 {
     let n = modes.len();
@@ -559,7 +560,7 @@ fn read_each(
         );
         match step {
             Step::Refused(k, e) => {
-                return Done::Refused(k, e);
+                return End::Refused(k, e);
             }
             Step::Next(v, v2, next) => {
                 last = v;
@@ -569,7 +570,7 @@ fn read_each(
             }
         }
     }
-    Done::At(place)
+    End::At(place)
 }
 
 // The vectors of an inter frame of w by h macro blocks, whose modes are given in coded order. records holds the packed
@@ -582,14 +583,14 @@ pub fn read_vectors(
     h: u64,
     modes: &[u8],
     records: &mut [u32],
-) -> Done
-    requires { ⌜ (length (now packet) ≤ 2 ^ 58) × (w ≤ 65535) × (h ≤ 65535) × (length (now modes) ≡ macroBlocksOf w h) × (length (now records) ≡ blocksOf format w h) × AllPacked (now records) ⌝ }
-    ensures { λ r. ⌜ r ≡ asDone (vectors format w h (now (modes .entry)) (recordsOf (now (records .entry))) (now (packet .entry)) at) ⌝ }
+) -> End
+    requires { ⌜ (length (now packet) ≤ longest) × (w ≤ largest) × (h ≤ largest) × (length (now modes) ≡ macroBlocksOf w h) × (length (now records) ≡ blocksOf format w h) × AllPacked (now records) ⌝ }
+    ensures { λ r. ⌜ r ≡ asEnd (vectors format w h (now (modes .entry)) (recordsOf (now (records .entry))) (now (packet .entry)) at) ⌝ }
     ensures { λ r. ⌜ StoredAs (map packed) (now (records .exit)) (vectors format w h (now (modes .entry)) (recordsOf (now (records .entry))) (now (packet .entry)) at) ⌝ }
 {
     let bit = bitstream::read(packet, at, 1);
     match bit {
-        Field::Refused(k, e) => Done::Refused(k, e),
+        Field::Refused(k, e) => End::Refused(k, e),
         Field::Got(code, next) => read_each(packet, next, code, format, w, h, modes, records),
     }
 }

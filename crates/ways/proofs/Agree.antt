@@ -11,15 +11,16 @@ use Rattle.geometry.specs.declared.PixelFormat.{PixelFormat}
 use Rattle.geometry.specs.declared.Block.{Block}
 use Rattle.geometry.specs.Sizes.{blocksOf}
 use Rattle.geometry.specs.Frame.{InFrame}
-use Rattle.geometry.specs.Raster.{rasterNumber}
+use Rattle.geometry.specs.Raster.{rasterNumber, blockNo, raster}
 use Rattle.geometry.specs.Sample.{sampleAt}
 use Rattle.geometry.proofs.SampleLaws.{sample-below, sample-once, sample-hit}
 use Rattle.ways.specs.Loops.{_∈_, upTo, over, passing, when}
-use Rattle.ways.specs.Raster.{raster, blockNo, eachSample}
+use Rattle.ways.specs.Raster.{eachSample}
 use Rattle.ways.specs.Ways.{Picture, made, filterAll, firstWay, secondWay, writeBlock, edges, onlyCoded}
 use Rattle.ways.proofs.Members.{in-passing, of-passing, in-map, of-map}
 use Rattle.ways.proofs.Steps.{Stays, Puts, Long, set-stays, set-puts, set-long, upTo-stays, upTo-puts, upTo-long, over-stays, over-puts, over-long, kept}
-use Rattle.ways.proofs.Where.{Within, each-sample-at, samples-length, raster-inside, inside-raster, block-at-number, number-of-block}
+use Rattle.ways.proofs.Where.{Within, each-sample-at, samples-length, raster-inside, inside-raster}
+use Rattle.geometry.proofs.RasterLaws.{number-of-block, block-at-number}
 
 -- ---- a loop over all that does nothing at some is a loop over the others
 pub over-passing : {A B : Type 0} (test : B → Bool) (f : B → A → A) (bs : List B) (a : A) → over bs (λ b. when (test b) (f b)) a ≡ over (passing test bs) f a

@@ -8,10 +8,10 @@ use lib.Dec.{eqb}
 use Rattle.geometry.specs.declared.PixelFormat.the-variants.{Chroma420}
 use Rattle.geometry.specs.Sizes.{total, blocksBefore}
 use Rattle.geometry.specs.Order.{inTurn}
-use Rattle.geometry.specs.Raster.{rasterNumber}
+use Rattle.geometry.specs.Raster.{rasterNumber, raster, grid}
 use Rattle.geometry.specs.Sample.{sampleAt, sampleIn}
 use Rattle.ways.specs.Loops.{upTo, over, passing}
-use Rattle.ways.specs.Raster.{grid, raster, eachSample}
+use Rattle.ways.specs.Raster.{eachSample}
 use Rattle.ways.specs.Ways.{Picture, firstWay, secondWay, filterAll, made, writeBlock, onlyCoded, acrossEdge, edge, edgesAt, openRight, openAbove, edges}
 
 -- luma blocks 1, 2, 4 and 7, one of Cb's, one of Cr's

@@ -11,7 +11,8 @@ use Rattle.geometry.specs.Sizes.{across, up}
 use Rattle.geometry.specs.Frame.{block}
 use Rattle.geometry.specs.Sample.{sampleAt}
 use Rattle.ways.specs.Loops.{upTo, over, passing, when}
-use Rattle.ways.specs.Raster.{raster, eachSample}
+use Rattle.ways.specs.Raster.{eachSample}
+use Rattle.geometry.specs.Raster.{raster}
 
 -- What a packet asks for: which blocks are coded; the sample in column c and row r of a coded block before the loop filter, "predicted from golden and previous
 -- themselves"; and what the loop filter makes of p1 and p2, given p0, p1, p2 and p3.

@@ -4,9 +4,8 @@ use native.Mathlib.Omega.{arith}
 use mathlib.Core.Path.{_≡_, refl, sym, _∙_, subst}
 use mathlib.Core.List.{map}
 use lib.ListN.{length}
-use Rattle.runs.specs.Lists.{AllBelow}
-use Rattle.runs.proofs.Facts.{on-refusal-as}
-use Rattle.runs.proofs.Strings.{done-refused}
+use Rattle.bitstream.specs.Lists.{AllBelow}
+use Rattle.bitstream.proofs.Ends.{on-refused, end-refused}
 use Rattle.block_record.specs.Packed.{packed}
 use Rattle.block_record.specs.Memory.{AllPacked, recordsOf}
 use Rattle.block_qi.specs.BlockQi.{oneStep, steps, blockQi}
@@ -57,8 +56,8 @@ returns c =
     let p = c .before .before .before .before .before .before .before .before .before .before .before .before .before .before .before .before .pre in
     let l = c .before .before .before .before .before .before .before .before .before .before .before .loop in
     let rs = recordsOf (l .records) in
-    on-refusal-as (map packed) _ (blockQi (a .qis) (a .coded .now) (recordsOf (a .records .now)) (a .packet .now) (a .at))
-    (l .inv .4 ∙ steps-refused (l .q) (a .coded .now) rs (a .packet .now) (l .place) (a .qis) (c .before .before .before .before .before .before .before .before .before .before .loop-test .taken) (done-refused (oneStep (l .q) (a .coded .now) rs (a .packet .now) (l .place)) (c .before .before .before .before .before .before .before .read-step .ensures .0) (c .before .done .given .1)))
+    on-refused (λ rs. c .before .before .before .before .before .before .before .read-step .last .1 .1 .1 .1 .1 .0 ≡ map packed rs) (blockQi (a .qis) (a .coded .now) (recordsOf (a .records .now)) (a .packet .now) (a .at))
+    (l .inv .4 ∙ steps-refused (l .q) (a .coded .now) rs (a .packet .now) (l .place) (a .qis) (c .before .before .before .before .before .before .before .before .before .before .loop-test .taken) (end-refused (oneStep (l .q) (a .coded .now) rs (a .packet .now) (l .place)) (c .before .before .before .before .before .before .before .read-step .ensures .0) (c .before .done .given .1)))
 
 enum-known-done-2 : tie.Need-enum-known-done-2 Inv-loop μ-loop
 enum-known-done-2 c = search needs

@@ -7,10 +7,11 @@ use lib.ListN.{length, take, drop}
 use lib.Seq.{take-at, length-take-le}
 use Rattle.bitstream.specs.Reading.{got}
 use Rattle.runs.specs.Runs.{bitString}
-use Rattle.runs.specs.Lists.{AllBelow}
+use Rattle.bitstream.specs.Lists.{AllBelow}
 use Rattle.runs.specs.declared.RunCode.the-variants.{Long}
-use Rattle.runs.proofs.ListLaws.{front-length}
-use Rattle.runs.proofs.Strings.{done-at, done-refused, string-bits}
+use Rattle.bitstream.proofs.ListLaws.{front-length}
+use Rattle.runs.proofs.Strings.{string-bits}
+use Rattle.bitstream.proofs.Ends.{stored-at, end-refused}
 use Rattle.block_record.specs.Memory.{recordsOf}
 use Rattle.block_qi.specs.BlockQi.{atStep, raised, oneStep}
 use Rattle.block_qi.proofs.Steps.{step-refused, step-got, on-refused, on-records}
@@ -47,7 +48,7 @@ module _ (c : tie.After-known-told2) where
   string-got =
       let a = c .before .before .before .before .before .before .before .before .before .before .before .before .before .args in
       ap (λ (k : ℕ). bitString Long k (a .packet .now) (a .at)) (sym (long (c .before .before .before .before .before .before .before) ∙ count (c .before .before .before .before .before .before .before)))
-      ∙ done-at (bitString Long (length (take (c .before .before .before .before .before .before .before .count-at .result) (a .bits .now))) (a .packet .now) (a .at)) string (c .before .before .before .before .before .read-string .ensures .0) (c .before .before .before .before .before .read-string .ensures .1) (c .before .string2 .given .1)
+      ∙ stored-at (bitString Long (length (take (c .before .before .before .before .before .before .before .count-at .result) (a .bits .now))) (a .packet .now) (a .at)) string (c .before .before .before .before .before .read-string .ensures .0) (c .before .before .before .before .before .read-string .ensures .1) (c .before .string2 .given .1)
 
 count-at-requires : tie.Need-count-at-requires
 count-at-requires c κs = search needs
@@ -97,8 +98,8 @@ returns : tie.Need-returns
 returns c =
     let a = c .before .before .before .before .before .before .before .before .before .before .before .before .before .args in
     let v = c .before .before .before .before .before .before .before in
-    on-refused _ (oneStep (a .q) (a .coded .now) (recordsOf (a .records .now)) (a .packet .now) (a .at))
-    (step-refused (a .q) (a .coded .now) (recordsOf (a .records .now)) (a .packet .now) (a .at) (ap (λ (k : ℕ). bitString Long k (a .packet .now) (a .at)) (sym (long v ∙ count v)) ∙ done-refused (bitString Long (length (take (v .count-at .result) (a .bits .now))) (a .packet .now) (a .at)) (c .before .before .before .before .before .read-string .ensures .0) (c .before .string .given .1)))
+    on-refused (a .records .now) (oneStep (a .q) (a .coded .now) (recordsOf (a .records .now)) (a .packet .now) (a .at))
+    (step-refused (a .q) (a .coded .now) (recordsOf (a .records .now)) (a .packet .now) (a .at) (ap (λ (k : ℕ). bitString Long k (a .packet .now) (a .at)) (sym (long v ∙ count v)) ∙ end-refused (bitString Long (length (take (v .count-at .result) (a .bits .now))) (a .packet .now) (a .at)) (c .before .before .before .before .before .read-string .ensures .0) (c .before .string .given .1)))
 
 same-length-3 : tie.Need-same-length-3
 same-length-3 c = search needs

@@ -5,14 +5,14 @@ use borrow.Author.Needs.{needs}
 use Rattle.coded_flags.proofs.flag_all.Statement.{statement}
 use Rattle.coded_flags.proofs.flag_all.Tie as tie
 
-fill-requires : tie.Need-fill-requires
-fill-requires c κs = search needs
+fill-bytes-requires : tie.Need-fill-bytes-requires
+fill-bytes-requires c κs = search needs
 
 same-length : tie.Need-same-length
 same-length c = search needs
 
 returns : tie.Need-returns
-returns c = c .before .before .fill .ensures ∙ all-filled (c .before .before .before .before .before .args .flags .now) 1
+returns c = c .before .before .fill-bytes .ensures ∙ all-filled (c .before .before .before .before .before .args .flags .now) 1
 
 pub flag-all-spec : {M : Type 1} → statement M
-flag-all-spec = tie.close (tie.spec fill-requires same-length returns)
+flag-all-spec = tie.close (tie.spec fill-bytes-requires same-length returns)

@@ -20,11 +20,11 @@ returns c =
     flags-partly (a .partly) (a .first) (a .count) (a .flags .now) (a .full .now) (a .bits .now) (c .before .before .copy .last .0) (a .taken)
     (c .before .before .before .before .if1 .taken) (c .before .before .copy .ensures)
 
-shared-slice-read-fill : tie.Need-shared-slice-read-fill
-shared-slice-read-fill c = c .before .before .before .before .before .before .pre .2 (c .before .before .if1 .left)
+shared-slice-read-fill-bytes : tie.Need-shared-slice-read-fill-bytes
+shared-slice-read-fill-bytes c = c .before .before .before .before .before .before .pre .2 (c .before .before .if1 .left)
 
-fill-requires : tie.Need-fill-requires
-fill-requires c κs = search needs
+fill-bytes-requires : tie.Need-fill-bytes-requires
+fill-bytes-requires c κs = search needs
 
 add-t20 : tie.Need-add-t20
 add-t20 c = omega (arith, c .before .before .before .before .before .before .before .before .before .pre .2 (c .before .before .before .before .before .if1 .left))
@@ -35,8 +35,8 @@ same-length-2 c = search needs
 returns-2 : tie.Need-returns-2
 returns-2 c =
     let a = c .before .before .before .before .before .before .before .before .before .args in
-    flags-other (a .partly) (a .first) (a .count) (a .flags .now) (a .full .now) (a .bits .now) (c .before .before .fill .last .0) (a .taken)
-    (c .before .before .before .before .before .if1 .left) (c .before .before .fill .ensures)
+    flags-other (a .partly) (a .first) (a .count) (a .flags .now) (a .full .now) (a .bits .now) (c .before .before .fill-bytes .last .0) (a .taken)
+    (c .before .before .before .before .before .if1 .left) (c .before .before .fill-bytes .ensures)
 
 pub flag-blocks-spec : {M : Type 1} → statement M
 flag-blocks-spec =
@@ -46,8 +46,8 @@ flag-blocks-spec =
     add-t14
     same-length
     returns
-    shared-slice-read-fill
-    fill-requires
+    shared-slice-read-fill-bytes
+    fill-bytes-requires
     add-t20
     same-length-2
     returns-2)

@@ -1,12 +1,12 @@
 -- `coded_flags::list_block` meets its contract. Assumes nothing.
 use Prim.Native.Nat.{ℕ}
-use mathlib.Core.Path.{_≡_, sym, ap, _∙_, subst}
+use mathlib.Core.Path.{_≡_, sym, ap, ap₂, _∙_, subst}
 use lib.ListN.{getD, set}
 use Rattle.geometry.specs.Frame.{InFrame}
 use Rattle.geometry.proofs.FrameLaws.{frame-back}
 use Rattle.geometry.specs.Raster.{rasterNumber}
 use Rattle.coded_flags.specs.Coded.{order}
-use Rattle.runs.proofs.ListLaws.{if-equal, if-other}
+use Rattle.bitstream.proofs.ListLaws.{if-other, if-equal}
 use Rattle.coded_flags.proofs.Listing.{order-at}
 use borrow.Author.Needs.{needs}
 use Rattle.coded_flags.proofs.list_block.Statement.{statement}
@@ -28,6 +28,9 @@ raster-number-requires c κs =
     let a = c .before .before .before .before .args in
     let p = c .before .before .before .before .pre in
     (p .0, p .1, subst (InFrame (a .format) (a .w) (a .h)) (sym (c .block-at .ensures)) (frame-back (a .format) (a .w) (a .h) (a .i) (p .2) .0))
+
+now-coded-requires : tie.Need-now-coded-requires
+now-coded-requires c κs = search needs
 
 mul-records : tie.Need-mul-records
 mul-records c = search needs
@@ -52,11 +55,11 @@ same-length-2 c = search needs
 
 returns-2 : tie.Need-returns-2
 returns-2 c =
-    let a = c .before .before .before .before .before .args in
-    let h = c .before .before .if1 .left in
-    let e = number c in (
+    let a = c .before .before .before .before .before .before .args in
+    let h = c .before .before .before .if1 .left in
+    let e = number (c .before) in (
       if-equal (a .flag) 1 _ _ h,
-      (ap (λ (n : ℕ). set (a .records .now) n 1) e ∙ if-equal (a .flag) 1 _ _ h, ap (λ (n : ℕ). set (a .coded .now) (a .count) n) e ∙ if-equal (a .flag) 1 _ _ h),
+      (ap₂ (set (a .records .now)) e (c .now-coded .ensures) ∙ if-equal (a .flag) 1 _ _ h, ap (λ (n : ℕ). set (a .coded .now) (a .count) n) e ∙ if-equal (a .flag) 1 _ _ h),
     )
 
 pub list-block-spec : {M : Type 1} → statement M
@@ -66,6 +69,7 @@ list-block-spec =
     returns
     block-at-requires
     raster-number-requires
+    now-coded-requires
     mul-records
     slice-write-records
     mul-coded

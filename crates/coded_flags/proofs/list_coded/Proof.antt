@@ -4,6 +4,8 @@ use native.Mathlib.Omega.{arith}
 use mathlib.Core.Path.{_≡_, refl, sym, ap, _∙_}
 use lib.ListN.{length, take, length-replicate}
 use Rattle.geometry.specs.Sizes.{blocksOf}
+use Rattle.block_record.specs.Record.{nowCoded}
+use Rattle.block_record.specs.Packed.{packed}
 use Rattle.coded_flags.specs.Coded.{order, codedLuma, codedBlocks, setAt}
 use Rattle.coded_flags.specs.Flags.{ones}
 use Rattle.coded_flags.proofs.Listing.{order-length, Listing, listing-start, listing-by, listing-count, listing-numbers, listing-marks, records-packed, listed-by, luma-blocks, luma-part}
@@ -90,7 +92,7 @@ returns c =
     let m : l .count ≤ length (l .coded) = omega (arith, l .inv .1, l .inv .2, l .inv .3 .fewer, p .4, p .2) in (
       listed-by (a .format) (a .w) (a .h) (a .flags .now) (l .count) (c .count-ones .result) (listing-count (order (a .format) (a .w) (a .h)) (a .flags .now) (a .records .now) (a .coded .now) (l .records) (l .coded) (l .count) (l .i) (l .inv .3) r m) (c .count-ones .ensures .0 ∙ ap (λ (k : ℕ). ones (take k (a .flags .now))) (luma-blocks (a .format) (a .w) (a .h) (q .result) (q .ensures))),
       (
-        listing-marks (order (a .format) (a .w) (a .h)) (a .flags .now) (a .records .now) (a .coded .now) (l .records) (l .coded) (l .count) (l .i) (l .inv .3) r m ∙ ap (setAt 1 (codedBlocks (a .format) (a .w) (a .h) (a .flags .now))) (p .3) ∙ sym (records-packed (a .format) (a .w) (a .h) (a .flags .now)),
+        listing-marks (order (a .format) (a .w) (a .h)) (a .flags .now) (a .records .now) (a .coded .now) (l .records) (l .coded) (l .count) (l .i) (l .inv .3) r m ∙ ap (setAt (packed nowCoded) (codedBlocks (a .format) (a .w) (a .h) (a .flags .now))) (p .3) ∙ sym (records-packed (a .format) (a .w) (a .h) (a .flags .now)),
         listing-numbers (order (a .format) (a .w) (a .h)) (a .flags .now) (a .records .now) (a .coded .now) (l .records) (l .coded) (l .count) (l .i) (l .inv .3) r m,
       ),
     )

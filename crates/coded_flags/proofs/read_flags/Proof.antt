@@ -8,12 +8,11 @@ use lib.Seq.{take-at, length-take-le}
 use Rattle.bitstream.specs.Reading.{got}
 use Rattle.runs.specs.Runs.{bitString}
 use Rattle.runs.specs.declared.RunCode.the-variants.{Short}
-use Rattle.runs.proofs.Strings.{done-at, done-refused}
-use Rattle.runs.proofs.Facts.{on-refusal, on-string}
+use Rattle.bitstream.proofs.Ends.{stored-at, end-refused, on-list, on-refusal}
 use Rattle.geometry.specs.Sizes.{superBlocksOf}
 use Rattle.coded_flags.specs.Flags.{rest, superSizes, superFlags, partlyBlocks, spread, interFlags}
 use Rattle.coded_flags.proofs.Spread.{blocks-most}
-use Rattle.runs.proofs.ListLaws.{front-length}
+use Rattle.bitstream.proofs.ListLaws.{front-length}
 use Rattle.coded_flags.proofs.Answers.{supers-refused, supers-at, supers-length, inter-supers, inter-blocks, inter-got}
 use borrow.Author.Needs.{needs}
 use Rattle.coded_flags.proofs.read_flags.Statement.{statement}
@@ -170,7 +169,7 @@ returns-2 c =
     let u = c .before .before .before .before .before .before .before .before .before in
     let v = c .before .before .before .before .before .before .before in
     on-refusal _ (interFlags (a .format) (a .w) (a .h) (a .packet .now) (a .at))
-    (inter-blocks (a .format) (a .w) (a .h) (a .packet .now) (a .at) (supers-are u) (ap (λ (k : ℕ). bitString Short k (a .packet .now) (place u)) (sym (m-long v ∙ m-blocks v)) ∙ done-refused (bitString Short (length (take (m v) (a .bits .now))) (a .packet .now) (place u)) (c .before .before .before .before .before .read-string .ensures .0) (c .before .string .given .1)))
+    (inter-blocks (a .format) (a .w) (a .h) (a .packet .now) (a .at) (supers-are u) (ap (λ (k : ℕ). bitString Short k (a .packet .now) (place u)) (sym (m-long v ∙ m-blocks v)) ∙ end-refused (bitString Short (length (take (m v) (a .bits .now))) (a .packet .now) (place u)) (c .before .before .before .before .before .read-string .ensures .0) (c .before .string .given .1)))
 
 same-length-4 : tie.Need-same-length-4
 same-length-4 c = search needs
@@ -190,8 +189,8 @@ returns-3 c =
     let v = c .before .before .before .before .before .before .before .before .before .before .before .before .before in
     let b = c .before .before .before .before .before .before .before .before .before .before .before .read-string .last .1 .1 .1 .0 in
     let e = c .before .before .before .before .before .before .before .string2 .given .0 .0 in
-    on-string _ (interFlags (a .format) (a .w) (a .h) (a .packet .now) (a .at))
-    (inter-got (a .format) (a .w) (a .h) (a .packet .now) (a .at) (supers-are u) (ap (λ (k : ℕ). bitString Short k (a .packet .now) (place u)) (sym (m-long v ∙ m-blocks v)) ∙ done-at (bitString Short (length (take (m v) (a .bits .now))) (a .packet .now) (place u)) b (c .before .before .before .before .before .before .before .before .before .before .before .read-string .ensures .0) (c .before .before .before .before .before .before .before .before .before .before .before .read-string .ensures .1) (c .before .before .before .before .before .before .before .string2 .given .1)) ∙ ap (λ (x : List ℕ). got x e) (sym (c .before .before .spread-strings .ensures ∙ ap (spread (superSizes (a .format) (a .w) (a .h)) (take (S u) (supers u)) (take (left u) (drop (S u) (supers u)))) (take-at b (behind v) (m v) (c .before .before .before .before .before .before .before .before .before .before .before .read-string .kept .1 .1 .1 .0 ∙ m-long v)))))
+    on-list _ (interFlags (a .format) (a .w) (a .h) (a .packet .now) (a .at))
+    (inter-got (a .format) (a .w) (a .h) (a .packet .now) (a .at) (supers-are u) (ap (λ (k : ℕ). bitString Short k (a .packet .now) (place u)) (sym (m-long v ∙ m-blocks v)) ∙ stored-at (bitString Short (length (take (m v) (a .bits .now))) (a .packet .now) (place u)) b (c .before .before .before .before .before .before .before .before .before .before .before .read-string .ensures .0) (c .before .before .before .before .before .before .before .before .before .before .before .read-string .ensures .1) (c .before .before .before .before .before .before .before .string2 .given .1)) ∙ ap (λ (x : List ℕ). got x e) (sym (c .before .before .spread-strings .ensures ∙ ap (spread (superSizes (a .format) (a .w) (a .h)) (take (S u) (supers u)) (take (left u) (drop (S u) (supers u)))) (take-at b (behind v) (m v) (c .before .before .before .before .before .before .before .before .before .before .before .read-string .kept .1 .1 .1 .0 ∙ m-long v)))))
 
 pub read-flags-spec : {M : Type 1} → statement M
 read-flags-spec =

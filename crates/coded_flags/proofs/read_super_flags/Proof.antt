@@ -8,9 +8,9 @@ use lib.Seq.{take-at}
 use Rattle.bitstream.specs.Reading.{got}
 use Rattle.runs.specs.Runs.{bitString}
 use Rattle.runs.specs.declared.RunCode.the-variants.{Long}
-use Rattle.runs.proofs.Strings.{done-at, done-refused}
+use Rattle.bitstream.proofs.Ends.{stored-at, end-refused}
 use Rattle.coded_flags.specs.Flags.{ones, rest, superFlags}
-use Rattle.runs.proofs.ListLaws.{front-length}
+use Rattle.bitstream.proofs.ListLaws.{front-length}
 use Rattle.coded_flags.proofs.Answers.{supers-first, supers-second, supers-got, half-first, half-second, on-refused, on-supers, half-length, middle-length}
 use borrow.Author.Needs.{needs}
 use Rattle.coded_flags.proofs.read_super_flags.Statement.{statement}
@@ -40,7 +40,7 @@ module _ (c : tie.After-known-told2) where
   partly-got =
       let a = c .before .before .before .before .before .before .before .before .before .args in
       ap (λ (m : ℕ). bitString Long m (a .packet .now) (a .at)) (sym (half-length (a .supers .now)))
-      ∙ done-at (bitString Long (length (take n (a .supers .now))) (a .packet .now) (a .at)) string (c .before .before .before .before .before .read-string .ensures .0) (c .before .before .before .before .before .read-string .ensures .1) (c .before .partly2 .given .1)
+      ∙ stored-at (bitString Long (length (take n (a .supers .now))) (a .packet .now) (a .at)) string (c .before .before .before .before .before .read-string .ensures .0) (c .before .before .before .before .before .read-string .ensures .1) (c .before .partly2 .given .1)
 
 -- how many are left, and the part that the second string goes to
 module _ (c : tie.After-count-ones) where
@@ -121,7 +121,7 @@ returns c =
     let a = c .before .before .before .before .before .before .before .before .before .args in
     let k = length (a .supers .now) / 2 in
     on-refused _ k (superFlags k (a .packet .now) (a .at))
-    (supers-first k (a .packet .now) (a .at) (ap (λ (m : ℕ). bitString Long m (a .packet .now) (a .at)) (sym (half-length (a .supers .now))) ∙ done-refused (bitString Long (length (take k (a .supers .now))) (a .packet .now) (a .at)) (c .before .before .before .before .before .read-string .ensures .0) (c .before .partly .given .1)))
+    (supers-first k (a .packet .now) (a .at) (ap (λ (m : ℕ). bitString Long m (a .packet .now) (a .at)) (sym (half-length (a .supers .now))) ∙ end-refused (bitString Long (length (take k (a .supers .now))) (a .packet .now) (a .at)) (c .before .before .before .before .before .read-string .ensures .0) (c .before .partly .given .1)))
 
 same-length-2 : tie.Need-same-length-2
 same-length-2 c = search needs
@@ -132,7 +132,7 @@ returns-2 c =
     let u = c .before .before .before .before .before .before .before .before .before in
     let k = n u in
     on-refused _ k (superFlags k (a .packet .now) (a .at))
-    (supers-second k (a .packet .now) (a .at) (partly-got u) (ap (λ (m : ℕ). bitString Long m (a .packet .now) (place u)) (sym (left-long (c .before .before .before .before .before .before .before))) ∙ done-refused (bitString Long (length (middle (c .before .before .before .before .before .before .before))) (a .packet .now) (place u)) (c .before .before .before .before .before .read-string2 .ensures .0) (c .before .full .given .1)))
+    (supers-second k (a .packet .now) (a .at) (partly-got u) (ap (λ (m : ℕ). bitString Long m (a .packet .now) (place u)) (sym (left-long (c .before .before .before .before .before .before .before))) ∙ end-refused (bitString Long (length (middle (c .before .before .before .before .before .before .before))) (a .packet .now) (place u)) (c .before .before .before .before .before .read-string2 .ensures .0) (c .before .full .given .1)))
 
 same-length-3 : tie.Need-same-length-3
 same-length-3 c = search needs
@@ -146,7 +146,7 @@ returns-3 c =
     let e : length q ≡ left (c .before .before .before .before .before .before .before) =
     c .before .before .before .before .before .read-string2 .kept .1 .1 .1 .0 ∙ middle-long (c .before .before .before .before .before .before .before) in
     on-supers _ k (superFlags k (a .packet .now) (a .at))
-    (supers-got k (a .packet .now) (a .at) (partly-got u) (ap (λ (m : ℕ). bitString Long m (a .packet .now) (place u)) (sym (left-long (c .before .before .before .before .before .before .before))) ∙ done-at (bitString Long (length (middle (c .before .before .before .before .before .before .before))) (a .packet .now) (place u)) q (c .before .before .before .before .before .read-string2 .ensures .0) (c .before .before .before .before .before .read-string2 .ensures .1) (c .before .full2 .given .1)))
+    (supers-got k (a .packet .now) (a .at) (partly-got u) (ap (λ (m : ℕ). bitString Long m (a .packet .now) (place u)) (sym (left-long (c .before .before .before .before .before .before .before))) ∙ stored-at (bitString Long (length (middle (c .before .before .before .before .before .before .before))) (a .packet .now) (place u)) q (c .before .before .before .before .before .read-string2 .ensures .0) (c .before .before .before .before .before .read-string2 .ensures .1) (c .before .full2 .given .1)))
     (sym e)
     (half-first k (left (c .before .before .before .before .before .before .before)) (string u ++ behind u) q _ (room u) e ∙ take-at (string u) (behind u) k (long u))
     (half-second k (left (c .before .before .before .before .before .before .before)) (string u ++ behind u) q _ (room u) e)

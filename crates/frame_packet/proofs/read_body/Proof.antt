@@ -7,7 +7,7 @@ use lib.ListN.{length, replicate}
 use lib.Seq.{length-take-le}
 use Rattle.bitstream.specs.Reading.{Outcome, got}
 use Rattle.geometry.specs.Sizes.{blocksOf}
-use Rattle.runs.proofs.Strings.{done-refused, done-at-as}
+use Rattle.bitstream.proofs.Ends.{stored-as-at, end-refused}
 use Rattle.block_record.specs.declared.BlockRecord.{BlockRecord}
 use Rattle.block_record.specs.Packed.{packed}
 use Rattle.tokens.specs.Tokens.{readTokens}
@@ -66,7 +66,7 @@ module _ (c : tie.After-known-told4) where
   index =
       let a = s (c .before .before .before .before .before .before .before .before .before .before .before .before .before .before .before) .args in
       let w = c .before .before .before .before .before .before .before .before .before .read-records in
-      done-at-as (map packed) (indexed (a .format) (a .w) (a .h) (treesOf (a .nodes .now)) (a .kind) (a .qis) (a .packet .now) (a .at) (flags (c .before .before .before .before .before .before .before .before .before .before .before .before .before .before .before)) (records (c .before .before .before .before .before .before .before .before .before .before .before .before .before .before .before)) (coded (c .before .before .before .before .before .before .before .before .before .before .before .before .before .before .before)) (count (c .before .before .before .before .before .before .before .before .before .before .before .before .before .before .before)) (luma (c .before .before .before .before .before .before .before .before .before .before .before .before .before .before .before)) (place (c .before .before .before .before .before .before .before .before .before .before .before .before .before .before .before)) (listed (c .before .before .before .before .before .before .before .before .before .before .before .before .before .before .before))) _ (w .ensures .0) (w .ensures .1) (c .before .done2 .given .1)
+      stored-as-at (map packed) (indexed (a .format) (a .w) (a .h) (treesOf (a .nodes .now)) (a .kind) (a .qis) (a .packet .now) (a .at) (flags (c .before .before .before .before .before .before .before .before .before .before .before .before .before .before .before)) (records (c .before .before .before .before .before .before .before .before .before .before .before .before .before .before .before)) (coded (c .before .before .before .before .before .before .before .before .before .before .before .before .before .before .before)) (count (c .before .before .before .before .before .before .before .before .before .before .before .before .before .before .before)) (luma (c .before .before .before .before .before .before .before .before .before .before .before .before .before .before .before)) (place (c .before .before .before .before .before .before .before .before .before .before .before .before .before .before .before)) (listed (c .before .before .before .before .before .before .before .before .before .before .before .before .before .before .before))) _ (w .ensures .0) (w .ensures .1) (c .before .done2 .given .1)
 
   bits-then : length (c .before .before .before .before .before .before .before .before .before .read-records .last .1 .1 .1 .1 .1 .1 .1 .1 .1 .0) ≡ all (s (c .before .before .before .before .before .before .before .before .before .before .before .before .before .before .before))
   bits-then = c .before .before .before .before .before .before .before .before .before .read-records .kept .1 .1 .1 .1 .1 .1 .1 .1 .1 .0 ∙ c .before .before .before .before .before .before .before .before .before .before .before .before .before .before .before .before .before .before .before .before .before .before .before .before .before .before .before .before .read-coded .kept .1 .1 .1 .1 .1 .1 .1 .0 ∙ long (s (c .before .before .before .before .before .before .before .before .before .before .before .before .before .before .before)) .bits
@@ -186,7 +186,7 @@ returns-2 c =
     let a = c .before .before .before .before .before .before .before .before .before .before .before .before .before .before .before .before .before .before .before .before .before .before .before .before .before .before .before .before .before .before .before .before .before .before .before .before .before .before .before .before .before .before .before .before .args in
     let d = c .before .before .before .before .before .before .before .before .before .before .before .before .before .before .before in
     on-no-body (a .format) (a .w) (a .h) _ (body (a .format) (a .w) (a .h) (treesOf (a .nodes .now)) (a .kind) (a .qis) (a .packet .now) (a .at))
-    (body-index (a .format) (a .w) (a .h) (treesOf (a .nodes .now)) (a .kind) (a .qis) (a .packet .now) (a .at) (flags d) (records d) (coded d) (count d) (luma d) (place d) (listed d) (done-refused (indexed (a .format) (a .w) (a .h) (treesOf (a .nodes .now)) (a .kind) (a .qis) (a .packet .now) (a .at) (flags d) (records d) (coded d) (count d) (luma d) (place d) (listed d)) (c .before .before .before .before .before .before .before .before .before .read-records .ensures .0) (c .before .done .given .1)))
+    (body-index (a .format) (a .w) (a .h) (treesOf (a .nodes .now)) (a .kind) (a .qis) (a .packet .now) (a .at) (flags d) (records d) (coded d) (count d) (luma d) (place d) (listed d) (end-refused (indexed (a .format) (a .w) (a .h) (treesOf (a .nodes .now)) (a .kind) (a .qis) (a .packet .now) (a .at) (flags d) (records d) (coded d) (count d) (luma d) (place d) (listed d)) (c .before .before .before .before .before .before .before .before .before .read-records .ensures .0) (c .before .done .given .1)))
 
 same-length-12 : tie.Need-same-length-12
 same-length-12 c = c .before .before .before .before .before .before .before .before .before .before .before .before .before .before .before .before .before .before .before .before .before .before .before .before .read-records .kept .1 .1 .1 .1 .1 .1 .1 .1 .1 .1 .1 .0 ∙ c .before .before .before .before .before .before .before .before .before .before .before .before .before .before .before .before .before .before .before .before .before .before .before .before .before .before .before .before .before .before .before .before .before .before .before .before .before .before .before .before .before .before .before .read-coded .kept .1 .1 .1 .1 .1 .1 .1 .1 .1 .0

@@ -1,7 +1,7 @@
 -- `frame_packet::read_coded` meets its contract. The rest of the list of the coded blocks is zero, as it was. Assumes nothing.
 use mathlib.Core.Path.{ap, _∙_}
 use lib.ListN.{length, length-replicate}
-use Rattle.runs.proofs.Strings.{done-refused, done-at}
+use Rattle.bitstream.proofs.Ends.{stored-at, end-refused}
 use Rattle.frame_packet.specs.Frame.{flagsOf}
 use Rattle.frame_packet.proofs.Steps.{on-no-flags, on-coded}
 use borrow.Author.Needs.{needs}
@@ -36,7 +36,7 @@ returns : tie.Need-returns
 returns c =
     let a = c .before .before .before .before .before .before .before .before .before .before .before .before .before .before .before .before .before .before .before .args in
     on-no-flags (a .format) (a .w) (a .h) (flagsOf (a .format) (a .w) (a .h) (a .kind) (a .packet .now) (a .at)) _ _ _
-    (done-refused (flagsOf (a .format) (a .w) (a .h) (a .kind) (a .packet .now) (a .at)) (c .before .before .before .before .before .before .before .before .before .read-flags .ensures .0) (c .before .done .given .1))
+    (end-refused (flagsOf (a .format) (a .w) (a .h) (a .kind) (a .packet .now) (a .at)) (c .before .before .before .before .before .before .before .before .before .read-flags .ensures .0) (c .before .done .given .1))
 
 same-length-4 : tie.Need-same-length-4
 same-length-4 c = search needs
@@ -60,7 +60,7 @@ returns-2 c =
     let v = c .before .before .before .before .before .before .before .before .before .before .before .before .before .before .before .before .before .read-flags in
     let l = c .before .before .before .before .list-coded in
     on-coded (a .format) (a .w) (a .h) (flagsOf (a .format) (a .w) (a .h) (a .kind) (a .packet .now) (a .at)) _ _ _ (a .coded .now) (l .result)
-    (done-at (flagsOf (a .format) (a .w) (a .h) (a .kind) (a .packet .now) (a .at)) _ (v .ensures .0) (v .ensures .1) (c .before .before .before .before .before .before .before .before .before .done2 .given .1))
+    (stored-at (flagsOf (a .format) (a .w) (a .h) (a .kind) (a .packet .now) (a .at)) _ (v .ensures .0) (v .ensures .1) (c .before .before .before .before .before .before .before .before .before .done2 .given .1))
     (l .ensures .0) (l .ensures .1 .0) (p .1 .1) (l .ensures .1 .1)
 
 pub read-coded-spec : {M : Type 1} → statement M

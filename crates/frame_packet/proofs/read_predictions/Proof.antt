@@ -1,13 +1,12 @@
 -- `frame_packet::read_predictions` meets its contract. Assumes nothing.
 use native.Mathlib.Omega.{arith}
-use mathlib.Core.Path.{sym, ap, _∙_}
+use mathlib.Core.Path.{_≡_, sym, ap, _∙_}
 use mathlib.Core.List.{map}
 use Prim.Native.Nat.{ℕ}
 use lib.ListN.{length}
 use Rattle.block_record.specs.Packed.{packed}
 use Rattle.block_record.specs.Memory.{recordsOf}
-use Rattle.runs.proofs.Facts.{on-refusal-as}
-use Rattle.runs.proofs.Strings.{done-refused, done-at}
+use Rattle.bitstream.proofs.Ends.{on-refused, stored-at, end-refused}
 use Rattle.modes.specs.Modes.{macroModes}
 use Rattle.block_qi.proofs.Steps.{on-all}
 use Rattle.frame_packet.specs.Frame.{predictions}
@@ -48,8 +47,8 @@ same-length c = search needs
 returns-2 : tie.Need-returns-2
 returns-2 c =
     let a = c .before .before .before .before .before .before .before .before .before .before .before .before .args in
-    on-refusal-as (map packed) _ (predictions (a .format) (a .w) (a .h) (a .kind) (a .flags .now) (recordsOf (a .records .now)) (a .packet .now) (a .at))
-    (predictions-modes (a .format) (a .w) (a .h) (a .kind) (a .flags .now) (recordsOf (a .records .now)) (a .packet .now) (a .at) (not-intra (a .kind) (c .before .before .before .before .before .before .before .match .keys2)) (ap (λ (n : ℕ). macroModes (a .flags .now) n (a .packet .now) (a .at)) (sym (c .before .before .before .before .before .before .before .before .before .before .before .before .pre .4)) ∙ done-refused (macroModes (a .flags .now) (length (a .modes .now)) (a .packet .now) (a .at)) (c .before .before .before .before .before .read-modes .ensures .0) (c .before .read .given .1)))
+    on-refused (λ rs. a .records .now ≡ map packed rs) (predictions (a .format) (a .w) (a .h) (a .kind) (a .flags .now) (recordsOf (a .records .now)) (a .packet .now) (a .at))
+    (predictions-modes (a .format) (a .w) (a .h) (a .kind) (a .flags .now) (recordsOf (a .records .now)) (a .packet .now) (a .at) (not-intra (a .kind) (c .before .before .before .before .before .before .before .match .keys2)) (ap (λ (n : ℕ). macroModes (a .flags .now) n (a .packet .now) (a .at)) (sym (c .before .before .before .before .before .before .before .before .before .before .before .before .pre .4)) ∙ end-refused (macroModes (a .flags .now) (length (a .modes .now)) (a .packet .now) (a .at)) (c .before .before .before .before .before .read-modes .ensures .0) (c .before .read .given .1)))
 
 same-length-2 : tie.Need-same-length-2
 same-length-2 c = search needs
@@ -63,7 +62,7 @@ returns-3 c =
     let m = c .before .before .before .before .before .before .before .before .before .before .read-modes in
     let v = c .before .before .read-vectors in
     same-stored (map packed) _
-    (predictions-vectors (a .format) (a .w) (a .h) (a .kind) (a .flags .now) (recordsOf (a .records .now)) (a .packet .now) (a .at) (not-intra (a .kind) (c .before .before .before .before .before .before .before .before .before .before .before .before .match .keys2)) (ap (λ (n : ℕ). macroModes (a .flags .now) n (a .packet .now) (a .at)) (sym (c .before .before .before .before .before .before .before .before .before .before .before .before .before .before .before .before .before .pre .4)) ∙ done-at (macroModes (a .flags .now) (length (a .modes .now)) (a .packet .now) (a .at)) _ (m .ensures .0) (m .ensures .1) (c .before .before .before .before .before .before .read2 .given .1)))
+    (predictions-vectors (a .format) (a .w) (a .h) (a .kind) (a .flags .now) (recordsOf (a .records .now)) (a .packet .now) (a .at) (not-intra (a .kind) (c .before .before .before .before .before .before .before .before .before .before .before .before .match .keys2)) (ap (λ (n : ℕ). macroModes (a .flags .now) n (a .packet .now) (a .at)) (sym (c .before .before .before .before .before .before .before .before .before .before .before .before .before .before .before .before .before .pre .4)) ∙ stored-at (macroModes (a .flags .now) (length (a .modes .now)) (a .packet .now) (a .at)) _ (m .ensures .0) (m .ensures .1) (c .before .before .before .before .before .before .read2 .given .1)))
     (v .ensures .0) (v .ensures .1)
 
 pub read-predictions-spec : {M : Type 1} → statement M

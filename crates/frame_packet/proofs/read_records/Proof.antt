@@ -4,9 +4,8 @@ use mathlib.Core.Path.{_≡_, sym, _∙_, subst}
 use mathlib.Core.List.{List, map}
 use Rattle.bitstream.specs.Reading.{Outcome, got, bind}
 use Rattle.bitstream.proofs.Laws.{bind-refused}
-use Rattle.runs.specs.Lists.{AllBelow}
-use Rattle.runs.proofs.Facts.{on-refusal-as}
-use Rattle.runs.proofs.Strings.{done-refused, done-at-as}
+use Rattle.bitstream.specs.Lists.{AllBelow}
+use Rattle.bitstream.proofs.Ends.{on-refused, stored-as-at, end-refused}
 use Rattle.block_record.specs.declared.BlockRecord.{BlockRecord}
 use Rattle.block_record.specs.Packed.{packed}
 use Rattle.block_record.specs.Memory.{recordsOf}
@@ -27,7 +26,7 @@ module _ (c : tie.Start) where
 
 -- the predictions, and the records as they are then
 predicted : (c : tie.After-known-told2) → (rs : List BlockRecord) × (outcome (c .before .before .before .before .before .before .before .before .before .before .before .before .before .before .before .before) ≡ got rs (c .before .done2 .given .0 .0)) × (c .before .before .before .before .before .before .before .read-predictions .last .1 .1 .1 .1 .1 .1 .1 .1 .0 ≡ map packed rs)
-predicted c = let w = c .before .before .before .before .before .before .before .read-predictions in done-at-as (map packed) (outcome (c .before .before .before .before .before .before .before .before .before .before .before .before .before .before .before .before)) _ (w .ensures .0) (w .ensures .1) (c .before .done2 .given .1)
+predicted c = let w = c .before .before .before .before .before .before .before .read-predictions in stored-as-at (map packed) (outcome (c .before .before .before .before .before .before .before .before .before .before .before .before .before .before .before .before)) _ (w .ensures .0) (w .ensures .1) (c .before .done2 .given .1)
 
 read-predictions-requires : tie.Need-read-predictions-requires
 read-predictions-requires c κs = search needs
@@ -60,8 +59,8 @@ same-length-2 c = search needs
 returns : tie.Need-returns
 returns c =
     let a = c .before .before .before .before .before .before .before .before .before .before .before .before .before .before .before .before .args in
-    on-refusal-as (map packed) _ (bind (predictions (a .format) (a .w) (a .h) (a .kind) (a .flags .now) (recordsOf (a .records .now))) (blockQi (a .qis) (a .coded .now)) (a .packet .now) (a .at))
-    (bind-refused (predictions (a .format) (a .w) (a .h) (a .kind) (a .flags .now) (recordsOf (a .records .now))) (blockQi (a .qis) (a .coded .now)) (a .packet .now) (a .at) (done-refused (outcome (c .before .before .before .before .before .before .before .before .before .before .before .before .before .before .before .before)) (c .before .before .before .before .before .before .before .read-predictions .ensures .0) (c .before .done .given .1)))
+    on-refused (λ rs. c .before .before .before .before .before .before .before .read-predictions .last .1 .1 .1 .1 .1 .1 .1 .1 .0 ≡ map packed rs) (bind (predictions (a .format) (a .w) (a .h) (a .kind) (a .flags .now) (recordsOf (a .records .now))) (blockQi (a .qis) (a .coded .now)) (a .packet .now) (a .at))
+    (bind-refused (predictions (a .format) (a .w) (a .h) (a .kind) (a .flags .now) (recordsOf (a .records .now))) (blockQi (a .qis) (a .coded .now)) (a .packet .now) (a .at) (end-refused (outcome (c .before .before .before .before .before .before .before .before .before .before .before .before .before .before .before .before)) (c .before .before .before .before .before .before .before .read-predictions .ensures .0) (c .before .done .given .1)))
 
 same-length-3 : tie.Need-same-length-3
 same-length-3 c = search needs

@@ -7,7 +7,8 @@ use mathlib.Core.List.{_∷_}
 use lib.ListN.{drop, getD}
 use lib.Dec.{lit≤}
 use Rattle.bitstream.proofs.Fields.{read-got, read-refused}
-use Rattle.headers.specs.Judgement.{exactly, spelled, theora, commonHeader, asPassed}
+use Rattle.headers.specs.Judgement.{exactly, spelled, theora, commonHeader}
+use Rattle.bitstream.specs.Answer.{asEnd}
 use Rattle.headers.proofs.Judged.{spelled-next, spelled-refused}
 use Rattle.headers.proofs.read_common_header.Statement.{statement}
 use Rattle.headers.proofs.read_common_header.Tie as tie
@@ -42,7 +43,7 @@ returns c =
     let a = c .before .before .before .before .before .before .before .args in
     let l = c .before .before .before .before .before .loop in
     let e = read-refused (exactly 8 (getD (a .kind ∷ theora) (l .i) 0) 2 (a .packet .now) (l .place)) (c .before .before .before .read-exactly .ensures) (c .before .k .given .1) in
-    sym (ap asPassed (l .inv .1 ∙ spelled-refused (a .kind ∷ theora) (l .i) (a .packet .now) (l .place) (omega arith) e))
+    sym (ap asEnd (l .inv .1 ∙ spelled-refused (a .kind ∷ theora) (l .i) (a .packet .now) (l .place) (omega arith) e))
 
 add-i : tie.Need-add-i Inv-loop μ-loop
 add-i c = search needs
@@ -62,7 +63,7 @@ unfolding spelled
 returns-2 c =
     let l = c .before .loop in
     let e : l .i ≡ 7 = omega arith in
-    sym (ap asPassed (rw e at (l .inv .1)))
+    sym (ap asEnd (rw e at (l .inv .1)))
 
 pub read-common-header-spec : {M : Type 1} → statement M
 read-common-header-spec =

@@ -5,12 +5,13 @@ use Rattle.bitstream.specs.Reading.{got}
 use Rattle.bitstream.proofs.Fields.{read-got, read-refused}
 use Rattle.headers.specs.Judgement.{commonHeader}
 use Rattle.headers.specs.Identification.{version, frameSize, rates, coding, identification}
-use Rattle.headers.proofs.Groups.{passed-to, passed-refused, frame-size-is, frame-size-refused, rates-is, rates-refused, coding-is, coding-refused}
+use Rattle.headers.proofs.Groups.{frame-size-is, frame-size-refused, rates-is, rates-refused, coding-is, coding-refused}
+use Rattle.bitstream.proofs.Ends.{end-refused, end-at}
 use Rattle.headers.proofs.read_session.Statement.{statement}
 use Rattle.headers.proofs.read_session.Tie as tie
 
 at-1 : (c : tie.After-known-told) → commonHeader 0x80 (c .before .before .before .before .before .args .packet .now) (0) ≡ got tt (c .before .next .given .0 .0)
-at-1 c = passed-to _ (c .before .before .before .read-common-header .ensures) (c .before .next .given .1) .1
+at-1 c = end-at _ (c .before .before .before .read-common-header .ensures) (c .before .next .given .1) .1
 
 at-2 : (c : tie.After-known-told3) → version (c .before .before .before .before .before .before .before .before .before .args .packet .now) (c .before .before .before .before .before .next .given .0 .0) ≡ got (c .before .is .given .0 .0) (c .before .is .given .0 .1 .0)
 at-2 c = read-got _ (c .before .before .before .read-version .ensures) (c .before .is .given .1)
@@ -35,7 +36,7 @@ enum-known-k c = search needs
 
 returns : tie.Need-returns
 unfolding identification
-returns c = sym (rw (passed-refused (commonHeader 0x80 (c .before .before .before .before .before .args .packet .now) (0)) (c .before .before .before .read-common-header .ensures) (c .before .k .given .1)))
+returns c = sym (rw (end-refused (commonHeader 0x80 (c .before .before .before .before .before .args .packet .now) (0)) (c .before .before .before .read-common-header .ensures) (c .before .k .given .1)))
 
 read-version-requires : tie.Need-read-version-requires
 read-version-requires c κs = search needs

@@ -3,7 +3,7 @@ use borrow.Author.Needs.{needs}
 use Prim.Native.Nat.{_+_, _-_, _/_, _%_, _<_}
 use lib.ListN.{getD}
 use native.Mathlib.Omega.{arith}
-use Rattle.huffman.proofs.Two.{bits-of-two}
+use Rattle.bitstream.proofs.Bytes.{bits-of-two}
 use Rattle.huffman.proofs.seven_bits.Statement.{statement}
 use Rattle.huffman.proofs.seven_bits.Tie as tie
 

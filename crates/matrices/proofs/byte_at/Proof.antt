@@ -1,12 +1,11 @@
 -- `matrices::byte_at` meets its contract. Assumes nothing.
 use borrow.Author.Needs.{needs}
-use Prim.Native.Nat.{_+_, _*_, _/_, _<_}
+use Prim.Native.Nat.{_+_, _-_, _*_, _/_, _%_, _<_}
 use native.Mathlib.Omega.{arith}
 use mathlib.Core.Path.{_≡_, sym, ap, _∙_}
 use lib.ListN.{getD}
-use Rattle.bitstream.proofs.Bytes.{byte-number}
+use Rattle.bitstream.proofs.Bytes.{byte-number, bits-of-two}
 use Rattle.bitstream.specs.Bits.{number}
-use Rattle.matrices.proofs.Values.{byte-of-two}
 use Rattle.matrices.proofs.byte_at.Statement.{statement}
 use Rattle.matrices.proofs.byte_at.Tie as tie
 
@@ -50,7 +49,7 @@ shr-result : tie.Need-shr-result
 shr-result c = omega (arith, c .before .if1 .left)
 
 returns-2 : tie.Need-returns-2
-returns-2 c = let a = c .before .before .before .args in byte-of-two (a .packet .now) (a .at) (first-fits c) (second-fits c)
+returns-2 c = let a = c .before .before .before .args in bits-of-two (a .packet .now) (a .at) 8 (8 - a .at % 8) (omega arith) (first-fits c) (second-fits c)
 
 pub byte-at-spec : {M : Type 1} → statement M
 byte-at-spec =

@@ -7,7 +7,7 @@ use mathlib.Core.List.{List, []}
 use lib.ListN.{length, take, length-set}
 use lib.Seq.{take-suc-set, take-all}
 use Rattle.bitstream.specs.Reading.{got}
-use Rattle.runs.proofs.Facts.{on-refusal, on-string}
+use Rattle.bitstream.proofs.Ends.{on-list, on-refusal}
 use Rattle.modes.specs.Modes.{modeOf, modesFrom}
 use Rattle.modes.proofs.Facts.{mode-is, mode-refused, modes-done, modes-end, modes-on}
 use borrow.Author.Needs.{needs}
@@ -57,7 +57,7 @@ same-length-2 : tie.Need-same-length-2 Inv-loop μ-loop
 same-length-2 c = search needs
 
 returns-2 : tie.Need-returns-2 Inv-loop μ-loop
-returns-2 c = let a = c .before .before .before .before .before .args in let l = c .before .loop in on-string _ _ (l .inv .3 ∙ modes-done (a .scheme) (a .alphabet .now) (a .flags .now) (a .packet .now) (length (a .modes .now)) (l .m) (l .place) (take (l .m) (l .modes)) (c .loop-test .left) ∙ ap (λ (x : List ℕ). got x (l .place)) (take-all (l .m) (l .modes) (omega (arith, l .inv .1, c .loop-test .left))))
+returns-2 c = let a = c .before .before .before .before .before .args in let l = c .before .loop in on-list _ _ (l .inv .3 ∙ modes-done (a .scheme) (a .alphabet .now) (a .flags .now) (a .packet .now) (length (a .modes .now)) (l .m) (l .place) (take (l .m) (l .modes)) (c .loop-test .left) ∙ ap (λ (x : List ℕ). got x (l .place)) (take-all (l .m) (l .modes) (omega (arith, l .inv .1, c .loop-test .left))))
 
 pub read-each-spec : {M : Type 1} → statement M
 read-each-spec =

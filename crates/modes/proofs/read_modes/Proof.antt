@@ -5,8 +5,7 @@ use mathlib.Core.Path.{_≡_}
 use lib.ListN.{length}
 use Rattle.bitstream.specs.Reading.{got, field}
 use Rattle.bitstream.proofs.Fields.{read-got, read-refused, field-lt}
-use Rattle.runs.proofs.Facts.{on-refusal}
-use Rattle.runs.proofs.Strings.{done-at, done-refused}
+use Rattle.bitstream.proofs.Ends.{on-refusal, stored-at, end-refused}
 use Rattle.modes.specs.Modes.{sentAlphabet}
 use Rattle.modes.proofs.Facts.{all-end, all-sent-end, all-each}
 use borrow.Author.Needs.{needs}
@@ -17,7 +16,7 @@ scheme-got : (c : tie.After-known-told2) → let a = c .before .before .before .
 scheme-got c = let a = c .before .before .before .before .before .before .before .args in read-got (field 3 (a .packet .now) (a .at)) (c .before .before .before .read .ensures) (c .before .first2 .given .1)
 
 sent-got : (c : tie.After-known-told4) → let a = c .before .before .before .before .before .before .before .before .before .before .before .before .args in let v = c .before .before .before .before .before .before .first2 .given .0 in sentAlphabet (v .0) (a .packet .now) (v .1 .0) ≡ got (c .before .before .before .read-alphabet .last .1 .1 .1 .0) (c .before .sent2 .given .0 .0)
-sent-got c = let a = c .before .before .before .before .before .before .before .before .before .before .before .before .args in let v = c .before .before .before .before .before .before .first2 .given .0 in done-at (sentAlphabet (v .0) (a .packet .now) (v .1 .0)) (c .before .before .before .read-alphabet .last .1 .1 .1 .0) (c .before .before .before .read-alphabet .ensures .0) (c .before .before .before .read-alphabet .ensures .1) (c .before .sent2 .given .1)
+sent-got c = let a = c .before .before .before .before .before .before .before .before .before .before .before .before .args in let v = c .before .before .before .before .before .before .first2 .given .0 in stored-at (sentAlphabet (v .0) (a .packet .now) (v .1 .0)) (c .before .before .before .read-alphabet .last .1 .1 .1 .0) (c .before .before .before .read-alphabet .ensures .0) (c .before .before .before .read-alphabet .ensures .1) (c .before .sent2 .given .1)
 
 read-requires : tie.Need-read-requires
 read-requires c κs = search needs
@@ -44,7 +43,7 @@ returns : tie.Need-returns
 returns c = let a = c .before .before .before .before .before .before .before .args in on-refusal _ _ (all-end (a .flags .now) (length (a .modes .now)) (a .packet .now) (a .at) (read-refused (field 3 (a .packet .now) (a .at)) (c .before .before .before .read .ensures) (c .before .first .given .1)))
 
 returns-2 : tie.Need-returns-2
-returns-2 c = let a = c .before .before .before .before .before .before .before .before .before .before .before .before .args in let v = c .before .before .before .before .before .before .first2 .given .0 in on-refusal _ _ (all-sent-end (a .flags .now) (length (a .modes .now)) (a .packet .now) (a .at) (scheme-got (c .before .before .before .before .before)) (done-refused (sentAlphabet (v .0) (a .packet .now) (v .1 .0)) (c .before .before .before .read-alphabet .ensures .0) (c .before .sent .given .1)))
+returns-2 c = let a = c .before .before .before .before .before .before .before .before .before .before .before .before .args in let v = c .before .before .before .before .before .before .first2 .given .0 in on-refusal _ _ (all-sent-end (a .flags .now) (length (a .modes .now)) (a .packet .now) (a .at) (scheme-got (c .before .before .before .before .before)) (end-refused (sentAlphabet (v .0) (a .packet .now) (v .1 .0)) (c .before .before .before .read-alphabet .ensures .0) (c .before .sent .given .1)))
 
 same-length : tie.Need-same-length
 same-length c = search needs

@@ -4,7 +4,7 @@ use native.Mathlib.Omega.{arith}
 use mathlib.Core.Path.{_≡_, refl, _∙_}
 use Rattle.bitstream.specs.Reading.{got, field}
 use Rattle.bitstream.proofs.Fields.{read-got, read-refused, field-lt}
-use Rattle.runs.proofs.Facts.{on-refusal, on-string}
+use Rattle.bitstream.proofs.Ends.{on-list, on-refusal}
 use Rattle.modes.specs.Modes.{ranksFrom}
 use Rattle.modes.proofs.Facts.{ranks-done, ranks-end, ranks-on}
 use borrow.Author.Needs.{needs}
@@ -51,7 +51,7 @@ loop-again : tie.Need-loop-again Inv-loop μ-loop
 loop-again c = let a = c .before .before .before .before .before .before .before .args in let l = c .before .before .before .before .before .loop in let t = c .before .before .before .before .loop-test .taken in (omega (arith, t), l .inv .1 ∙ ranks-on (a .packet .now) (l .place) (l .m) (l .alphabet) t (rank-got c))
 
 returns-2 : tie.Need-returns-2 Inv-loop μ-loop
-returns-2 c = let a = c .before .before .before .args in let l = c .before .loop in on-string _ _ (l .inv .1 ∙ ranks-done (a .packet .now) (l .place) (l .m) (l .alphabet) (c .loop-test .left))
+returns-2 c = let a = c .before .before .before .args in let l = c .before .loop in on-list _ _ (l .inv .1 ∙ ranks-done (a .packet .now) (l .place) (l .m) (l .alphabet) (c .loop-test .left))
 
 pub read-ranks-spec : {M : Type 1} → statement M
 read-ranks-spec =

@@ -2,7 +2,7 @@
 use Prim.Native.Nat.{_-_}
 use native.Mathlib.Omega.{arith}
 use mathlib.Core.Path.{ap, sym}
-use Rattle.quantization.specs.Answer.{asPlace}
+use Rattle.bitstream.specs.Answer.{asEnd}
 use Rattle.quantization.proofs.Steps.{matrices-end, matrices-place}
 use borrow.Author.Needs.{needs}
 use Rattle.quantization.proofs.matrices_end.Statement.{statement}
@@ -24,7 +24,7 @@ add-t10 : tie.Need-add-t10
 add-t10 c = search needs
 
 returns : tie.Need-returns
-returns c = let a = c .before .args in sym (ap asPlace (matrices-end (a .count) (a .packet .now) (a .at) (c .before .pre .1) (c .if1 .taken)))
+returns c = let a = c .before .args in sym (ap asEnd (matrices-end (a .count) (a .packet .now) (a .at) (c .before .pre .1) (c .if1 .taken)))
 
 mul-t6 : tie.Need-mul-t6
 mul-t6 c = search needs

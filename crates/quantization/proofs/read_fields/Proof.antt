@@ -8,7 +8,8 @@ use lib.Pow.{pow-mono}
 use lib.Seq.{take-all}
 use Rattle.bitstream.specs.Reading.{got, field, many, times}
 use Rattle.bitstream.proofs.Fields.{read-got, read-refused, field-lt}
-use Rattle.quantization.proofs.Loops.{times-start, times-refused, times-stored, times-all, all-refused, all-got}
+use Rattle.quantization.proofs.Loops.{all-refused, all-got}
+use Rattle.bitstream.proofs.Loops.{times-stored, times-all, times-start, times-refused}
 use borrow.Author.Needs.{needs}
 use Rattle.quantization.proofs.read_fields.Statement.{statement}
 use Rattle.quantization.proofs.read_fields.Tie as tie

@@ -6,7 +6,7 @@ use lib.ListN.{length}
 use Rattle.bitstream.specs.Reading.{got}
 use Rattle.bitstream.proofs.Fields.{read-got, read-refused}
 use Rattle.quantization.specs.Parameters.{index, rangeSize}
-use Rattle.quantization.specs.Answer.{placeOf}
+use Rattle.quantization.specs.Answer.{endOf}
 use Rattle.quantization.proofs.Steps.{index-lt, size-le}
 use Rattle.quantization.proofs.Sets.{Reading, new-bad, reading-start, reading-done, reading-size, reading-index, reading-more, set-refused}
 use borrow.Author.Needs.{needs}
@@ -28,14 +28,14 @@ enum-known-first c = search needs
 enum-told : tie.Need-enum-told Inv-loop μ-loop
 enum-told c = search needs
 
-place-of-requires : tie.Need-place-of-requires Inv-loop μ-loop
-place-of-requires c κs = search needs
+end-of-requires : tie.Need-end-of-requires Inv-loop μ-loop
+end-of-requires c κs = search needs
 
 returns : tie.Need-returns Inv-loop μ-loop
 returns c =
     let a = c .before .before .before .before .before .before .before .args in
     let f = read-refused (index (a .count) (a .packet .now) (a .at)) (c .before .before .before .read-index .ensures) (c .before .enum-told .given .1) in
-    set-refused _ _ _ _ _ (c .place-of .ensures ∙ ap placeOf (c .before .enum-told .given .1)) (new-bad (a .count) (a .packet .now) (a .at) (a .sizes .now) (a .indices .now) f)
+    set-refused _ _ _ _ _ (c .end-of .ensures ∙ ap endOf (c .before .enum-told .given .1)) (new-bad (a .count) (a .packet .now) (a .at) (a .sizes .now) (a .indices .now) f)
 
 -- the fields that were got
 first-got : (c : tie.After-known-told Inv-loop μ-loop)
@@ -85,8 +85,8 @@ enum-known-size c = search needs
 enum-told-2 : tie.Need-enum-told-2 Inv-loop μ-loop
 enum-told-2 c = search needs
 
-place-of-requires-2 : tie.Need-place-of-requires-2 Inv-loop μ-loop
-place-of-requires-2 c κs = search needs
+end-of-requires-2 : tie.Need-end-of-requires-2 Inv-loop μ-loop
+end-of-requires-2 c κs = search needs
 
 same-length : tie.Need-same-length Inv-loop μ-loop
 same-length c = c .before .before .before .before .before .loop .inv .long .0 ∙ sym (c .before .before .before .before .before .before .before .before .before .before .before .before .before .pre .3)
@@ -99,7 +99,7 @@ returns-2 c =
     let l = c .before .before .before .before .before .loop in
     let a = c .before .before .before .before .before .before .before .before .before .before .before .before .before .args in
     let f = read-refused (rangeSize (l .reached) (a .packet .now) (l .place)) (c .before .before .before .read-size .ensures) (c .before .enum-told2 .given .1) in
-    set-refused _ _ _ _ _ (c .place-of2 .ensures ∙ ap placeOf (c .before .enum-told2 .given .1)) (reading-size (a .count) (a .packet .now) (a .at) _ _ (l .place) (l .reached) (l .k) (l .sizes) (l .indices) (l .inv) (c .before .before .before .before .loop-test .taken) f)
+    set-refused _ _ _ _ _ (c .end-of2 .ensures ∙ ap endOf (c .before .enum-told2 .given .1)) (reading-size (a .count) (a .packet .now) (a .at) _ _ (l .place) (l .reached) (l .k) (l .sizes) (l .indices) (l .inv) (c .before .before .before .before .loop-test .taken) f)
 
 read-index-requires-2 : tie.Need-read-index-requires-2 Inv-loop μ-loop
 read-index-requires-2 c κs = search needs
@@ -110,8 +110,8 @@ enum-known-end c = search needs
 enum-told-3 : tie.Need-enum-told-3 Inv-loop μ-loop
 enum-told-3 c = search needs
 
-place-of-requires-3 : tie.Need-place-of-requires-3 Inv-loop μ-loop
-place-of-requires-3 c κs = search needs
+end-of-requires-3 : tie.Need-end-of-requires-3 Inv-loop μ-loop
+end-of-requires-3 c κs = search needs
 
 same-length-3 : tie.Need-same-length-3 Inv-loop μ-loop
 same-length-3 c = c .before .before .before .before .before .before .before .before .before .loop .inv .long .0 ∙ sym (c .before .before .before .before .before .before .before .before .before .before .before .before .before .before .before .before .before .pre .3)
@@ -124,7 +124,7 @@ returns-3 c =
     let l = c .before .before .before .before .before .before .before .before .before .loop in
     let a = c .before .before .before .before .before .before .before .before .before .before .before .before .before .before .before .before .before .args in
     let f = read-refused (index (a .count) (a .packet .now) (c .before .before .before .before .before .size .given .0 .1 .0)) (c .before .before .before .read-index2 .ensures) (c .before .enum-told3 .given .1) in
-    set-refused _ _ _ _ _ (c .place-of3 .ensures ∙ ap placeOf (c .before .enum-told3 .given .1)) (reading-index (a .count) (a .packet .now) (a .at) _ _ (l .place) (l .reached) (l .k) (l .sizes) (l .indices) (l .inv) (c .before .before .before .before .before .before .before .before .loop-test .taken) (size-got (c .before .before .before .before)) f)
+    set-refused _ _ _ _ _ (c .end-of3 .ensures ∙ ap endOf (c .before .enum-told3 .given .1)) (reading-index (a .count) (a .packet .now) (a .at) _ _ (l .place) (l .reached) (l .k) (l .sizes) (l .indices) (l .inv) (c .before .before .before .before .before .before .before .before .loop-test .taken) (size-got (c .before .before .before .before)) f)
 
 cast-one : tie.Need-cast-one Inv-loop μ-loop
 cast-one c = search needs
@@ -186,7 +186,7 @@ read-new-spec =
     read-index-requires
     enum-known-first
     enum-told
-    place-of-requires
+    end-of-requires
     returns
     cast-indices
     slice-write-indices
@@ -194,14 +194,14 @@ read-new-spec =
     read-size-requires
     enum-known-size
     enum-told-2
-    place-of-requires-2
+    end-of-requires-2
     same-length
     same-length-2
     returns-2
     read-index-requires-2
     enum-known-end
     enum-told-3
-    place-of-requires-3
+    end-of-requires-3
     same-length-3
     same-length-4
     returns-3

@@ -5,7 +5,8 @@ use mathlib.Core.List.{List, []}
 use Rattle.bitstream.specs.Reading.{got, many}
 use Rattle.bitstream.proofs.Fields.{read-got, read-refused}
 use Rattle.quantization.specs.Parameters.{scales, matrixCount, baseMatrix, moreSets, quantization}
-use Rattle.quantization.proofs.Loops.{place-at, place-refused, filled-is}
+use Rattle.quantization.proofs.Loops.{filled-is}
+use Rattle.bitstream.proofs.Ends.{end-refused, end-at}
 use Rattle.quantization.proofs.Steps.{count-range}
 use Rattle.quantization.proofs.Whole.{count-ends, quant-ac, quant-dc, quant-count, quant-matrices, quant-sets, quant-got, quant-refused, quant-stored}
 use borrow.Author.Needs.{needs}
@@ -24,11 +25,11 @@ same-length c = search needs
 -- the parts that were got
 ac-got : (c : tie.After-known-told2)
     → (x : List ℕ) × (scales (c .before .before .before .before .before .before .before .before .before .before .before .before .args .packet .now) (c .before .before .before .before .before .before .before .before .before .before .before .before .args .at) ≡ got x (c .before .first2 .given .0 .0))
-ac-got c = place-at (scales (c .before .before .before .before .before .before .before .before .before .before .before .before .args .packet .now) (c .before .before .before .before .before .before .before .before .before .before .before .before .args .at)) (c .before .before .before .before .before .read-scales .ensures .0) (c .before .first2 .given .1)
+ac-got c = end-at (scales (c .before .before .before .before .before .before .before .before .before .before .before .before .args .packet .now) (c .before .before .before .before .before .before .before .before .before .before .before .before .args .at)) (c .before .before .before .before .before .read-scales .ensures .0) (c .before .first2 .given .1)
 
 dc-got : (c : tie.After-known-told4)
     → (x : List ℕ) × (scales (c .before .before .before .before .before .before .before .before .before .before .before .before .before .before .before .before .before .before .before .args .packet .now) (c .before .before .before .before .before .before .before .before .first2 .given .0 .0) ≡ got x (c .before .second2 .given .0 .0))
-dc-got c = place-at (scales (c .before .before .before .before .before .before .before .before .before .before .before .before .before .before .before .before .before .before .before .args .packet .now) (c .before .before .before .before .before .before .before .before .first2 .given .0 .0)) (c .before .before .before .before .before .read-scales2 .ensures .0) (c .before .second2 .given .1)
+dc-got c = end-at (scales (c .before .before .before .before .before .before .before .before .before .before .before .before .before .before .before .before .before .before .before .args .packet .now) (c .before .before .before .before .before .before .before .before .first2 .given .0 .0)) (c .before .before .before .before .before .read-scales2 .ensures .0) (c .before .second2 .given .1)
 
 count-is : (c : tie.After-known-told6)
     → matrixCount (c .before .before .before .before .before .before .before .before .before .before .before .before .before .before .before .before .before .before .before .before .before .before .before .args .packet .now) (c .before .before .before .before .before .second2 .given .0 .0) ≡ got (c .before .number2 .given .0 .0) (c .before .number2 .given .0 .1 .0)
@@ -36,12 +37,12 @@ count-is c = read-got (matrixCount (c .before .before .before .before .before .b
 
 matrices-got : (c : tie.After-known-told8)
     → (x : List (List ℕ)) × (many (c .before .before .before .before .before .number2 .given .0 .0) baseMatrix (c .before .before .before .before .before .before .before .before .before .before .before .before .before .before .before .before .before .before .before .before .before .before .before .before .before .before .before .args .packet .now) (c .before .before .before .before .before .number2 .given .0 .1 .0) ≡ got x (c .before .matrices2 .given .0 .0))
-matrices-got c = place-at (many (c .before .before .before .before .before .number2 .given .0 .0) baseMatrix (c .before .before .before .before .before .before .before .before .before .before .before .before .before .before .before .before .before .before .before .before .before .before .before .before .before .before .before .args .packet .now) (c .before .before .before .before .before .number2 .given .0 .1 .0)) (c .before .before .before .matrices-end .ensures) (c .before .matrices2 .given .1)
+matrices-got c = end-at (many (c .before .before .before .before .before .number2 .given .0 .0) baseMatrix (c .before .before .before .before .before .before .before .before .before .before .before .before .before .before .before .before .before .before .before .before .before .before .before .before .before .before .before .args .packet .now) (c .before .before .before .before .before .number2 .given .0 .1 .0)) (c .before .before .before .matrices-end .ensures) (c .before .matrices2 .given .1)
 
 returns : tie.Need-returns
 returns c =
     let a = c .before .before .before .before .before .before .before .before .before .before .before .before .args in
-    quant-refused _ _ _ _ _ (quant-ac (a .packet .now) (a .at) (place-refused (scales (a .packet .now) (a .at)) (c .before .before .before .before .before .read-scales .ensures .0) (c .before .first .given .1)))
+    quant-refused _ _ _ _ _ (quant-ac (a .packet .now) (a .at) (end-refused (scales (a .packet .now) (a .at)) (c .before .before .before .before .before .read-scales .ensures .0) (c .before .first .given .1)))
 
 enum-known-first-2 : tie.Need-enum-known-first-2
 enum-known-first-2 c = search needs
@@ -61,7 +62,7 @@ same-length-3 c = search needs
 returns-2 : tie.Need-returns-2
 returns-2 c =
     let a = c .before .before .before .before .before .before .before .before .before .before .before .before .before .before .before .before .before .before .before .args in
-    quant-refused _ _ _ _ _ (quant-dc (a .packet .now) (a .at) (ac-got (c .before .before .before .before .before .before .before) .1) (place-refused (scales (a .packet .now) (c .before .before .before .before .before .before .before .before .first2 .given .0 .0)) (c .before .before .before .before .before .read-scales2 .ensures .0) (c .before .second .given .1)))
+    quant-refused _ _ _ _ _ (quant-dc (a .packet .now) (a .at) (ac-got (c .before .before .before .before .before .before .before) .1) (end-refused (scales (a .packet .now) (c .before .before .before .before .before .before .before .before .first2 .given .0 .0)) (c .before .before .before .before .before .read-scales2 .ensures .0) (c .before .second .given .1)))
 
 enum-known-second-2 : tie.Need-enum-known-second-2
 enum-known-second-2 c = search needs
@@ -95,7 +96,7 @@ same-length-5 c = search needs
 returns-3 : tie.Need-returns-3
 returns-3 c =
     let a = c .before .before .before .before .before .before .before .before .before .before .before .before .before .before .before .before .before .before .before .before .before .before .before .before .before .before .before .args in
-    quant-refused _ _ _ _ _ (quant-matrices (a .packet .now) (a .at) (ac-got (c .before .before .before .before .before .before .before .before .before .before .before .before .before .before .before) .1) (dc-got (c .before .before .before .before .before .before .before .before) .1) (count-is (c .before .before .before .before)) (place-refused (many (c .before .before .before .before .before .number2 .given .0 .0) baseMatrix (a .packet .now) (c .before .before .before .before .before .number2 .given .0 .1 .0)) (c .before .before .before .matrices-end .ensures) (c .before .matrices .given .1)))
+    quant-refused _ _ _ _ _ (quant-matrices (a .packet .now) (a .at) (ac-got (c .before .before .before .before .before .before .before .before .before .before .before .before .before .before .before) .1) (dc-got (c .before .before .before .before .before .before .before .before) .1) (count-is (c .before .before .before .before)) (end-refused (many (c .before .before .before .before .before .number2 .given .0 .0) baseMatrix (a .packet .now) (c .before .before .before .before .before .number2 .given .0 .1 .0)) (c .before .before .before .matrices-end .ensures) (c .before .matrices .given .1)))
 
 enum-known-matrices-2 : tie.Need-enum-known-matrices-2
 enum-known-matrices-2 c = search needs
@@ -141,7 +142,7 @@ same-length-11 c = search needs
 returns-5 : tie.Need-returns-5
 returns-5 c =
     let a = c .before .before .before .before .before .before .before .before .before .before .before .before .before .before .before .before .before .before .before .before .before .before .before .before .before .before .before .before .before .before .before .before .before .before .before .before .before .args in
-    let s = place-refused (moreSets 6 (c .before .before .before .before .before .before .before .before .before .before .before .before .before .before .before .number2 .given .0 .0) [] (a .packet .now) (c .before .before .before .before .before .before .before .before .before .before .before .matrices2 .given .0 .0)) (c .before .before .before .before .before .before .before .read-sets .ensures .0) (c .before .sets .given .1) in
+    let s = end-refused (moreSets 6 (c .before .before .before .before .before .before .before .before .before .before .before .before .before .before .before .number2 .given .0 .0) [] (a .packet .now) (c .before .before .before .before .before .before .before .before .before .before .before .matrices2 .given .0 .0)) (c .before .before .before .before .before .before .before .read-sets .ensures .0) (c .before .sets .given .1) in
     quant-refused _ _ _ _ _ (quant-sets (a .packet .now) (a .at) (ac-got (c .before .before .before .before .before .before .before .before .before .before .before .before .before .before .before .before .before .before .before .before .before .before .before .before .before) .1) (dc-got (c .before .before .before .before .before .before .before .before .before .before .before .before .before .before .before .before .before .before) .1) (count-is (c .before .before .before .before .before .before .before .before .before .before .before .before .before .before)) (matrices-got (c .before .before .before .before .before .before .before .before .before .before) .1) s)
 
 same-length-12 : tie.Need-same-length-12
@@ -159,7 +160,7 @@ same-length-15 c = search needs
 returns-6 : tie.Need-returns-6
 returns-6 c =
     let a = c .before .before .before .before .before .before .before .before .before .before .before .before .before .before .before .before .before .before .before .before .before .before .before .before .before .before .before .before .before .before .before .before .before .before .before .before .before .args in
-    let s = place-at (moreSets 6 (c .before .before .before .before .before .before .before .before .before .before .before .before .before .before .before .number2 .given .0 .0) [] (a .packet .now) (c .before .before .before .before .before .before .before .before .before .before .before .matrices2 .given .0 .0)) (c .before .before .before .before .before .before .before .read-sets .ensures .0) (c .before .sets2 .given .1) in
+    let s = end-at (moreSets 6 (c .before .before .before .before .before .before .before .before .before .before .before .before .before .before .before .number2 .given .0 .0) [] (a .packet .now) (c .before .before .before .before .before .before .before .before .before .before .before .matrices2 .given .0 .0)) (c .before .before .before .before .before .before .before .read-sets .ensures .0) (c .before .sets2 .given .1) in
     quant-stored (quantization (a .packet .now) (a .at)) (moreSets 6 (c .before .before .before .before .before .before .before .before .before .before .before .before .before .before .before .number2 .given .0 .0) [] (a .packet .now) (c .before .before .before .before .before .before .before .before .before .before .before .matrices2 .given .0 .0)) _ _ _ _
     (quant-got (a .packet .now) (a .at) (ac-got (c .before .before .before .before .before .before .before .before .before .before .before .before .before .before .before .before .before .before .before .before .before .before .before .before .before) .1) (dc-got (c .before .before .before .before .before .before .before .before .before .before .before .before .before .before .before .before .before .before) .1) (count-is (c .before .before .before .before .before .before .before .before .before .before .before .before .before .before)) (matrices-got (c .before .before .before .before .before .before .before .before .before .before) .1) (s .1))
     (filled-is (scales (a .packet .now) (a .at)) _ (c .before .before .before .before .before .before .before .before .before .before .before .before .before .before .before .before .before .before .before .before .before .before .before .before .before .before .before .before .before .before .read-scales .ensures .1) (ac-got (c .before .before .before .before .before .before .before .before .before .before .before .before .before .before .before .before .before .before .before .before .before .before .before .before .before) .1))

@@ -8,7 +8,7 @@ use lib.ListN.{length}
 use Rattle.bitstream.specs.Reading.{got}
 use Rattle.bitstream.proofs.Fields.{read-got, read-refused}
 use Rattle.quantization.specs.Parameters.{origin}
-use Rattle.quantization.specs.Answer.{placeOf}
+use Rattle.quantization.specs.Answer.{endOf}
 use Rattle.quantization.proofs.Sets.{Sets, origin-is, sets-start, sets-done, sets-origin, sets-refused, sets-more, sets-bad, sets-long}
 use borrow.Author.Needs.{needs}
 use Rattle.quantization.proofs.read_sets.Statement.{statement}
@@ -35,8 +35,8 @@ enum-known-from c = search needs
 enum-told : tie.Need-enum-told Inv-loop μ-loop
 enum-told c = search needs
 
-place-of-requires : tie.Need-place-of-requires Inv-loop μ-loop
-place-of-requires c κs = search needs
+end-of-requires : tie.Need-end-of-requires Inv-loop μ-loop
+end-of-requires c κs = search needs
 
 same-length : tie.Need-same-length Inv-loop μ-loop
 same-length c = let g = sets-long _ _ _ _ _ _ _ (c .before .before .before .before .before .loop .inv .1) (c .before .before .before .before .before .loop .inv .0) in omega (arith, g .0, sizes-long (c .before .before .before .before .before .before .before .before .before .pre .3))
@@ -49,7 +49,7 @@ returns c =
     let l = c .before .before .before .before .before .loop in
     let a = c .before .before .before .before .before .before .before .before .before .args in
     let f = read-refused (origin (l .k) (a .packet .now) (l .place)) (c .before .before .before .read-origin .ensures) (c .before .enum-told .given .1) in
-    sets-bad _ _ _ (c .place-of .ensures ∙ ap placeOf (c .before .enum-told .given .1)) (sets-origin (a .count) (a .packet .now) (a .at) (l .place) (l .k) (l .sizes) (l .indices) (l .inv .1) (c .before .before .before .before .loop-test .taken) f)
+    sets-bad _ _ _ (c .end-of .ensures ∙ ap endOf (c .before .enum-told .given .1)) (sets-origin (a .count) (a .packet .now) (a .at) (l .place) (l .k) (l .sizes) (l .indices) (l .inv .1) (c .before .before .before .before .loop-test .taken) f)
 
 -- where the set comes from
 from-got : (c : tie.After-known-told Inv-loop μ-loop)
@@ -127,7 +127,7 @@ read-sets-spec =
     read-origin-requires
     enum-known-from
     enum-told
-    place-of-requires
+    end-of-requires
     same-length
     same-length-2
     returns

@@ -11,7 +11,7 @@ use Rattle.dc_prediction.specs.Planes.{predictedDc}
 use Rattle.loop_filter.specs.Filter.{filtered}
 use Rattle.loop_filter.specs.Flags.{codedBy}
 use Rattle.ways.specs.Loops.{over}
-use Rattle.ways.specs.Raster.{blockNo}
+use Rattle.geometry.specs.Raster.{blockNo}
 use Rattle.ways.specs.Ways.{filterAll}
 use Rattle.reconstruct.specs.Picture.{gathered, dcOf, sampleOf}
 use Rattle.reconstruct.specs.Lent.{blocksIn, matrixIn, putBlock}

@@ -16,7 +16,7 @@ use Rattle.block_record.specs.Packed.{unpacked}
 use Rattle.prediction.specs.Predicted.{summed}
 use Rattle.ways.specs.Loops.{over}
 use Rattle.ways.specs.Corner.{blockAt}
-use Rattle.ways.specs.Raster.{blockNo}
+use Rattle.geometry.specs.Raster.{blockNo}
 use Rattle.reconstruct.specs.Picture.{blockResidual, sampleOf}
 use Rattle.reconstruct.specs.Lent.{blocksIn, matrixIn, putBlock}
 use Rattle.reconstruct.proofs.Facts.{number-below, in-range, coded-sample, first-turn, all-turns}

@@ -14,7 +14,7 @@ use Rattle.block_record.specs.Record.{InRange}
 use Rattle.transform.specs.Residual.{residual}
 use Rattle.prediction.specs.Predicted.{summed}
 use Rattle.ways.specs.Corner.{blockAt}
-use Rattle.ways.proofs.Where.{number-of-block}
+use Rattle.geometry.proofs.RasterLaws.{number-of-block}
 use Rattle.reconstruct.specs.Picture.{typeOf, blockResidual}
 use Rattle.reconstruct.specs.Lent.{matrixIn}
 use borrow.Author.Needs.{needs}
@@ -22,16 +22,16 @@ use Rattle.reconstruct.proofs.write_coded.Statement.{statement}
 use Rattle.reconstruct.proofs.write_coded.Tie as tie
 
 module _ (c : tie.After-unpack) where
-  in-frame : InFrame (c .before .before .before .before .before .before .args .format) (c .before .before .before .before .before .before .args .w) (c .before .before .before .before .before .before .args .h) (c .before .block-with .result)
+  in-frame : InFrame (c .before .before .before .before .before .before .args .format) (c .before .before .before .before .before .before .args .w) (c .before .before .before .before .before .before .args .h) (c .before .raster-block .result)
   in-frame =
       let a = c .before .before .before .before .before .before .args in
-      subst (InFrame (a .format) (a .w) (a .h)) (sym (c .before .block-with .ensures)) (number-of-block (a .format) (a .w) (a .h) (a .n) (c .before .before .before .before .before .before .pre .2) .0)
+      subst (InFrame (a .format) (a .w) (a .h)) (sym (c .before .raster-block .ensures)) (number-of-block (a .format) (a .w) (a .h) (a .n) (c .before .before .before .before .before .before .pre .2) .0)
 
   in-range : InRange (c .unpack .result)
   in-range = subst InRange (sym (c .unpack .ensures)) (c .before .before .before .before .before .before .pre .3)
 
-block-with-requires : tie.Need-block-with-requires
-block-with-requires c κs = search needs
+raster-block-requires : tie.Need-raster-block-requires
+raster-block-requires c κs = search needs
 
 unpack-requires : tie.Need-unpack-requires
 unpack-requires c κs = search needs
@@ -56,9 +56,9 @@ unfolding blockResidual
 returns c =
     let s = c .before .before .before .before .before .before .before .before .before .before .before .before .before .before in
     let a = s .args in
-    let e = c .before .before .before .before .before .before .before .before .before .block-with .ensures in
+    let e = c .before .before .before .before .before .before .before .before .before .raster-block .ensures in
     let u = c .before .before .before .before .before .before .before .before .unpack .ensures in
-    let b = c .before .before .before .before .before .before .before .before .before .block-with .result in
+    let b = c .before .before .before .before .before .before .before .before .before .raster-block .result in
     let r = c .before .before .before .before .before .before .before .before .unpack .result in
     let m = matrixIn (a .matrices .now) in
     let l = c .before .before .before .before .before .before .residual-of .ensures
@@ -73,7 +73,7 @@ pub write-coded-spec : {M : Type 1} → statement M
 write-coded-spec =
     tie.close
     (tie.spec
-    block-with-requires
+    raster-block-requires
     unpack-requires
     slice-aggregate-residual-of
     residual-of-requires

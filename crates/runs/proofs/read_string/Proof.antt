@@ -4,17 +4,18 @@ use native.Mathlib.Omega.{arith}
 use mathlib.Core.Path.{_≡_, refl, sym, ap, _∙_}
 use mathlib.Core.List.{List}
 use lib.ListN.{length}
-use Rattle.bitstream.specs.Reading.{got, refused, field}
+use Rattle.bitstream.specs.Reading.{got}
 use Rattle.bitstream.proofs.Fields.{read-got, read-refused}
-use Rattle.runs.specs.Runs.{nextBit, run, fresh, bitString}
-use Rattle.runs.proofs.Facts.{filledTo, bit-most, run-some, Goes, goes-start, goes-done, goes-bit, goes-end, goes-past, goes-run, on-refusal, on-string}
+use Rattle.runs.specs.Runs.{nextBit, run, fresh}
+use Rattle.runs.proofs.Facts.{bit-most, run-some, Goes, goes-start, goes-done, goes-bit, goes-end, goes-past, goes-run}
+use Rattle.bitstream.proofs.Ends.{on-list, on-refusal}
 use borrow.Author.Needs.{needs}
 use Rattle.runs.proofs.read_string.Statement.{statement}
 use Rattle.runs.proofs.read_string.Tie as tie
 use Rattle.runs.proofs.read_string.Reads as reads
 use Rattle.runs.proofs.read_string.Lts as lts
 use Rattle.runs.proofs.bit_is_fresh.Reads as bit-is-fresh-reads
-use Rattle.runs.proofs.fill.Reads as fill-reads
+use Rattle.buffer.proofs.fill_bytes.Reads as fill-bytes-reads
 use Rattle.runs.proofs.next_bit.Reads as next-bit-reads
 use Rattle.runs.proofs.read_run.Reads as read-run-reads
 
@@ -78,11 +79,11 @@ same-length-3 c = search needs
 returns-3 : tie.Need-returns-3 Inv-loop μ-loop
 returns-3 c = let a = c .before .before .before .before .before .before .before .before .before .before .before .before .before .args in let l = c .before .before .before .before .before .before .before .before .before .before .loop in on-refusal _ _ (goes-past (a .code) (a .packet .now) (a .at) (length (a .out .now)) (l .out) (l .filled) (l .value) (l .fresh) (l .place) (l .inv .4) (l .inv .1) (c .before .before .before .before .before .before .before .before .before .loop-test .taken) (bit-got (c .before .before .before .before .before)) (run-got (c .before)) (c .if1 .taken))
 
-cast-fill : tie.Need-cast-fill Inv-loop μ-loop
-cast-fill c = omega (arith, bit-small (c .before .before .before .before .before .before))
+cast-fill-bytes : tie.Need-cast-fill-bytes Inv-loop μ-loop
+cast-fill-bytes c = omega (arith, bit-small (c .before .before .before .before .before .before))
 
-fill-requires : tie.Need-fill-requires Inv-loop μ-loop
-fill-requires c κs = search needs
+fill-bytes-requires : tie.Need-fill-bytes-requires Inv-loop μ-loop
+fill-bytes-requires c κs = search needs
 
 add-filled : tie.Need-add-filled Inv-loop μ-loop
 add-filled c = search needs
@@ -100,13 +101,13 @@ loop-less : tie.Need-loop-less Inv-loop μ-loop
 loop-less c = omega (arith, run-some _ _ _ _ _ (run-got (c .before .before .before .before .before .before)))
 
 loop-again : tie.Need-loop-again Inv-loop μ-loop
-loop-again c = let a = c .before .before .before .before .before .before .before .before .before .before .before .before .before .before .before .before .before .before .args in let l = c .before .before .before .before .before .before .before .before .before .before .before .before .before .before .before .loop in let w = c .before .before .before .fill in let n = w .kept .0 ∙ l .inv .0 in let g = goes-run (a .code) (a .packet .now) (a .at) (length (a .out .now)) (l .out) (l .filled) (l .value) (l .fresh) (l .place) (l .inv .4) (l .inv .1) (c .before .before .before .before .before .before .before .before .before .before .before .before .before .before .loop-test .taken) (bit-got (c .before .before .before .before .before .before .before .before .before .before)) (run-got (c .before .before .before .before .before .before)) (c .before .before .before .before .before .if1 .left) in (n, sym n, omega arith, omega (arith, bit-small (c .before .before .before .before .before .before .before .before .before .before)), rw (w .ensures, c .bit-is-fresh .ensures) g)
+loop-again c = let a = c .before .before .before .before .before .before .before .before .before .before .before .before .before .before .before .before .before .before .args in let l = c .before .before .before .before .before .before .before .before .before .before .before .before .before .before .before .loop in let w = c .before .before .before .fill-bytes in let n = w .kept .0 ∙ l .inv .0 in let g = goes-run (a .code) (a .packet .now) (a .at) (length (a .out .now)) (l .out) (l .filled) (l .value) (l .fresh) (l .place) (l .inv .4) (l .inv .1) (c .before .before .before .before .before .before .before .before .before .before .before .before .before .before .loop-test .taken) (bit-got (c .before .before .before .before .before .before .before .before .before .before)) (run-got (c .before .before .before .before .before .before)) (c .before .before .before .before .before .if1 .left) in (n, sym n, omega arith, omega (arith, bit-small (c .before .before .before .before .before .before .before .before .before .before)), rw (w .ensures, c .bit-is-fresh .ensures) g)
 
 same-length-4 : tie.Need-same-length-4 Inv-loop μ-loop
 same-length-4 c = search needs
 
 returns-4 : tie.Need-returns-4 Inv-loop μ-loop
-returns-4 c = let a = c .before .before .before .before .args in let l = c .before .loop in on-string _ _ (goes-done (a .code) (a .packet .now) (a .at) (length (a .out .now)) (l .out) (l .filled) (l .value) (l .fresh) (l .place) (l .inv .4) (l .inv .1) (c .loop-test .left) (l .inv .2))
+returns-4 c = let a = c .before .before .before .before .args in let l = c .before .loop in on-list _ _ (goes-done (a .code) (a .packet .now) (a .at) (length (a .out .now)) (l .out) (l .filled) (l .value) (l .fresh) (l .place) (l .inv .4) (l .inv .1) (c .loop-test .left) (l .inv .2))
 
 pub read-string-spec : {M : Type 1} → statement M
 read-string-spec =
@@ -129,8 +130,8 @@ read-string-spec =
     sub-if1
     same-length-3
     returns-3
-    cast-fill
-    fill-requires
+    cast-fill-bytes
+    fill-bytes-requires
     add-filled
     sub-value
     cast-value

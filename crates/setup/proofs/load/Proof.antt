@@ -6,10 +6,11 @@ use Rattle.bitstream.specs.Reading.{got, many}
 use Rattle.headers.specs.Judgement.{commonHeader}
 use Rattle.huffman.specs.Tree.{huffmanTree}
 use Rattle.quantization.specs.Parameters.{Quantization, quantization}
-use Rattle.quantization.proofs.Loops.{place-at, place-refused, filled-is}
+use Rattle.quantization.proofs.Loops.{filled-is}
+use Rattle.bitstream.proofs.Ends.{end-refused, end-at}
 use Rattle.setup.specs.Header.{loopLimits, setupHeader}
 use Rattle.setup.specs.Loaded.{asSetupRead}
-use Rattle.setup.proofs.Steps.{passed-to, passed-refused, parameters-read, parameters-refused, header-common, header-limits, header-parameters, header-trees, header-got, load-read}
+use Rattle.setup.proofs.Steps.{parameters-read, parameters-refused, header-common, header-limits, header-parameters, header-trees, header-got, load-read}
 use borrow.Author.Needs.{needs}
 use Rattle.setup.proofs.load.Statement.{statement}
 use Rattle.setup.proofs.load.Tie as tie
@@ -25,10 +26,10 @@ not-read-requires c κs = search needs
 
 -- the parts that were got
 head-got : (c : tie.After-known-told2) → (u : Unit {0}) × (commonHeader 0x82 (c .before .before .before .before .before .args .packet .now) 0 ≡ got u (c .before .head2 .given .0 .0))
-head-got c = passed-to (commonHeader 0x82 (c .before .before .before .before .before .args .packet .now) 0) (c .before .before .before .read-common-header .ensures) (c .before .head2 .given .1)
+head-got c = end-at (commonHeader 0x82 (c .before .before .before .before .before .args .packet .now) 0) (c .before .before .before .read-common-header .ensures) (c .before .head2 .given .1)
 
 limits-got : (c : tie.After-known-told4) → (l : List ℕ) × (loopLimits (c .before .before .before .before .before .before .before .before .before .before .before .args .packet .now) (c .before .before .before .before .before .before .before .head2 .given .0 .0) ≡ got l (c .before .first2 .given .0 .0))
-limits-got c = place-at (loopLimits (c .before .before .before .before .before .before .before .before .before .before .before .args .packet .now) (c .before .before .before .before .before .before .before .head2 .given .0 .0)) (c .before .before .before .before .read-limits .ensures .0) (c .before .first2 .given .1)
+limits-got c = end-at (loopLimits (c .before .before .before .before .before .before .before .before .before .before .before .args .packet .now) (c .before .before .before .before .before .before .before .head2 .given .0 .0)) (c .before .before .before .before .read-limits .ensures .0) (c .before .first2 .given .1)
 
 parameters-got : (c : tie.After-known-told6) → (q : Quantization) × (quantization (c .before .before .before .before .before .before .before .before .before .before .before .before .before .before .before .before .before .before .before .before .before .before .before .args .packet .now) (c .before .before .before .before .before .before .before .before .before .before .before .before .before .first2 .given .0 .0) ≡ got q (c .before .second2 .given .0 .1 .0)) × (q .matricesAt ≡ c .before .second2 .given .0 .0)
 parameters-got c = parameters-read (quantization (c .before .before .before .before .before .before .before .before .before .before .before .before .before .before .before .before .before .before .before .before .before .before .before .args .packet .now) (c .before .before .before .before .before .before .before .before .before .before .before .before .before .first2 .given .0 .0)) (c .before .before .before .before .before .before .before .read-parameters .ensures .0) (c .before .second2 .given .1)
@@ -36,7 +37,7 @@ parameters-got c = parameters-read (quantization (c .before .before .before .bef
 returns : tie.Need-returns
 returns c =
     let p = c .before .before .before .before .before .before .args .packet .now in
-    c .not-read .ensures ∙ ap asSetupRead (sym (header-common p (passed-refused (commonHeader 0x82 p 0) (c .before .before .before .before .read-common-header .ensures) (c .before .before .head .given .1))))
+    c .not-read .ensures ∙ ap asSetupRead (sym (header-common p (end-refused (commonHeader 0x82 p 0) (c .before .before .before .before .read-common-header .ensures) (c .before .before .head .given .1))))
 
 enum-known-head-2 : tie.Need-enum-known-head-2
 enum-known-head-2 c = search needs
@@ -56,7 +57,7 @@ not-read-requires-2 c κs = search needs
 returns-2 : tie.Need-returns-2
 returns-2 c =
     let p = c .before .before .before .before .before .before .before .before .before .before .before .before .args .packet .now in
-    c .not-read2 .ensures ∙ ap asSetupRead (sym (header-limits p (head-got (c .before .before .before .before .before .before .before) .1) (place-refused (loopLimits p (c .before .before .before .before .before .before .before .before .head2 .given .0 .0)) (c .before .before .before .before .before .read-limits .ensures .0) (c .before .before .first .given .1))))
+    c .not-read2 .ensures ∙ ap asSetupRead (sym (header-limits p (head-got (c .before .before .before .before .before .before .before) .1) (end-refused (loopLimits p (c .before .before .before .before .before .before .before .before .head2 .given .0 .0)) (c .before .before .before .before .before .read-limits .ensures .0) (c .before .before .first .given .1))))
 
 enum-known-first-2 : tie.Need-enum-known-first-2
 enum-known-first-2 c = search needs
@@ -108,12 +109,12 @@ returns-3 c =
 returns-4 : tie.Need-returns-4
 returns-4 c =
     let p = c .before .before .before .before .before .before .before .before .before .before .before .before .before .before .before .before .before .before .before .before .before .before .before .before .before .before .before .before .before .before .args .packet .now in
-    c .not-read4 .ensures ∙ ap asSetupRead (sym (header-trees p (head-got (c .before .before .before .before .before .before .before .before .before .before .before .before .before .before .before .before .before .before .before .before .before .before .before .before .before) .1) (limits-got (c .before .before .before .before .before .before .before .before .before .before .before .before .before .before .before .before .before .before .before) .1) (parameters-got (c .before .before .before .before .before .before .before) .1) (place-refused (many 80 huffmanTree p (c .before .before .before .before .before .before .before .before .second2 .given .0 .1 .0)) (c .before .before .before .before .before .read-trees .ensures .0) (c .before .before .third .given .1))))
+    c .not-read4 .ensures ∙ ap asSetupRead (sym (header-trees p (head-got (c .before .before .before .before .before .before .before .before .before .before .before .before .before .before .before .before .before .before .before .before .before .before .before .before .before) .1) (limits-got (c .before .before .before .before .before .before .before .before .before .before .before .before .before .before .before .before .before .before .before) .1) (parameters-got (c .before .before .before .before .before .before .before) .1) (end-refused (many 80 huffmanTree p (c .before .before .before .before .before .before .before .before .second2 .given .0 .1 .0)) (c .before .before .before .before .before .read-trees .ensures .0) (c .before .before .third .given .1))))
 
 returns-5 : tie.Need-returns-5
 returns-5 c =
     let p = c .before .before .before .before .before .before .before .before .before .before .before .before .before .before .before .before .before .before .before .before .before .before .before .before .before .before .before .before .before .args .packet .now in
-    let t = place-at (many 80 huffmanTree p (c .before .before .before .before .before .before .before .second2 .given .0 .1 .0)) (c .before .before .before .before .read-trees .ensures .0) (c .before .third2 .given .1) in
+    let t = end-at (many 80 huffmanTree p (c .before .before .before .before .before .before .before .second2 .given .0 .1 .0)) (c .before .before .before .before .read-trees .ensures .0) (c .before .third2 .given .1) in
     load-read (setupHeader p 0) (quantization p (c .before .before .before .before .before .before .before .before .before .before .before .before .before .before .before .before .before .before .before .first2 .given .0 .0)) (many 80 huffmanTree p (c .before .before .before .before .before .before .before .second2 .given .0 .1 .0)) _ _ _ _ _ _
     (header-got p (head-got (c .before .before .before .before .before .before .before .before .before .before .before .before .before .before .before .before .before .before .before .before .before .before .before .before) .1) (limits-got (c .before .before .before .before .before .before .before .before .before .before .before .before .before .before .before .before .before .before) .1) (parameters-got (c .before .before .before .before .before .before) .1) (t .1))
     (filled-is (loopLimits p (c .before .before .before .before .before .before .before .before .before .before .before .before .before .before .before .before .before .before .before .before .before .before .before .before .before .head2 .given .0 .0)) _ (c .before .before .before .before .before .before .before .before .before .before .before .before .before .before .before .before .before .before .before .before .before .before .read-limits .ensures .1) (limits-got (c .before .before .before .before .before .before .before .before .before .before .before .before .before .before .before .before .before .before) .1))

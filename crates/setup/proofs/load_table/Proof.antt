@@ -2,7 +2,7 @@
 use Prim.Native.Nat.{_-_}
 use native.Mathlib.Omega.{arith}
 use mathlib.Core.Path.{sym, ap, _∙_}
-use Rattle.quantization.proofs.Loops.{place-at, place-refused}
+use Rattle.bitstream.proofs.Ends.{end-refused, end-at}
 use Rattle.setup.specs.Header.{setupHeader}
 use Rattle.setup.specs.declared.SetupRead.{SetupRead}
 use Rattle.setup.proofs.Calls.{not-length, not-read, is-read, held-not, held-is}
@@ -35,7 +35,7 @@ returns-2 : tie.Need-returns-2
 returns-2 c =
     let t = c .before .before .before .before .before .before .before .before .args .table .now in
     let l = c .before .before .before .before .before .load .ensures in
-    let g = place-at (setupHeader t 0) (ap (λ (x : SetupRead). x .place) l) (c .before .before .before .place .given .1) in
+    let g = end-at (setupHeader t 0) (ap (λ (x : SetupRead). x .place) l) (c .before .before .before .place .given .1) in
     held-is t (sym (c .if2 .taken) ∙ c .before .rest-is-zero .ensures ∙ is-read t (c .before .before .before .before .before .before .if1 .left) (g .1)) l
 
 not-read-requires-3 : tie.Need-not-read-requires-3
@@ -44,12 +44,12 @@ not-read-requires-3 c κs = search needs
 returns-3 : tie.Need-returns-3
 returns-3 c =
     let t = c .before .before .before .before .before .before .args .table .now in
-    held-not t (not-read t (c .before .before .before .before .if1 .left) (place-refused (setupHeader t 0) (ap (λ (x : SetupRead). x .place) (c .before .before .before .load .ensures)) (c .before .enum-told .given .1))) (c .not-read2 .ensures)
+    held-not t (not-read t (c .before .before .before .before .if1 .left) (end-refused (setupHeader t 0) (ap (λ (x : SetupRead). x .place) (c .before .before .before .load .ensures)) (c .before .enum-told .given .1))) (c .not-read2 .ensures)
 
 returns-4 : tie.Need-returns-4
 returns-4 c =
     let t = c .before .before .before .before .before .before .before .before .before .args .table .now in
-    let g = place-at (setupHeader t 0) (ap (λ (x : SetupRead). x .place) (c .before .before .before .before .before .before .load .ensures)) (c .before .before .before .before .place .given .1) in
+    let g = end-at (setupHeader t 0) (ap (λ (x : SetupRead). x .place) (c .before .before .before .before .before .before .load .ensures)) (c .before .before .before .before .place .given .1) in
     held-not t (sym (c .before .if2 .left) ∙ c .before .before .rest-is-zero .ensures ∙ is-read t (c .before .before .before .before .before .before .before .if1 .left) (g .1)) (c .not-read3 .ensures)
 
 pub load-table-spec : {M : Type 1} → statement M

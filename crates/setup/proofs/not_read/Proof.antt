@@ -1,5 +1,5 @@
 -- `setup::not_read` meets its contract. Assumes nothing.
-use Rattle.quantization.specs.declared.Place.the-variants.{Refused}
+use Rattle.bitstream.specs.declared.End.the-variants.{Refused}
 use borrow.Author.Needs.{needs}
 use Rattle.setup.proofs.not_read.Statement.{statement}
 use Rattle.setup.proofs.not_read.Tie as tie

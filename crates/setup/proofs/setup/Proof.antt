@@ -5,7 +5,7 @@ use mathlib.Core.Path.{ap, _∙_, subst⁻¹}
 use mathlib.Core.List.{List}
 use lib.ListN.{length}
 use Rattle.bitstream.proofs.Spends.{readable-short}
-use Rattle.quantization.specs.Answer.{asPlace}
+use Rattle.bitstream.specs.Answer.{asEnd}
 use Rattle.setup.specs.Header.{setupHeader}
 use Rattle.setup.proofs.Calls.{whole-read, whole-refused, header-end, call-length, call-refused, call-accepted}
 use borrow.Author.Needs.{needs}
@@ -33,7 +33,7 @@ enum-known-answer-2 c = search needs
 keep-requires : tie.Need-keep-requires
 keep-requires c κs =
     let a = c .before .before .before .before .before .before .before .before .before .args in
-    let e = c .before .before .before .before .scan .ensures ∙ ap (λ (x : List ℕ). asPlace (setupHeader x 0)) (c .before .before .before .before .before .readable .ensures) in
+    let e = c .before .before .before .before .scan .ensures ∙ ap (λ (x : List ℕ). asEnd (setupHeader x 0)) (c .before .before .before .before .before .readable .ensures) in
     (header-end (a .packet .now) (whole-read (a .packet .now) e (c .before .before .answer2 .given .1) .1), omega (arith, c .before .before .before .before .before .before .if1 .left))
 
 same-length : tie.Need-same-length
@@ -42,7 +42,7 @@ same-length c = c .before .before .clear .kept .0
 returns-2 : tie.Need-returns-2
 returns-2 c =
     let a = c .before .before .before .before .before .before .before .before .before .before .before .before .args in
-    let e = c .before .before .before .before .before .before .before .scan .ensures ∙ ap (λ (x : List ℕ). asPlace (setupHeader x 0)) (c .before .before .before .before .before .before .before .before .readable .ensures) in
+    let e = c .before .before .before .before .before .before .before .scan .ensures ∙ ap (λ (x : List ℕ). asEnd (setupHeader x 0)) (c .before .before .before .before .before .before .before .before .readable .ensures) in
     call-refused (a .table .now) (a .packet .now) (c .before .before .before .before .before .before .before .before .before .if1 .left) _ (whole-refused (a .packet .now) e (c .before .before .before .before .before .answer .given .1)) (c .before .before .clear .ensures)
 
 same-length-2 : tie.Need-same-length-2
@@ -51,7 +51,7 @@ same-length-2 c = c .before .before .keep .kept .1 .1 .0
 returns-3 : tie.Need-returns-3
 returns-3 c =
     let a = c .before .before .before .before .before .before .before .before .before .before .before .before .args in
-    let e = c .before .before .before .before .before .before .before .scan .ensures ∙ ap (λ (x : List ℕ). asPlace (setupHeader x 0)) (c .before .before .before .before .before .before .before .before .readable .ensures) in
+    let e = c .before .before .before .before .before .before .before .scan .ensures ∙ ap (λ (x : List ℕ). asEnd (setupHeader x 0)) (c .before .before .before .before .before .before .before .before .readable .ensures) in
     call-accepted (a .table .now) (a .packet .now) (c .before .before .before .before .before .before .before .before .before .if1 .left) _ (whole-read (a .packet .now) e (c .before .before .before .before .before .answer2 .given .1) .1) (c .before .before .keep .ensures)
 
 pub setup-spec : {M : Type 1} → statement M

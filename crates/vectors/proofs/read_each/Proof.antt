@@ -60,7 +60,7 @@ same-length : tie.Need-same-length Inv-loop μ-loop
 same-length c = search needs
 
 returns : tie.Need-returns Inv-loop μ-loop
-returns c = let a = c .before .before .before .before .before .before .before .before .before .before .before .before .before .before .before .before .args in let l = c .before .before .before .before .before .before .before .before .before .before .loop in on-each-refused _ _ (l .inv .5 ∙ each-end (a .format) (a .w) (a .h) (a .code) (a .modes .now) (a .packet .now) (length (a .modes .now)) (l .m) (l .place) (stateOf (l .records) (l .last) (l .last2)) (c .before .before .before .before .before .before .before .before .before .loop-test .taken) (sym (here (c .before .before .before .before .before)) ∙ step-refused _ (c .before .before .before .before .before .read-macro-block .ensures .0) (c .before .step .given .1)))
+returns c = let a = c .before .before .before .before .before .before .before .before .before .before .before .before .before .before .before .before .args in let l = c .before .before .before .before .before .before .before .before .before .before .loop in on-each-refused (c .before .before .before .before .before .read-macro-block .last .1 .1 .1 .1 .1 .1 .1 .1 .1 .1 .0) _ (l .inv .5 ∙ each-end (a .format) (a .w) (a .h) (a .code) (a .modes .now) (a .packet .now) (length (a .modes .now)) (l .m) (l .place) (stateOf (l .records) (l .last) (l .last2)) (c .before .before .before .before .before .before .before .before .before .loop-test .taken) (sym (here (c .before .before .before .before .before)) ∙ step-refused _ (c .before .before .before .before .before .read-macro-block .ensures .0) (c .before .step .given .1)))
 
 enum-known-step-2 : tie.Need-enum-known-step-2 Inv-loop μ-loop
 enum-known-step-2 c = search needs

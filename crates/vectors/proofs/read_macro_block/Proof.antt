@@ -49,7 +49,7 @@ same-length : tie.Need-same-length
 same-length c = search needs
 
 returns : tie.Need-returns
-returns c = let a = c .before .before .before .before .before .before .before .before .before .before .before .before .before .before .args in on-step-refused _ _ (macro-end (a .format) (a .w) (a .h) (a .code) (a .mode) (a .q) (stateOf (a .records .now) (a .last) (a .last2)) (a .packet .now) (a .at) (sym (flags (c .before .before .before .before)) ∙ moved-refused _ (c .before .before .before .read-motion .ensures) (c .before .moved .given .1)))
+returns c = let a = c .before .before .before .before .before .before .before .before .before .before .before .before .before .before .args in on-step-refused (a .records .now) _ (macro-end (a .format) (a .w) (a .h) (a .code) (a .mode) (a .q) (stateOf (a .records .now) (a .last) (a .last2)) (a .packet .now) (a .at) (sym (flags (c .before .before .before .before)) ∙ moved-refused _ (c .before .before .before .read-motion .ensures) (c .before .moved .given .1)))
 
 same-length-2 : tie.Need-same-length-2
 same-length-2 c = search needs

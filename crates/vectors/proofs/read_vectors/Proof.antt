@@ -2,11 +2,11 @@
 use Prim.Native.Nat.{_-_}
 use mathlib.Core.Path.{_≡_}
 use mathlib.Core.List.{map}
+use Rattle.bitstream.proofs.Ends.{on-refused}
 use Rattle.bitstream.specs.Reading.{got, field}
 use Rattle.bitstream.proofs.Fields.{read-got, read-refused}
 use Rattle.block_record.specs.Packed.{packed}
 use Rattle.block_record.specs.Memory.{recordsOf}
-use Rattle.runs.proofs.Facts.{on-refusal-as}
 use Rattle.vectors.specs.Vectors.{vectors}
 use Rattle.vectors.proofs.Records.{all-end, all-refused, all-got, on-vectors}
 use borrow.Author.Needs.{needs}
@@ -29,7 +29,7 @@ read-each-requires : tie.Need-read-each-requires
 read-each-requires c κs = search needs
 
 returns : tie.Need-returns
-returns c = let a = c .before .before .before .before .before .before .before .args in on-refusal-as (map packed) _ _ (all-end (a .format) (a .w) (a .h) (a .modes .now) (recordsOf (a .records .now)) (a .packet .now) (a .at) (read-refused (field 1 (a .packet .now) (a .at)) (c .before .before .before .read .ensures) (c .before .bit .given .1)))
+returns c = let a = c .before .before .before .before .before .before .before .args in on-refused (λ rs. a .records .now ≡ map packed rs) (vectors (a .format) (a .w) (a .h) (a .modes .now) (recordsOf (a .records .now)) (a .packet .now) (a .at)) (all-end (a .format) (a .w) (a .h) (a .modes .now) (recordsOf (a .records .now)) (a .packet .now) (a .at) (read-refused (field 1 (a .packet .now) (a .at)) (c .before .before .before .read .ensures) (c .before .bit .given .1)))
 
 same-length : tie.Need-same-length
 same-length c = search needs

@@ -1,16 +1,16 @@
--- `prediction::copy_row` meets its contract. The loop's invariant: c of the 8 samples are copied.
+-- `ways::copy_row` meets its contract. The loop's invariant: c of the 8 samples are copied.
 -- Assumes nothing.
 use mathlib.Core.Path.{_≡_, refl, sym, ap, _∙_}
 use mathlib.Core.List.{List}
 use Prim.Native.Nat.{ℕ, _+_, _-_, _≤_}
 use native.Mathlib.Omega.{arith}
 use lib.ListN.{length, getD, set, length-set}
 use Rattle.ways.specs.Loops.{upTo}
 use Rattle.ways.specs.Corner.{rowAt}
 use Rattle.ways.proofs.Steps.{upTo-more}
 use borrow.Author.Needs.{needs}
-use Rattle.prediction.proofs.copy_row.Statement.{statement}
-use Rattle.prediction.proofs.copy_row.Tie as tie
+use Rattle.ways.proofs.copy_row.Statement.{statement}
+use Rattle.ways.proofs.copy_row.Tie as tie
 
 -- the sample in column c
 abbrev put : List ℕ → ℕ → ℕ → ℕ → List ℕ → List ℕ

@@ -9,8 +9,8 @@ use lib.Dec.{eqb}
 use lib.ListN.{length, getD, set, take, drop, replicate}
 use lib.Seq.{drop-cons, take-at}
 use borrow.Author.Tests.{eq-eqb, ne-eqb}
 use Rattle.bitstream.specs.Reading.{choose}
-use Rattle.runs.specs.Lists.{All, none, one, Other, Once, empty, more}
+use Rattle.bitstream.specs.Lists.{All, none, one, Other, Once, empty, more}
 
 -- a choice by two numbers
 module _ {X : Type 0} (a b : ℕ) (x y : X) where

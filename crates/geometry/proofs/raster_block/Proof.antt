@@ -1,16 +1,16 @@
--- `reconstruct::block_with` meets its contract.
+-- `geometry::raster_block` meets its contract.
 -- Assumes nothing.
 use mathlib.Core.Path.{_≡_, _∙_}
 use Prim.Native.Nat.{ℕ, _-_, _/_, _%_, _≤_, _<_}
 use native.Mathlib.Omega.{arith}
 use Rattle.geometry.specs.declared.Plane.{Plane}
 use Rattle.geometry.specs.Frame.{block}
-use Rattle.ways.specs.Raster.{blockNo}
+use Rattle.geometry.specs.Raster.{blockNo}
 use Rattle.geometry.proofs.SizeLaws.{before-luma, before-all}
-use Rattle.reconstruct.proofs.Facts.{first-number, number-in}
+use Rattle.geometry.proofs.RasterLaws.{first-number, number-in}
 use borrow.Author.Needs.{needs}
-use Rattle.reconstruct.proofs.block_with.Statement.{statement}
-use Rattle.reconstruct.proofs.block_with.Tie as tie
+use Rattle.geometry.proofs.raster_block.Statement.{statement}
+use Rattle.geometry.proofs.raster_block.Tie as tie
 
 -- number n of plane p, which q is
 abbrev In : tie.Start → ℕ → Plane → Type 0
@@ -63,8 +63,8 @@ block-in-requires-3 c κs = let t = in-cr c in (t .1, t .0)
 returns-3 : tie.Need-returns-3
 returns-3 c = c .block-in3 .ensures ∙ in-cr (c .before) .2
 
-pub block-with-spec : {M : Type 1} → statement M
-block-with-spec =
+pub raster-block-spec : {M : Type 1} → statement M
+raster-block-spec =
     tie.close
     (tie.spec
     plane-of-requires
