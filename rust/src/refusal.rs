@@ -10,7 +10,7 @@ pub struct Refusal {
     /// The number.
     pub number: u32,
     /// The bit place in the packet of the first bit of the field at fault, from
-    /// 0; 0 where no field of a packet is (1, 8, 14, 17, 18, 255).
+    /// 0; 0 where no field of a packet is (1, 8, 14, 17 to 21, 255).
     pub place: u64,
 }
 
@@ -45,13 +45,19 @@ impl Refusal {
     pub const RUN: Refusal = Refusal::by(12);
     /// A token moves its block past position 64.
     pub const TOKEN: Refusal = Refusal::by(13);
-    /// The lent output is too short.
+    /// The lent output, or the plane buffer for a stream's frames, is too short.
     pub const OUTPUT: Refusal = Refusal::by(14);
     /// A key frame more than 64 bits count, or so many other packets since the
     /// last one that they would not stay below 2 to the power KFGSHIFT.
     pub const COUNT_PASSED: Refusal = Refusal::by(17);
     /// CS is neither 1 nor 2.
     pub const COLOUR_SPACE: Refusal = Refusal::by(18);
+    /// A reader for version 1 is given settings of version 2.
+    pub const LATER_SETTINGS: Refusal = Refusal::by(19);
+    /// Settings, their text or the version are not as they must be.
+    pub const SETTINGS: Refusal = Refusal::by(20);
+    /// The stream is none that the writer writes.
+    pub const STREAM: Refusal = Refusal::by(21);
     /// The frame has no such block, macro block or sample, or there is no such
     /// type, plane or qi.
     pub const ABSENT: Refusal = Refusal::by(255);
@@ -100,6 +106,12 @@ impl Refusal {
                  or the packets since the last one would reach 2 to the power KFGSHIFT"
             }
             18 => "CS is neither 1 nor 2",
+            19 => "a reader for version 1 is given a text that begins with the line version=2",
+            20 => {
+                "settings out of range, plane 1 or 2 as version 1, a version other than 1 and 2, \
+                 or a text that is none of the reader's version"
+            }
+            21 => "the stream is none that the writer of frames writes",
             255 => {
                 "the frame has no such block, macro block or sample, \
                  or there is no such type, plane or qi"

@@ -1,10 +1,10 @@
 //! How one frame is shown: in colour by the library's proved call, as a PNG or
 //! PPM file, or its luma alone.
 
+use crate::cut::Cut;
 use crate::output::Trouble;
 use crate::png::{self, Samples};
 use crate::target::Target;
-use crate::y4m::Y4m;
 use std::ffi::OsStr;
 use std::io::{self, Write};
 use std::path::Path;
@@ -35,8 +35,8 @@ impl Look {
         frame: Frame<'_>,
     ) -> Result<(), Trouble> {
         if self.grey {
-            let y4m = Y4m::of(session).map_err(Trouble::Unfit)?;
-            let (width, rows) = y4m.luma(frame);
+            let cut = Cut::of(session).map_err(Trouble::Unfit)?;
+            let (width, rows) = cut.luma(frame);
             target.open()?;
             return Ok(target.write(|out| png::write(out, Samples::Grey, width, &rows))?);
         }

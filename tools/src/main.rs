@@ -2,8 +2,10 @@
 
 mod arguments;
 mod clock;
+mod cut;
 mod decode;
 mod fields;
+mod film;
 mod index;
 mod info;
 mod input;
@@ -12,6 +14,7 @@ mod json;
 mod layout;
 mod left;
 mod look;
+mod mapped;
 mod memory;
 mod output;
 mod packets;
@@ -19,16 +22,17 @@ mod places;
 mod png;
 mod progress;
 mod sample;
+mod settings;
 mod summary;
 mod target;
 mod work;
-mod y4m;
 
 use arguments::{Job, Wanted};
 use decode::{AfterGap, Request};
 use index::Index;
 use input::{Input, is_same_file};
 use look::Look;
+use mapped::Mapped;
 use memory::Limit;
 use output::{Folder, Output, Trouble};
 use recording::{Choice, Fault, packet_file};
@@ -38,6 +42,7 @@ use std::io::{self, ErrorKind, Write};
 use std::path::Path;
 use std::process::ExitCode;
 use target::{Target, is_standard};
+use wedgepetal::Settings;
 
 /// Why the command fails.
 enum Failure {
@@ -144,6 +149,9 @@ fn perform(job: &Job) -> Result<Said, Failure> {
         "packets" => write_packets(job),
         "work" => measure(job),
         "sample" => write_sample(job),
+        "y4m check" => check_film(job),
+        "settings check" => check_settings(job),
+        "settings write" => write_settings(job),
         _ => decode_recording(job),
     }
 }
@@ -220,6 +228,7 @@ fn request(job: &Job, out: &Path) -> Result<Request, Failure> {
             let target = Target::plan(out, force).map_err(Failure::File)?;
             match verb {
                 "y4m" => Output::Film(target, None),
+                "cut" => Output::Cut(target, None),
                 "picture" => {
                     let frame = parsed(job, "--frame", |text| text.parse().ok())?;
                     let space = parsed(job, "--colour-space", |text| text.parse().ok())?;
@@ -294,6 +303,80 @@ fn write_packets(job: &Job) -> Result<Said, Failure> {
         output_taken: is_standard(out) || job.has("--quiet"),
         clean: written.is_clean(),
     })
+}
+
+/// What is said of a file that is read.
+fn name(path: &Path) -> String {
+    match is_standard(path) {
+        true => "standard input".to_string(),
+        false => path.display().to_string(),
+    }
+}
+
+/// Says what a stream of frames holds.
+fn check_film(job: &Job) -> Result<Said, Failure> {
+    let path = Path::new(&job.words[0]);
+    let limit = Limit::new(parsed(job, "--max-memory", memory::parse)?);
+    let checked = film::check(&Mapped::open(path, &limit)?);
+    let text = match (job.has("--json"), job.has("--quiet")) {
+        (true, _) => format!("{}\n", checked.json(&name(path))),
+        (false, true) => checked.faults(&name(path)),
+        (false, false) => checked.text(&name(path)),
+    };
+    Ok(Said {
+        text,
+        output_taken: job.has("--quiet"),
+        clean: checked.is_clean(),
+    })
+}
+
+/// Says what settings hold.
+fn check_settings(job: &Job) -> Result<Said, Failure> {
+    let path = Path::new(&job.words[0]);
+    let version = number(job, "--version")?.unwrap_or(2);
+    let text = Mapped::open(path, &Limit::new(None))?;
+    let checked = settings::check(version, &text);
+    let text = match (job.has("--json"), job.has("--quiet")) {
+        (true, _) => format!("{}\n", checked.json(&name(path))),
+        (false, true) => checked.faults(&name(path)),
+        (false, false) => checked.text(&name(path)),
+    };
+    Ok(Said {
+        text,
+        output_taken: job.has("--quiet"),
+        clean: checked.is_clean(),
+    })
+}
+
+/// Writes settings.
+fn write_settings(job: &Job) -> Result<Said, Failure> {
+    let out = Path::new(&job.words[0]);
+    let wanted = |name: &str| {
+        let text = format!("settings write: {name} N is missing");
+        number(job, name)?.ok_or(Failure::Usage(text))
+    };
+    let settings = Settings {
+        tile: wanted("--tile")?,
+        shot_first: wanted("--shot-first")?,
+        shot_last: wanted("--shot-last")?,
+        plane: number(job, "--plane")?.unwrap_or(0),
+    };
+    let version = number(job, "--version")?.unwrap_or(2);
+    let text = settings::text(version, &settings).map_err(Failure::Refused)?;
+    target::write_file(out, job.has("--force"), text.as_bytes()).map_err(Failure::File)?;
+    Ok(Said {
+        text: match job.has("--quiet") {
+            true => String::new(),
+            false => target::said(out, format!("{} bytes written\n", text.len())),
+        },
+        output_taken: is_standard(out),
+        clean: true,
+    })
+}
+
+/// The value of an option that is a whole number.
+fn number(job: &Job, name: &str) -> Result<Option<u64>, Failure> {
+    parsed(job, name, |text| text.parse().ok())
 }
 
 /// Writes the sample in the form that its name asks for.
