@@ -355,6 +355,75 @@ static void try_rgb(void)
            WEDGEPETAL_SESSION);
 }
 
+/* A stream of two frames, whole and in pieces, and back. */
+static void try_streams(void)
+{
+    static const char first_line[] = "YUV4MPEG2 W16 H16 F25:1 Ip A0:0 C420jpeg\n";
+    uint64_t session[WEDGEPETAL_SESSION_NUMBERS] = {0, 1, 1, 16, 16, 0, 0, 25, 1, 0, 7, 0, 0, 0, 0, 0, 0, 0, 0};
+    uint64_t written[1] = {0}, film[WEDGEPETAL_FILM_NUMBERS] = {0};
+    uint8_t frames[768], out[900], pieces[900], back[800];
+    const size_t s = WEDGEPETAL_SESSION_NUMBERS;
+    size_t at;
+
+    for (at = 0; at < sizeof frames; at++) {
+        frames[at] = (uint8_t)(at * 5 / 3);
+    }
+    memset(out, 7, sizeof out);
+    memset(back, 7, sizeof back);
+    expect("no whole frames", wedgepetal_y4m_write(session, s, frames, 767, out, 0, written, 1),
+           WEDGEPETAL_LENGTH);
+    expect("short output", wedgepetal_y4m_write(session, s, frames, 768, out, 820, written, 1),
+           WEDGEPETAL_OUTPUT);
+    expect("nothing written", out[0] + written[0], 7);
+    expect("y4m_write", wedgepetal_y4m_write(session, s, frames, 768, out, 821, written, 1), 0);
+    expect("bytes", written[0], 41 + 2 * 390);
+    expect("behind it", out[821], 7);
+    expect("the first line", (uint64_t)memcmp(out, first_line, 41), 0);
+    expect("the top row", (uint64_t)memcmp(out + 47, frames + 240, 16), 0);
+    expect("y4m_header", wedgepetal_y4m_header(session, s, pieces, WEDGEPETAL_Y4M_HEADER_BYTES, written, 1), 0);
+    at = written[0];
+    expect("y4m_frame", wedgepetal_y4m_frame(session, s, frames, 384, pieces + at, 390, written, 1), 0);
+    at += written[0];
+    expect("another", wedgepetal_y4m_frame(session, s, frames + 384, 384, pieces + at, 390, written, 1), 0);
+    expect("the pieces", (uint64_t)memcmp(out, pieces, 821), 0);
+    expect("cut", wedgepetal_y4m_read(out, 820, back, 0, film, WEDGEPETAL_FILM_NUMBERS), WEDGEPETAL_STREAM);
+    expect("short planes", wedgepetal_y4m_read(out, 821, back, 767, film, WEDGEPETAL_FILM_NUMBERS),
+           WEDGEPETAL_OUTPUT);
+    expect("short list", wedgepetal_y4m_read(out, 820, back, 0, film, 7), WEDGEPETAL_LENGTH);
+    expect("nothing read", back[0] + film[0], 7);
+    expect("y4m_read", wedgepetal_y4m_read(out, 821, back, sizeof back, film, WEDGEPETAL_FILM_NUMBERS), 0);
+    expect("width", film[WEDGEPETAL_FILM_WIDTH], 16);
+    expect("PARD", film[WEDGEPETAL_FILM_PARD], 0);
+    expect("frames", film[WEDGEPETAL_FILM_FRAMES], 2);
+    expect("the planes", (uint64_t)memcmp(frames, back, 768), 0);
+    expect("behind them", back[768], 7);
+}
+
+/* The paper's text there and back, and the refusals. */
+static void try_settings(void)
+{
+    static const char text[] = "version=1\ntile=8\nshot_first=0\nshot_last=9\n";
+    uint64_t settings[WEDGEPETAL_SETTINGS_NUMBERS] = {8, 0, 9, 1}, written[1] = {0};
+    uint8_t out[WEDGEPETAL_SETTINGS_BYTES];
+    const size_t n = WEDGEPETAL_SETTINGS_NUMBERS;
+
+    expect("plane 1 as version 1", wedgepetal_settings_write(1, settings, n, out, 0, written, 1),
+           WEDGEPETAL_SETTINGS);
+    expect("as version 2", wedgepetal_settings_write(2, settings, n, out, sizeof out, written, 1), 0);
+    expect("for version 1", wedgepetal_settings_read(1, out, written[0], settings, n),
+           WEDGEPETAL_LATER_SETTINGS);
+    expect("cut", wedgepetal_settings_read(2, out, written[0] - 1, settings, n), WEDGEPETAL_SETTINGS);
+    expect("in use", settings[WEDGEPETAL_PLANE], 1);
+    expect("settings_read", wedgepetal_settings_read(2, (const uint8_t *)text, sizeof text - 1, settings, n), 0);
+    expect("as plane 0", settings[WEDGEPETAL_PLANE], 0);
+    expect("short output", wedgepetal_settings_write(1, settings, n, out, sizeof text - 2, written, 1),
+           WEDGEPETAL_OUTPUT);
+    expect("settings_write", wedgepetal_settings_write(1, settings, n, out, sizeof out, written, 1), 0);
+    expect("its bytes", written[0], sizeof text - 1);
+    expect("the text", (uint64_t)memcmp(out, text, sizeof text - 1), 0);
+    expect("short list", wedgepetal_settings_read(2, out, 0, settings, n - 1), WEDGEPETAL_LENGTH);
+}
+
 int main(void)
 {
     uint64_t session[WEDGEPETAL_SESSION_NUMBERS] = {0};
@@ -406,6 +475,8 @@ int main(void)
     try_table();
     try_frames(session);
     try_rgb();
+    try_streams();
+    try_settings();
     if (failures == 0) {
         puts("the C face answers as it should");
     }
