@@ -15,19 +15,26 @@ import sys
 ROUNDS = 9
 
 
+def high_water(process):
+    """The most memory that a process has had so far, in kB. (What the system says at its end counts this program's too.)"""
+    with open(f"/proc/{process}/status") as status:
+        return next((int(line.split()[1]) for line in status if line.startswith("VmHWM")), 0)
+
+
 def measured(words):
     """Processor seconds, peak memory in MB, and bytes written."""
     out, into = os.pipe()
     process = subprocess.Popen(words, stdin=subprocess.DEVNULL, stdout=into, stderr=subprocess.DEVNULL)
     os.close(into)
-    count = 0
+    count, peak = 0, 0
     while piece := os.read(out, 1 << 20):
         count += len(piece)
+        peak = max(peak, high_water(process.pid))
     os.close(out)
     _, status, used = os.wait4(process.pid, 0)
     if status != 0:
         sys.exit(f"film.py: {' '.join(words)}: status {status}")
-    return used.ru_utime + used.ru_stime, used.ru_maxrss / 1024, count
+    return used.ru_utime + used.ru_stime, peak / 1024, count
 
 
 def main():

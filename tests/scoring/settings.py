@@ -69,7 +69,7 @@ def draw(rng):
 def main():
     full = "--full" in sys.argv[2:]
     library, rng = Library(sys.argv[1]), random.Random(10)
-    values = [(8, 0, 9, 0), (16, 0, 0, 1), (32, 999999, 999999, 2), (8, 10, 100, 0), (16, 99999, 100000, 1), (32, 1, 10, 2)]
+    values = [(8, 0, 9, 0), (16, 0, 0, 1), (32, 999999, 999999, 2), (8, 10, 100, 0), (16, 99999, 100000, 1), (32, 1, 10, 2), (16, 7, 999999, 0)]
     texts = [t for s in values for v in (1, 2) if (t := second_writer(v, *s))]
     texts += [b"version=2\n", b"version=1\ntile=8\nshot_first=10\nshot_last=9\n", b"version=2\ntile=8\nshot_first=10\nshot_last=9\nplane=0\n"]
     count = 0

@@ -255,13 +255,14 @@ fn shown(line: &[u8]) -> String {
 mod tests {
     use super::*;
 
-    const SETTINGS: [[u64; 4]; 6] = [
+    const SETTINGS: [[u64; 4]; 7] = [
         [8, 0, 9, 0],
         [16, 3, 3, 1],
         [32, 999_999, 999_999, 2],
         [8, 10, 100, 0],
         [16, 0, 0, 0],
         [32, 5, 40_000, 1],
+        [32, 7, 7, 0],
     ];
 
     fn settings([tile, shot_first, shot_last, plane]: [u64; 4]) -> Settings {
@@ -273,7 +274,7 @@ mod tests {
         }
     }
 
-    /// A dozen texts: all above in each version that holds them, and two that
+    /// Thirteen texts: all above in each version that holds them, and two that
     /// are wrong.
     fn texts() -> Vec<Vec<u8>> {
         let mut texts: Vec<Vec<u8>> = [1, 2]
