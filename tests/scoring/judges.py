@@ -9,6 +9,7 @@ then reads each of these streams, and others with rates and aspects up to their 
 byte; and y4mtopnm of mjpegtools, where no number is above 2^31 - 1, which it does not take.
 """
 import random
+import re
 import subprocess
 import sys
 import tempfile
@@ -45,28 +46,31 @@ def hold_ffmpeg(path, planes):
 
 def composite(planes, width, height, pf):
     """The grey pictures that y4mtopnm -f makes of planes: Y', below it Cb and Cr, side by side if they are half as wide."""
-    size, out, at = buffer_bytes(width, height, pf) // 256, b"", 0
+    size, out = buffer_bytes(width, height, pf) // 256, []
     across, up = (width if pf == 3 else width // 2), (height // 2 if pf == 0 else height)
     for at in range(0, len(planes), size):
-        luma, cb, cr = at, at + width * height, at + width * height + across * up
-        rows = [planes[c + i * across : c + (i + 1) * across] for i in range(up) for c in (cb, cr)]
+        cb, cr = at + width * height, at + width * height + across * up
+        out += [f"P5\n{width} {size // width} 255\n".encode(), planes[at:cb]]
         if pf == 3:
-            rows = [planes[cb : at + size]]
-        high = size // width
-        out += f"P5\n{width} {high} 255\n".encode() + planes[luma:cb] + b"".join(rows)
-    return out
+            out.append(planes[cb : at + size])
+        else:
+            out += [planes[c + i * across : c + (i + 1) * across] for i in range(up) for c in (cb, cr)]
+    return b"".join(out)
 
 
 def hold_mjpegtools(stream):
-    """mjpegtools read the same planes."""
+    """mjpegtools read the same planes, if they take the numbers of the header; whether they do."""
     _, width, height, pf = header_of(stream)
+    if any(int(n) >= 2**31 for n in re.findall(rb"\d+", stream[: stream.index(b"\n")])):
+        return False
     if run("y4mtopnm", "-f", "-v", "0", input=stream) != composite(planes_of(stream), width, height, pf):
         fail("mjpegtools read other planes")
+    return True
 
 
 def recordings(command, decode, paths, full):
     """The command's streams of recordings are libtheora's planes."""
-    frames = 0
+    frames = small = 0
     for path in paths:
         with tempfile.NamedTemporaryFile(suffix=".y4m") as film:
             run(command, "y4m", path, film.name, "--force")
@@ -78,8 +82,8 @@ def recordings(command, decode, paths, full):
             frames += int(said.split(": ")[1].split()[0])
             if full:
                 hold_ffmpeg(film.name, planes_of(ours))
-                hold_mjpegtools(ours)
-    return frames
+                small += hold_mjpegtools(ours)
+    return frames, small
 
 
 def extremes(library, rng):
@@ -101,9 +105,7 @@ def extremes(library, rng):
                     file.write(stream)
                     file.flush()
                     hold_ffmpeg(file.name, planes_of(stream))
-                if max(rate) < 2**31:
-                    hold_mjpegtools(stream)
-                    small += 1
+                small += hold_mjpegtools(stream)
                 count += 1
     return count, small
 
@@ -112,9 +114,9 @@ def main():
     words = [word for word in sys.argv[1:] if word != "--full"]
     full = len(words) < len(sys.argv) - 1
     library, command, decode, paths = Library(words[0]), words[1], words[2], words[3:]
-    frames = recordings(command, decode, paths, full)
-    judges = "libtheora's planes, and FFmpeg and mjpegtools read them back" if full else "libtheora's planes"
-    print(f"films: {frames} frames of {len(paths)} recordings are {judges}")
+    frames, small = recordings(command, decode, paths, full)
+    judges = f"; FFmpeg reads all of them back, mjpegtools the {small} whose numbers are below 2^31" if full else ""
+    print(f"films: {frames} frames of {len(paths)} recordings are libtheora's planes{judges}")
     if full:
         count, small = extremes(library, random.Random(1))
         print(f"films: FFmpeg reads {count} streams with numbers up to their widths back, mjpegtools the {small} below 2^31")

@@ -162,16 +162,30 @@ fn describe(job: &Job) -> Result<Said, Failure> {
     let name = input.name.clone();
     let limit = Limit::new(parsed(job, "--max-memory", memory::parse)?);
     let info = info::read(input, job.has("--places").then_some(limit))?;
-    let text = match (job.has("--json"), job.has("--quiet")) {
-        (true, _) => format!("{}\n", info.json(&name)),
-        (false, true) => info.faults(&name),
-        (false, false) => info.text(&name, job.has("--fields")),
-    };
     Ok(Said {
-        text,
+        text: match form(job) {
+            Form::Json => format!("{}\n", info.json(&name)),
+            Form::Faults => info.faults(&name),
+            Form::Text => info.text(&name, job.has("--fields")),
+        },
         output_taken: job.has("--quiet"),
         clean: info.is_clean(),
     })
+}
+
+/// In which form a job's answer is wanted.
+enum Form {
+    Json,
+    Faults,
+    Text,
+}
+
+fn form(job: &Job) -> Form {
+    match (job.has("--json"), job.has("--quiet")) {
+        (true, _) => Form::Json,
+        (false, true) => Form::Faults,
+        (false, false) => Form::Text,
+    }
 }
 
 /// Says how much work a recording's packets cause.
@@ -180,10 +194,10 @@ fn measure(job: &Job) -> Result<Said, Failure> {
     let input = Input::open(Path::new(&job.words[0]), job.has("--quiet"))?;
     let name = input.name.clone();
     let work = work::measure(input, &limit)?;
-    let text = match (job.has("--json"), job.has("--quiet")) {
-        (true, _) => format!("{}\n", work.json(&name)),
-        (false, true) => work.faults(&name),
-        (false, false) => work.text(&name),
+    let text = match form(job) {
+        Form::Json => format!("{}\n", work.json(&name)),
+        Form::Faults => work.faults(&name),
+        Form::Text => work.text(&name),
     };
     Ok(Said {
         text,
@@ -202,15 +216,15 @@ fn decode_recording(job: &Job) -> Result<Said, Failure> {
     let input = Input::open(path, job.has("--quiet"))?;
     let name = input.name.clone();
     let summary = decode::decode(input, request)?;
-    let text = match (job.has("--json"), job.has("--quiet")) {
-        (true, _) => format!("{}\n", summary.json(&name)),
-        (false, true) => summary.faults(&name),
-        (false, false) if job.verb == "picture" && summary.is_clean() => {
+    let text = match form(job) {
+        Form::Json => format!("{}\n", summary.json(&name)),
+        Form::Faults => summary.faults(&name),
+        Form::Text if job.verb == "picture" && summary.is_clean() => {
             let frame = parsed(job, "--frame", |text| text.parse::<u64>().ok())?;
             let frame = frame.unwrap_or(0);
             target::said(out, format!("frame {frame} of {name}\n"))
         }
-        (false, false) => summary.text(&name),
+        Form::Text => summary.text(&name),
     };
     Ok(Said {
         text,
@@ -293,10 +307,10 @@ fn write_packets(job: &Job) -> Result<Said, Failure> {
     let input = Input::open(path, job.has("--quiet"))?;
     let name = input.name.clone();
     let written = packets::write(input, choice(job)?, target)?;
-    let text = match (job.has("--json"), job.has("--quiet")) {
-        (true, _) => format!("{}\n", written.json(&name)),
-        (false, true) => written.faults(&name),
-        (false, false) => written.text(&name),
+    let text = match form(job) {
+        Form::Json => format!("{}\n", written.json(&name)),
+        Form::Faults => written.faults(&name),
+        Form::Text => written.text(&name),
     };
     Ok(Said {
         text,
@@ -318,10 +332,11 @@ fn check_film(job: &Job) -> Result<Said, Failure> {
     let path = Path::new(&job.words[0]);
     let limit = Limit::new(parsed(job, "--max-memory", memory::parse)?);
     let checked = film::check(&Mapped::open(path, &limit)?);
-    let text = match (job.has("--json"), job.has("--quiet")) {
-        (true, _) => format!("{}\n", checked.json(&name(path))),
-        (false, true) => checked.faults(&name(path)),
-        (false, false) => checked.text(&name(path)),
+    let name = name(path);
+    let text = match form(job) {
+        Form::Json => format!("{}\n", checked.json(&name)),
+        Form::Faults => checked.faults(&name),
+        Form::Text => checked.text(&name),
     };
     Ok(Said {
         text,
@@ -336,10 +351,11 @@ fn check_settings(job: &Job) -> Result<Said, Failure> {
     let version = number(job, "--version")?.unwrap_or(2);
     let text = Mapped::open(path, &Limit::new(None))?;
     let checked = settings::check(version, &text);
-    let text = match (job.has("--json"), job.has("--quiet")) {
-        (true, _) => format!("{}\n", checked.json(&name(path))),
-        (false, true) => checked.faults(&name(path)),
-        (false, false) => checked.text(&name(path)),
+    let name = name(path);
+    let text = match form(job) {
+        Form::Json => format!("{}\n", checked.json(&name)),
+        Form::Faults => checked.faults(&name),
+        Form::Text => checked.text(&name),
     };
     Ok(Said {
         text,
