@@ -58,6 +58,19 @@ def hold_value(library, version, values, room):
     return wanted
 
 
+def ends(library):
+    """Texts whose numbers are at and past the ends of their ranges."""
+    near = (0, 1, 9, 10, 99999, 100000, 999998, 999999, 1000000, 9999999999, 10**10, 2**64, 10**30)
+    values = [(tile, 0, 9, plane) for tile in range(70) for plane in range(12)]
+    values += [(8, first, last, 0) for first in near for last in near]
+    for tile, first, last, plane in values:
+        for version in range(4):
+            lines = f"version={version}\ntile={tile}\nshot_first={first}\nshot_last={last}\n"
+            hold(library, lines.encode())
+            hold(library, f"{lines}plane={plane}\n".encode())
+    return 8 * len(values)
+
+
 def draw(rng):
     """Settings in range, of which one number in thirty is then any other."""
     near = (0, 1, 7, 8, 9, 10, 16, 32, 99, 100, 999998, 999999, 1000000, 2**32, 2**64 - 1)
@@ -72,7 +85,7 @@ def main():
     values = [(8, 0, 9, 0), (16, 0, 0, 1), (32, 999999, 999999, 2), (8, 10, 100, 0), (16, 99999, 100000, 1), (32, 1, 10, 2), (16, 7, 999999, 0)]
     texts = [t for s in values for v in (1, 2) if (t := second_writer(v, *s))]
     texts += [b"version=2\n", b"version=1\ntile=8\nshot_first=10\nshot_last=9\n", b"version=2\ntile=8\nshot_first=10\nshot_last=9\nplane=0\n"]
-    count = 0
+    count = ends(library)
     for text in texts if full else (texts[0], texts[3], texts[-2]):
         hold(library, text)
         for changed in all_changes(text):
