@@ -6,7 +6,7 @@ ghost use Prim.Native.Nat.{ℕ, _+_, _*_, _/_, _%_, _≤_, _<_};
 ghost use lib.IntN.{pos, _+ℤ_, _-ℤ_};
 ghost use lib.ListN.{length, getD, replicate};
 ghost use Rattle.numeric.specs.Cut.{cut};
-ghost use Rattle.transform.specs.Line.{times, timesC4, firstTerms, lastTerms, outputs, transformedLine};
+ghost use Rattle.transform.specs.Line.{upperProduct, timesC4, firstTerms, lastTerms, outputs, transformedLine};
 ghost use Rattle.transform.specs.Block.{lineAt, putLine, transformLine, rows, columns, inverse};
 ghost use Rattle.transform.specs.Residual.{zigZag, dequantized, dcOnly, rounded, tabulated, values, residual};
 
@@ -46,7 +46,7 @@ pub struct Terms {
 
 // Lines are computed in 16 bits throughout, and a factor from 32768 on is 65536 less: then eight columns go together, in vectors of 16 bits.
 fn times(c: u16, x: i16) -> i16
-    ensures { λ r. ⌜ r ≡ times c x ⌝ }
+    ensures { λ r. ⌜ r ≡ upperProduct c x ⌝ }
 {
     let w = x as i32;
     if c < 32768 {
@@ -74,13 +74,13 @@ fn difference(x: i16, y: i16) -> i16
 }
 
 fn weighted_sum(c: u16, x: i16, d: u16, y: i16) -> i16
-    ensures { λ r. ⌜ r ≡ cut (times c x +ℤ times d y) ⌝ }
+    ensures { λ r. ⌜ r ≡ cut (upperProduct c x +ℤ times d y) ⌝ }
 {
     sum(times(c, x), times(d, y))
 }
 
 fn weighted_difference(c: u16, x: i16, d: u16, y: i16) -> i16
-    ensures { λ r. ⌜ r ≡ cut (times c x -ℤ times d y) ⌝ }
+    ensures { λ r. ⌜ r ≡ cut (upperProduct c x -ℤ times d y) ⌝ }
 {
     difference(times(c, x), times(d, y))
 }

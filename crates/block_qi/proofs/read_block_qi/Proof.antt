@@ -1,4 +1,4 @@
--- `block_qi::read_block_qi` meets its contract. The invariant: all steps are the steps that are left, with the records as they are. Assumes nothing.
+-- `block_qi::read_block_qi` meets its contract. The invariant: all qiSteps are the steps that are left, with the records as they are. Assumes nothing.
 use Prim.Native.Nat.{ℕ, _+_, _-_, _≤_}
 use native.Mathlib.Omega.{arith}
 use mathlib.Core.Path.{_≡_, refl, sym, _∙_, subst}
@@ -15,7 +15,7 @@ use Rattle.block_qi.proofs.read_block_qi.Statement.{statement}
 use Rattle.block_qi.proofs.read_block_qi.Tie as tie
 
 abbrev Inv-loop : tie.InvT-loop
-Inv-loop packet at qis coded bits₀ records₀ q₀ place₀ bits records q place = (length bits ≡ length bits₀) × (length records ≡ length records₀) × (q ≤ 2) × AllPacked records × (blockQi qis coded (recordsOf records₀) packet at ≡ steps (qis - (q + 1)) q coded (recordsOf records) packet place)
+Inv-loop packet at qis coded bits₀ records₀ q₀ place₀ bits records q place = (length bits ≡ length bits₀) × (length records ≡ length records₀) × (q ≤ 2) × AllPacked records × (blockQi qis coded (recordsOf records₀) packet at ≡ qiSteps (qis - (q + 1)) q coded (recordsOf records) packet place)
 
 abbrev μ-loop : tie.MeasureT-loop
 μ-loop packet at qis coded bits₀ records₀ q₀ place₀ bits records q place = qis - q

@@ -9,7 +9,7 @@ use mir.Val.{SFits}
 use Rattle.numeric.specs.Divide.{floorShift}
 use Rattle.numeric.proofs.Magnitude.{size, size-mul, sub-less}
 use Rattle.numeric.proofs.Known.{Known, k-wide, ask-wide, k-nat, k-lit, k-made, k-is, k-add, ask-add, ask-sub, k-mul, ask-mul, k-shr, k-cast, ask-cast, k-fit, ask-fit}
-use Rattle.transform.specs.Line.{times}
+use Rattle.transform.specs.Line.{upperProduct}
 use Rattle.transform.proofs.Low16.{less-65536, half-fits}
 use Rattle.transform.proofs.times.Statement.{statement}
 use Rattle.transform.proofs.times.Tie as tie

@@ -6,7 +6,7 @@ use mir.Syntax.{w16}
 use mir.Val.{toZ, ofZ}
 use Rattle.numeric.specs.Cut.{cut}
 use Rattle.numeric.proofs.Known.{k-any, back}
-use Rattle.transform.specs.Line.{times}
+use Rattle.transform.specs.Line.{upperProduct}
 use Rattle.transform.proofs.weighted_difference.Statement.{statement}
 use Rattle.transform.proofs.weighted_difference.Tie as tie
 
