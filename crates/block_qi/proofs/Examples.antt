@@ -9,7 +9,7 @@ use Rattle.runs.specs.Runs.{most, start, extra, runLength, run, nextBit, oneRun
 use Rattle.block_record.specs.declared.BlockRecord.{BlockRecord}
 use Rattle.block_record.specs.declared.Prediction.the-variants.{None}
 use Rattle.block_record.specs.Record.{uncoded}
-use Rattle.block_qi.specs.BlockQi.{atStep, raised, oneStep, steps, blockQi}
+use Rattle.block_qi.specs.BlockQi.{atStep, raised, oneStep, qiSteps, blockQi}
 
 abbrev with : ℕ → BlockRecord
 with k = record { coded = true; «qi_index» = k; prediction = None }

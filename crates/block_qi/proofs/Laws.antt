@@ -21,14 +21,14 @@ use Rattle.runs.proofs.Strings.{string-bits}
 use Rattle.block_record.specs.declared.BlockRecord.{BlockRecord}
 use Rattle.block_record.specs.Record.{uncoded, withQiIndex}
 use Rattle.block_record.proofs.MemoryLaws.{AllInRange, in-range-at, in-range-set}
-use Rattle.block_qi.specs.BlockQi.{indexAt, atStep, raised, oneStep, steps, blockQi}
+use Rattle.block_qi.specs.BlockQi.{indexAt, atStep, raised, oneStep, qiSteps, blockQi}
 
 step-lawful : (q : ℕ) (coded : List ℕ) (rs : List BlockRecord) → Lawful (oneStep q coded rs)
 unfolding oneStep
 step-lawful q coded rs = bind-lawful (bitString-lawful Long (atStep q coded rs)) (λ bits. pure-lawful _)
 
 steps-lawful : (n q : ℕ) (coded : List ℕ) (rs : List BlockRecord) → Lawful (qiSteps n q coded rs)
-unfolding steps
+unfolding qiSteps
 steps-lawful zero q coded rs = pure-lawful rs
 steps-lawful (suc n) q coded rs = bind-lawful (step-lawful q coded rs) (steps-lawful n (q + 1) coded)
 
@@ -42,7 +42,7 @@ unfolding oneStep
 step-inside q coded rs = bind-inside (bitString-inside Long (atStep q coded rs)) (λ bits. pure-inside _)
 
 steps-inside : {d : ℕ} (n q : ℕ) (coded : List ℕ) (rs : List BlockRecord) → Inside d (qiSteps n q coded rs)
-unfolding steps
+unfolding qiSteps
 steps-inside zero q coded rs = pure-inside rs
 steps-inside (suc n) q coded rs = bind-inside (step-inside q coded rs) (steps-inside n (q + 1) coded)
 
@@ -57,7 +57,7 @@ module _ {ks : List ℕ} (four : among ks 4 ≡ true) (twelve : among ks 12 ≡ 
   step-refuses q coded rs = bind-refuses (bitString-refuses four twelve Long (atStep q coded rs)) (λ bits. pure-refuses _)
 
   steps-refuses : (n q : ℕ) (coded : List ℕ) (rs : List BlockRecord) → Refuses ks (qiSteps n q coded rs)
-  unfolding steps
+  unfolding qiSteps
   steps-refuses zero q coded rs = pure-refuses rs
   steps-refuses (suc n) q coded rs = bind-refuses (step-refuses q coded rs) (steps-refuses n (q + 1) coded)
 
@@ -80,7 +80,7 @@ unfolding oneStep
 step-spends q coded rs = spends-more (omega (arith, at-most q coded rs)) (bind-spends {b = 0} (bitString-spends Long (atStep q coded rs)) (λ bits. pure-spends _))
 
 steps-spends : (n q : ℕ) (coded : List ℕ) (rs : List BlockRecord) → Spends (n * (length coded * 19)) (qiSteps n q coded rs)
-unfolding steps
+unfolding qiSteps
 steps-spends zero q coded rs = rw zero-mul (pure-spends rs)
 steps-spends (suc n) q coded rs = spends-more (rw suc-mul (omega arith)) (bind-spends (step-spends q coded rs) (steps-spends n (q + 1) coded))
 

@@ -23,7 +23,7 @@ use Rattle.block_record.specs.Packed.{packed, unpacked}
 use Rattle.block_record.specs.Memory.{AllPacked, recordsOf}
 use Rattle.block_record.proofs.Laws.{unpacked-packed}
 use Rattle.block_record.proofs.MemoryLaws.{is-packed, packed-at, packed-set, packed-records, record-at, records-set}
-use Rattle.block_qi.specs.BlockQi.{indexAt, atStep, raised, oneStep, steps, blockQi}
+use Rattle.block_qi.specs.BlockQi.{indexAt, atStep, raised, oneStep, qiSteps, blockQi}
 use Rattle.block_qi.specs.Answer.{KeptRecords}
 
 -- ---- how many are at the step
@@ -129,11 +129,11 @@ module _ (q : ℕ) (coded : List ℕ) (rs : List BlockRecord) (p : List ℕ) (i 
 
   module _ (n : ℕ) where
     steps-suc-refused : {k e : ℕ} → oneStep q coded rs p i ≡ refused k e → qiSteps (suc n) q coded rs p i ≡ refused k e
-    unfolding steps
+    unfolding qiSteps
     steps-suc-refused f = rw f
 
     steps-suc-got : {rs′ : List BlockRecord} {e : ℕ} → oneStep q coded rs p i ≡ got rs′ e → qiSteps (suc n) q coded rs p i ≡ qiSteps n (q + 1) coded rs′ p e
-    unfolding steps
+    unfolding qiSteps
     steps-suc-got f = rw f
 
   module _ (qis : ℕ) where
@@ -144,7 +144,7 @@ module _ (q : ℕ) (coded : List ℕ) (rs : List BlockRecord) (p : List ℕ) (i 
     steps-on l f = let z : qis - (q + 1) ≡ suc (qis - (q + 1 + 1)) = omega arith in ap (λ (n : ℕ). qiSteps n q coded rs p i) z ∙ steps-suc-got (qis - (q + 1 + 1)) f
 
     pub steps-done : qis ≤ q + 1 → qiSteps (qis - (q + 1)) q coded rs p i ≡ got rs i
-    unfolding steps
+    unfolding qiSteps
     steps-done l = let z : qis - (q + 1) ≡ 0 = omega arith in rw z
 
 pub steps-start : (qis : ℕ) (coded : List ℕ) (rs : List BlockRecord) (p : List ℕ) (i : ℕ) → blockQi qis coded rs p i ≡ qiSteps (qis - (0 + 1)) 0 coded rs p i

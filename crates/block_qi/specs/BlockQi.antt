@@ -32,7 +32,7 @@ oneStep q coded records = do
   bits ← bitString Long (atStep q coded records)
   pure (raised q coded bits records)
 
--- n qiSteps, from step q on
+-- n steps, from step q on
 unfoldable pub qiSteps : ℕ → ℕ → List ℕ → List BlockRecord → Parse (List BlockRecord)
 qiSteps zero q coded records = pure records
 qiSteps (suc n) q coded records = bind (oneStep q coded records) (qiSteps n (q + 1) coded)

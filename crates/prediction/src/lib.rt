@@ -77,7 +77,7 @@ fn down(subsampled: bool, z: i32) -> i32
 }
 
 // Its magnitude rounded up.
-fn roundedUp(subsampled: bool, z: i32) -> i32
+fn rounded_up(subsampled: bool, z: i32) -> i32
     requires { ⌜ natAbs z ≤ 31 ⌝ }
     ensures { λ r. ⌜ (r ≡ roundedUp (steps subsampled) z) × (natAbs r ≤ 31) ⌝ }
 {
@@ -100,7 +100,7 @@ fn begin(subsampled: bool, more: bool, at: u64, z: i32) -> i32
 {
     let from = (8 * at) as i32;
     if more {
-        return from + roundedUp(subsampled, z);
+        return from + rounded_up(subsampled, z);
     }
     from + down(subsampled, z)
 }

@@ -1,17 +1,11 @@
 -- What the calls return and leave, by what their lists are. Assumes nothing.
 use Prim.Native.Nat.{ℕ}
 use mathlib.Core.Path.{_≡_, refl, sym, ap, _∙_}
-use mathlib.Core.Bool.{Bool, true, false}
-use mathlib.Core.List.{List, [], _∷_}
-use native.Mathlib.Omega.{arith}
-use lib.Dec.{eqb}
-use lib.ListN.{length, set}
-use borrow.Author.Tests.{eq-eqb, ne-eqb, eqb-true}
-use Rattle.bitstream.specs.Reading.{choose}
+use mathlib.Core.List.{List}
+use lib.ListN.{length}
+use borrow.Author.Tests.{eq-eqb, ne-eqb}
 use Rattle.headers.specs.declared.Session.{Session}
-use Rattle.headers.specs.Fits.{sessionFits}
 use Rattle.session_list.specs.List.{Returned, gives, sessionOf, listsNumber}
-use Rattle.session_list.proofs.Lists.{only}
 use Rattle.output.specs.declared.Written.{Written}
 use Rattle.output.specs.Output.{Output, leftBy, asWritten}
 use Rattle.y4m.specs.declared.FilmAnswer.{FilmAnswer}

@@ -6,7 +6,6 @@ use lib.ListN.{length, getD}
 use Rattle.bitstream.specs.Reading.{choose}
 use Rattle.bitstream.specs.Numbers.{wrongLength}
 use Rattle.headers.specs.declared.Session.{Session}
-use Rattle.headers.specs.Fits.{sessionFits}
 use Rattle.session_list.specs.List.{Returned, gives, sessionOf, listsNumber}
 use Rattle.output.specs.declared.Written.{Written}
 use Rattle.output.specs.declared.Written.the-variants.{Bytes, Refused}

@@ -26,7 +26,7 @@ pub struct LoadedSetup {
 
 // The place behind a header, and the setup that it says: all zero beside a refusal. (An enum may hold no array.)
 pub struct SetupRead {
-    pub place: Place,
+    pub place: End,
     pub setup: LoadedSetup,
 }
 

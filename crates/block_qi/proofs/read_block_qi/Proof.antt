@@ -1,4 +1,4 @@
--- `block_qi::read_block_qi` meets its contract. The invariant: all qiSteps are the steps that are left, with the records as they are. Assumes nothing.
+-- `block_qi::read_block_qi` meets its contract. The invariant: all steps are the steps that are left, with the records as they are. Assumes nothing.
 use Prim.Native.Nat.{ℕ, _+_, _-_, _≤_}
 use native.Mathlib.Omega.{arith}
 use mathlib.Core.Path.{_≡_, refl, sym, _∙_, subst}
@@ -8,7 +8,7 @@ use Rattle.bitstream.specs.Lists.{AllBelow}
 use Rattle.bitstream.proofs.Ends.{on-refused, end-refused}
 use Rattle.block_record.specs.Packed.{packed}
 use Rattle.block_record.specs.Memory.{AllPacked, recordsOf}
-use Rattle.block_qi.specs.BlockQi.{oneStep, steps, blockQi}
+use Rattle.block_qi.specs.BlockQi.{oneStep, qiSteps, blockQi}
 use Rattle.block_qi.proofs.Steps.{steps-start, steps-refused, steps-on, steps-done, on-all, records-at}
 use borrow.Author.Needs.{needs}
 use Rattle.block_qi.proofs.read_block_qi.Statement.{statement}

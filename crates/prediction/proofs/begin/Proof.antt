@@ -22,10 +22,10 @@ module _ (s : tie.Start) where
   abbrev low : ℤ
   low = down (steps (s .args .subsampled)) (s .args .z)
 
-abbrev by-up : (c : tie.After-roundedUp) → Known w32 (up (c .before .before)) 31
+abbrev by-up : (c : tie.After-rounded-up) → Known w32 (up (c .before .before)) 31
 by-up c =
     let s = c .before .before in
-    k-got (c .roundedUp .ok) (c .roundedUp .ensures .0 ∙ ap (roundedUp (steps (s .args .subsampled))) (back w32 (s .args .z) (s .fits .z .sfits))) (c .roundedUp .ensures .1)
+    k-got (c .rounded-up .ok) (c .rounded-up .ensures .0 ∙ ap (roundedUp (steps (s .args .subsampled))) (back w32 (s .args .z) (s .fits .z .sfits))) (c .rounded-up .ensures .1)
 
 abbrev by-down : (c : tie.After-down) → Known w32 (low (c .before .before)) 31
 by-down c =
@@ -38,8 +38,8 @@ mul-from c = search needs
 cast-from : tie.Need-cast-from
 cast-from c = search needs
 
-roundedUp-requires : tie.Need-roundedUp-requires
-roundedUp-requires c κs = search needs
+rounded-up-requires : tie.Need-rounded-up-requires
+rounded-up-requires c κs = search needs
 
 add-result : tie.Need-add-result
 add-result c = ask-add (from (c .before .before)) (by-up c) tt
@@ -62,7 +62,7 @@ begin-spec =
     (tie.spec
     mul-from
     cast-from
-    roundedUp-requires
+    rounded-up-requires
     add-result
     returns
     down-requires

@@ -1,5 +1,5 @@
 -- `scoring_c::wedgepetal_y4m_write` meets its contract. Assumes nothing.
-use mathlib.Core.Path.{_≡_, refl, sym, ap, _∙_}
+use mathlib.Core.Path.{sym, _∙_}
 use lib.ListN.{length}
 use Rattle.y4m.specs.Stream.{streamFor}
 use Rattle.session_list.proofs.Lists.{lengths}

@@ -63,22 +63,22 @@ h c =
     ∙ ap₂ (λ (u v : ℤ). cut (upperProduct C1 u +ℤ upperProduct C7 v)) (x1 (c .before .before .before .before)) (x7 (c .before .before .before .before)))
 
 -- the two products
-K4 : (c : tie.After-times) → toZ w16 (ofZ w16 (c .times .result)) ≡ L.K (l (c .before .before .before .before .before .before))
+K4 : (c : tie.After-upper-product) → toZ w16 (ofZ w16 (c .upper-product .result)) ≡ L.K (l (c .before .before .before .before .before .before))
 unfolding L.K timesC4
 K4 c =
     let m = l (c .before .before .before .before .before .before) in
     let d = c .before .difference in
-    back w16 (c .times .result) (c .times .ok)
-    ∙ c .times .ensures
+    back w16 (c .upper-product .result) (c .upper-product .ok)
+    ∙ c .upper-product .ensures
     ∙ ap (upperProduct C4) (back w16 (d .result) (d .ok) ∙ d .ensures ∙ sub-same _ _ (L.e m) (L.k m) (e (c .before .before .before .before .before)) (k (c .before .before .before .before)))
 
-G4 : (c : tie.After-times2) → toZ w16 (ofZ w16 (c .times2 .result)) ≡ L.G (l (c .before .before .before .before .before .before .before .before))
+G4 : (c : tie.After-upper-product2) → toZ w16 (ofZ w16 (c .upper-product2 .result)) ≡ L.G (l (c .before .before .before .before .before .before .before .before))
 unfolding L.G timesC4
 G4 c =
     let m = l (c .before .before .before .before .before .before .before .before) in
     let d = c .before .difference2 in
-    back w16 (c .times2 .result) (c .times2 .ok)
-    ∙ c .times2 .ensures
+    back w16 (c .upper-product2 .result) (c .upper-product2 .ok)
+    ∙ c .upper-product2 .ensures
     ∙ ap (upperProduct C4) (back w16 (d .result) (d .ok) ∙ d .ensures ∙ sub-same _ _ (L.h m) (L.g m) (h (c .before .before .before .before)) (g (c .before .before .before .before .before)))
 
 weighted-difference-requires : tie.Need-weighted-difference-requires
@@ -96,14 +96,14 @@ weighted-sum-requires-2 c κs = search needs
 difference-requires : tie.Need-difference-requires
 difference-requires c κs = search needs
 
-times-requires : tie.Need-times-requires
-times-requires c κs = search needs
+upper-product-requires : tie.Need-upper-product-requires
+upper-product-requires c κs = search needs
 
 difference-requires-2 : tie.Need-difference-requires-2
 difference-requires-2 c κs = search needs
 
-times-requires-2 : tie.Need-times-requires-2
-times-requires-2 c κs = search needs
+upper-product-requires-2 : tie.Need-upper-product-requires-2
+upper-product-requires-2 c κs = search needs
 
 sum-requires : tie.Need-sum-requires
 sum-requires c κs = search needs
@@ -143,9 +143,9 @@ last-terms-spec =
     weighted-sum-requires
     weighted-sum-requires-2
     difference-requires
-    times-requires
+    upper-product-requires
     difference-requires-2
-    times-requires-2
+    upper-product-requires-2
     sum-requires
     sum-requires-2
     difference-requires-3

@@ -1,4 +1,4 @@
--- `prediction::roundedUp` meets its contract.
+-- `prediction::rounded_up` meets its contract.
 -- Assumes nothing.
 use mathlib.Core.Path.{refl, sym, ap, _∙_}
 use mathlib.Core.Bool.{Bool}
@@ -7,8 +7,8 @@ use Rattle.numeric.proofs.Magnitude.{size}
 use Rattle.numeric.proofs.Known.{Known, k-of, k-lit, k-add, ask-add, k-sub, ask-sub, k-div, ask-quot, ask-size, test-lt}
 use Rattle.prediction.specs.Motion.{roundedUp, steps}
 use Rattle.prediction.proofs.Facts.{quot-up, quot-up-minus}
-use Rattle.prediction.proofs.roundedUp.Statement.{statement}
-use Rattle.prediction.proofs.roundedUp.Tie as tie
+use Rattle.prediction.proofs.rounded_up.Statement.{statement}
+use Rattle.prediction.proofs.rounded_up.Tie as tie
 
 abbrev z : (c : tie.Start) → Known w32 (c .args .z) 31
 z c = k-of (c .fits .z) (size (c .pre))
@@ -65,8 +65,8 @@ returns-4 c =
     let t = test-lt (z (c .before .before)) (k-lit 0 tt) (c .if3 .left) in
     (k .reads ∙ quot-up 2 1 n refl t ∙ ap (λ (b : Bool). roundedUp (steps b) n) (sym (c .before .if1 .left)), ask-size k 31 tt)
 
-pub roundedUp-spec : {M : Type 1} → statement M
-roundedUp-spec =
+pub rounded-up-spec : {M : Type 1} → statement M
+rounded-up-spec =
     tie.close
     (tie.spec
     sub-result
