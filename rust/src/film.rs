@@ -164,7 +164,7 @@ impl Film {
         match Film::read(stream, &mut []) {
             // It is a stream with frames. Its header is a stream of no frames,
             // and what is behind it are frames, all of one length.
-            Err(Refusal::OUTPUT) => {
+            Err(Refusal::SHORT_OUTPUT) => {
                 let line = stream.iter().position(|byte| *byte == b'\n');
                 let header = line.map_or(stream.len(), |line| line + 1);
                 let film = Film::read(&stream[..header], &mut [])?;

@@ -16,8 +16,8 @@ pub const SETTINGS_BYTES: usize = 61;
 /// let text = "version=1\ntile=8\nshot_first=0\nshot_last=9\n";
 /// assert_eq!(settings.text(1).unwrap(), text);
 /// assert_eq!(Settings::read(2, text.as_bytes()), Ok(settings));
-/// assert_eq!(Settings::read(1, b"version=2\n"), Err(Refusal::LATER_SETTINGS));
-/// assert_eq!(Settings::read(1, b"version=1\ntile=08\n"), Err(Refusal::SETTINGS));
+/// assert_eq!(Settings::read(1, b"version=2\n"), Err(Refusal::LATER_VERSION));
+/// assert_eq!(Settings::read(1, b"version=1\ntile=08\n"), Err(Refusal::BAD_SETTINGS));
 /// ```
 #[derive(Clone, Copy, Debug, PartialEq, Eq, Hash)]
 pub struct Settings {

@@ -49,7 +49,7 @@ fn headers() {
     );
     assert_eq!(
         widest.film_header(&mut [0; FILM_HEADER_BYTES - 1]),
-        Err(Refusal::OUTPUT)
+        Err(Refusal::SHORT_OUTPUT)
     );
 }
 
@@ -72,7 +72,7 @@ fn streams_there_and_back() {
         assert_eq!(pieces, stream);
         assert_eq!(
             writer.frame(&planes[..planes.len().min(5)]),
-            Err(Refusal::LENGTH)
+            Err(Refusal::WRONG_LENGTH)
         );
         let mut back = vec![9; planes.len() + 3];
         let film = Film::read(&stream, &mut back).unwrap();
@@ -91,11 +91,11 @@ fn streams_there_and_back() {
         assert_eq!(Film::of(&stream), Ok(wanted));
         if frames > 0 {
             let mut short = vec![9; planes.len() - 1];
-            assert_eq!(Film::read(&stream, &mut short), Err(Refusal::OUTPUT));
+            assert_eq!(Film::read(&stream, &mut short), Err(Refusal::SHORT_OUTPUT));
             assert!(short.iter().all(|byte| *byte == 9));
             stream.pop();
-            assert_eq!(Film::read(&stream, &mut short), Err(Refusal::STREAM));
-            assert_eq!(Film::of(&stream), Err(Refusal::STREAM));
+            assert_eq!(Film::read(&stream, &mut short), Err(Refusal::OTHER_STREAM));
+            assert_eq!(Film::of(&stream), Err(Refusal::OTHER_STREAM));
         }
     }
 }
@@ -153,8 +153,8 @@ fn settings_there_and_back() {
         text,
         "version=2\ntile=32\nshot_first=5\nshot_last=999999\nplane=2\n"
     );
-    assert_eq!(in_use.text(1), Err(Refusal::SETTINGS));
-    assert_eq!(in_use.write(2, &mut [0; 55]), Err(Refusal::OUTPUT));
+    assert_eq!(in_use.text(1), Err(Refusal::BAD_SETTINGS));
+    assert_eq!(in_use.write(2, &mut [0; 55]), Err(Refusal::SHORT_OUTPUT));
     assert_eq!(Settings::read(2, text.as_bytes()), Ok(in_use));
     let before = in_use;
     for (version, text, number) in [
