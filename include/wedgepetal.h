@@ -25,7 +25,8 @@
  * several numbers apply, they are found in this order: 1 for the session's list,
  * 8 for its numbers, 1 for any other list, 8 for the table memory, then a fault
  * of the packet, then 17 (for a picture: 18, then 14), or 255 if there is no
- * such thing as is asked for.
+ * such thing as is asked for. The calls on streams of frames and on settings say
+ * their own order; none of their refusals writes anything.
  *
  * A refusal found inside a packet (2 to 7, 9 to 13) has a place: the bit of the
  * packet, counted from 0 and from the highest bit of byte 0 on, at which the
@@ -41,7 +42,10 @@
  *   frame           session, new_frame,   answer (*)     answer; work memory: all zero
  *                   answer; work                         (8 for the session's numbers:
  *                   memory: all zero                     answer (*) alone)
- *   rgb             out, written          nothing        nothing
+ *   rgb, y4m_write, y4m_header, y4m_frame, settings_write
+ *                   out, written          nothing        nothing
+ *   y4m_read        planes, film          nothing        nothing
+ *   settings_read   settings              nothing        nothing
  *   all others      their list            nothing        nothing
  *
  *   (*) nothing where the list for the place or the answer, or the session's
@@ -67,29 +71,34 @@ extern "C" {
 /* The numbers of refusals. */
 enum {
     WEDGEPETAL_ACCEPTED = 0,
-    WEDGEPETAL_LENGTH = 1,          /* a lent list has another length than the published one */
-    WEDGEPETAL_NOT_THIS_HEADER = 2, /* the type byte or "theora" is not the wanted one */
-    WEDGEPETAL_VERSION = 3,         /* VMAJ is not 3, or VMIN is not 2 */
-    WEDGEPETAL_PACKET_END = 4,      /* a read passes the end of the packet */
-    WEDGEPETAL_FIELD_RANGE = 5,     /* an identification field breaks its range */
-    WEDGEPETAL_RESERVED = 6,        /* PF is 1, or the 3 last identification bits are not 0 */
-    WEDGEPETAL_SETUP_FAULT = 7,     /* setup: NBMS above 384, a matrix index not below NBMS, a qi sum
-                                       above 63, a code longer than 32, a 33rd leaf */
-    WEDGEPETAL_SESSION = 8,         /* the session's identification fields break 5, 6 or their widths,
-                                       or its others are not below 2 to the power KFGSHIFT */
-    WEDGEPETAL_TABLE = 8,           /* no accepted setup packet leaves this table memory (the same
-                                       number as for a session) */
+    WEDGEPETAL_WRONG_LENGTH = 1,    /* a lent list has another length than the published one */
+    WEDGEPETAL_OTHER_HEADER = 2,    /* the type byte or "theora" is not the wanted one */
+    WEDGEPETAL_OTHER_VERSION = 3,   /* VMAJ is not 3, or VMIN is not 2 */
+    WEDGEPETAL_PACKET_ENDS = 4,     /* a read passes the end of the packet */
+    WEDGEPETAL_OUT_OF_RANGE = 5,    /* an identification field breaks its range */
+    WEDGEPETAL_BAD_FORMAT = 6,      /* PF is 1, or the 3 last identification bits are not 0 */
+    WEDGEPETAL_BAD_SETUP = 7,       /* setup: NBMS above 384, a matrix index not below NBMS, a qi
+                                       sum above 63, a code longer than 32, a 33rd leaf */
+    WEDGEPETAL_NOT_GENUINE = 8,     /* the session's identification fields break 5, 6 or their
+                                       widths, or its others are not below 2 to the power
+                                       KFGSHIFT; or no accepted setup packet leaves this table
+                                       memory */
     WEDGEPETAL_NO_REFERENCES = 9,   /* an inter or empty packet, and no references */
-    WEDGEPETAL_NOT_A_FRAME = 10,    /* the first bit of a frame packet is 1 */
-    WEDGEPETAL_FRAME_RESERVED = 11, /* an intra frame's 3 reserved bits are not 0 */
-    WEDGEPETAL_RUN = 12,            /* a run exceeds the bits still wanted */
-    WEDGEPETAL_TOKEN = 13,          /* a token moves its block past position 64 */
-    WEDGEPETAL_OUTPUT = 14,         /* the lent output is too short */
-    WEDGEPETAL_COUNT_PASSED = 17,   /* key frames would pass 64 bits, or others would not stay below
-                                       2 to the power KFGSHIFT; found after all else */
-    WEDGEPETAL_COLOUR_SPACE = 18,   /* CS is neither 1 nor 2 */
-    WEDGEPETAL_ABSENT = 255         /* the frame has no such block, macro block or sample, or there is
-                                       no such type, plane or qi */
+    WEDGEPETAL_NO_FRAME = 10,       /* the first bit of a frame packet is 1 */
+    WEDGEPETAL_RESERVED_BITS = 11,  /* an intra frame's 3 reserved bits are not 0 */
+    WEDGEPETAL_LONG_RUN = 12,       /* a run exceeds the bits still wanted */
+    WEDGEPETAL_PAST_BLOCK = 13,     /* a token moves its block past position 64 */
+    WEDGEPETAL_SHORT_OUTPUT = 14,   /* the lent output is too short; reading a stream: planes are */
+    WEDGEPETAL_UNCOUNTED = 17,      /* key frames would pass 64 bits, or others would not stay
+                                       below 2 to the power KFGSHIFT; found after all else */
+    WEDGEPETAL_UNKNOWN_COLOUR = 18, /* CS is neither 1 nor 2 */
+    WEDGEPETAL_LATER_VERSION = 19,  /* reading for version 1: the text begins with the line
+                                       version=2 */
+    WEDGEPETAL_BAD_SETTINGS = 20,   /* the settings, their text or the version are not as they
+                                       must be */
+    WEDGEPETAL_OTHER_STREAM = 21,   /* the stream is none that wedgepetal_y4m_write writes */
+    WEDGEPETAL_ABSENT = 255         /* the frame has no such block, macro block or sample, or
+                                       there is no such type, plane or qi */
 };
 
 /* A session is a list of 19 numbers: the identification fields, whether
@@ -317,6 +326,116 @@ uint32_t wedgepetal_rgb(const uint64_t *session, size_t session_length,
                         const uint8_t *planes, size_t planes_length,
                         uint8_t *out, size_t out_length,
                         uint64_t *written, size_t written_length);
+
+/* ---- Frames as a YUV4MPEG2 stream.
+ *
+ * A stream is a header line and then, for each frame, the line FRAME and the
+ * planes Y', Cb, Cr, in each the top row first: the whole coded frame, not the
+ * picture. Sizes, frame rate and aspect are the session's, not reduced; if either
+ * aspect number is 0 the header says A0:0. For 16 by 16 samples in 4:2:0 at 25/1,
+ * of unknown aspect, it is
+ *
+ *   YUV4MPEG2 W16 H16 F25:1 Ip A0:0 C420jpeg
+ *
+ * A stream of n frames has the header's bytes and n times 6 + 64 NBS. The header
+ * and then each frame, written by the last two of the writing calls, are the same
+ * bytes as the stream written by the first: a shot need not lie in memory whole.
+ * Refusals of these three, in the order in which they are found: 1 for the
+ * session's list, 8 for its fields, 1 for the list of the answer, 1 for frames or
+ * planes, 14. A refused call writes nothing. */
+
+/* The longest header, in bytes. */
+enum { WEDGEPETAL_Y4M_HEADER_BYTES = 82 };
+
+/* What a stream holds is a list of 8 numbers. */
+enum {
+    WEDGEPETAL_FILM_WIDTH,  /* of a frame in samples of Y', a multiple of 16 */
+    WEDGEPETAL_FILM_HEIGHT, /* likewise */
+    WEDGEPETAL_FILM_FRN,    /* frames a second: numerator */
+    WEDGEPETAL_FILM_FRD,    /*   and denominator */
+    WEDGEPETAL_FILM_PARN,   /* width of a sample over its height: numerator */
+    WEDGEPETAL_FILM_PARD,   /*   and denominator; both are 0 if it is unknown */
+    WEDGEPETAL_FILM_PF,     /* pixel format: 0 is 4:2:0, 2 is 4:2:2, 3 is 4:4:4 */
+    WEDGEPETAL_FILM_FRAMES, /* how many frames */
+    WEDGEPETAL_FILM_NUMBERS
+};
+
+/* Writes a stream of frames.
+ *
+ * session  (19 numbers) what the header says is taken from it
+ * frames   the planes of no frame or more, as wedgepetal_frame leaves them, frame
+ *          after frame: a multiple of 64 NBS bytes
+ * out      at least as many bytes as the stream has; those behind it stay
+ * written  (1 number) receives how many bytes were written */
+uint32_t wedgepetal_y4m_write(const uint64_t *session, size_t session_length,
+                              const uint8_t *frames, size_t frames_length,
+                              uint8_t *out, size_t out_length,
+                              uint64_t *written, size_t written_length);
+
+/* Writes the header of a session's stream, at most WEDGEPETAL_Y4M_HEADER_BYTES
+ * bytes, which is a stream of no frames. */
+uint32_t wedgepetal_y4m_header(const uint64_t *session, size_t session_length,
+                               uint8_t *out, size_t out_length,
+                               uint64_t *written, size_t written_length);
+
+/* Writes one frame of a session's stream, 6 + 64 NBS bytes; planes must have
+ * 64 NBS. */
+uint32_t wedgepetal_y4m_frame(const uint64_t *session, size_t session_length,
+                              const uint8_t *planes, size_t planes_length,
+                              uint8_t *out, size_t out_length,
+                              uint64_t *written, size_t written_length);
+
+/* Reads a stream.
+ *
+ * stream   the whole stream; accepted are exactly those that wedgepetal_y4m_write
+ *          writes for some session
+ * planes   receives the planes of its frames, frame after frame, as the writer
+ *          takes them; at least 64 NBS bytes for each. Those behind them stay
+ * film     (8 numbers) receives what the stream holds
+ *
+ * Refusals, in the order in which they are found: 1 for film, 21, 14 for planes.
+ * A refused call writes nothing. So with planes of no bytes the answer is 21 if it
+ * is no such stream, 14 if it is one with frames, 0 if it is a header alone. */
+uint32_t wedgepetal_y4m_read(const uint8_t *stream, size_t stream_length,
+                             uint8_t *planes, size_t planes_length,
+                             uint64_t *film, size_t film_length);
+
+/* ---- Settings of the scoring scripts, as texts of version 1 and 2.
+ *
+ * version=1, tile=8, shot_first=0 and shot_last=9 are the lines of a text of
+ * version 1, each with a line feed; version 2 has a last line plane=0 more. A
+ * value has one text in each version that can hold it; version 1 holds those with
+ * plane 0. Numbers have no leading zeros. */
+
+/* The longest text, in bytes. */
+enum { WEDGEPETAL_SETTINGS_BYTES = 61 };
+
+/* Settings are a list of 4 numbers. */
+enum {
+    WEDGEPETAL_TILE,       /* 8, 16 or 32 */
+    WEDGEPETAL_SHOT_FIRST, /* 0 to shot_last */
+    WEDGEPETAL_SHOT_LAST,  /* 0 to 999,999 */
+    WEDGEPETAL_PLANE,      /* 0 to 2 */
+    WEDGEPETAL_SETTINGS_NUMBERS
+};
+
+/* Writes the text of settings (4 numbers) in a version to out; bytes behind it
+ * stay. written (1 number) receives how many bytes it has. Refusals, in the order
+ * in which they are found: 1 for the lists of settings and of the answer, 20 for
+ * values out of range, plane 1 or 2 as version 1, and versions other than 1 and 2,
+ * 14. A refused call writes nothing. */
+uint32_t wedgepetal_settings_write(uint64_t version,
+                                   const uint64_t *settings, size_t settings_length,
+                                   uint8_t *out, size_t out_length,
+                                   uint64_t *written, size_t written_length);
+
+/* Reads a text of settings for a version into the settings in use (4 numbers).
+ * The reader for version 2 takes texts of version 1 too, as plane 0. Refusals: 1
+ * for the list of settings; 19 by the reader for version 1, if the text begins with
+ * the line version=2 and its line feed; 20 for any other fault of the text, and for
+ * versions other than 1 and 2. The settings in use are then as they were. */
+uint32_t wedgepetal_settings_read(uint64_t version, const uint8_t *text, size_t text_length,
+                                  uint64_t *settings, size_t settings_length);
 
 /* ---- For callers that lend work memory in one piece. Nothing is allocated. */
 

@@ -7,15 +7,19 @@
 //! refusal ([`Refusal`]) changes nothing and says where in the packet it was
 //! found.
 //!
+//! Of decoded frames [`Session::rgb`] makes colours, and a [`FilmWriter`] a
+//! YUV4MPEG2 stream, which [`Film::read`] reads back. [`Settings`] are those of
+//! the scoring scripts, as texts.
+//!
 //! ```
 //! use wedgepetal::{Refusal, identification};
 //!
 //! // A packet that ends before its type byte.
-//! assert_eq!(identification(b""), Err(Refusal::PACKET_END));
+//! assert_eq!(identification(b""), Err(Refusal::PACKET_ENDS));
 //! // A comment header is another header.
-//! assert_eq!(identification(b"\x81theora"), Err(Refusal::NOT_THIS_HEADER));
+//! assert_eq!(identification(b"\x81theora"), Err(Refusal::OTHER_HEADER));
 //! // One whose fourth letter is wrong.
-//! assert_eq!(identification(b"\x80theXra"), Err(Refusal::NOT_THIS_HEADER.at(32)));
+//! assert_eq!(identification(b"\x80theXra"), Err(Refusal::OTHER_HEADER.at(32)));
 //! ```
 //!
 //! ```no_run
@@ -37,19 +41,23 @@
 //! }
 //! ```
 
+mod film;
 mod frame;
 pub mod lists;
 mod player;
 mod refusal;
 mod session;
+mod settings;
 mod table;
 mod work;
 
+pub use film::{FILM_HEADER_BYTES, Film, FilmWriter};
 pub use frame::{Frame, FrameAnswer, Kind, Samples};
 pub use lists::Buffers;
 pub use player::{Player, Unplayable};
 pub use refusal::Refusal;
 pub use session::{Session, identification};
+pub use settings::{SETTINGS_BYTES, Settings};
 pub use table::{MatrixType, Table, setup};
 pub use work::{Work, WorkLengths};
 

@@ -37,6 +37,13 @@ pub const TABLE_BYTES: usize = 28_184;
 /// How many numbers a quantization matrix has.
 pub const MATRIX_NUMBERS: usize = 64;
 
+/// How many numbers say what a stream of frames holds: width, height, FRN, FRD,
+/// PARN, PARD, PF, how many frames.
+pub const FILM_NUMBERS: usize = 8;
+
+/// How many numbers settings have: tile, first and last shot, plane.
+pub const SETTINGS_NUMBERS: usize = 4;
+
 mod face {
     unsafe extern "C" {
         pub fn wedgepetal_identification(
@@ -144,6 +151,58 @@ mod face {
             out_length: usize,
             written: *mut u64,
             written_length: usize,
+        ) -> u32;
+        pub fn wedgepetal_y4m_write(
+            session: *const u64,
+            session_length: usize,
+            frames: *const u8,
+            frames_length: usize,
+            out: *mut u8,
+            out_length: usize,
+            written: *mut u64,
+            written_length: usize,
+        ) -> u32;
+        pub fn wedgepetal_y4m_header(
+            session: *const u64,
+            session_length: usize,
+            out: *mut u8,
+            out_length: usize,
+            written: *mut u64,
+            written_length: usize,
+        ) -> u32;
+        pub fn wedgepetal_y4m_frame(
+            session: *const u64,
+            session_length: usize,
+            planes: *const u8,
+            planes_length: usize,
+            out: *mut u8,
+            out_length: usize,
+            written: *mut u64,
+            written_length: usize,
+        ) -> u32;
+        pub fn wedgepetal_y4m_read(
+            stream: *const u8,
+            stream_length: usize,
+            planes: *mut u8,
+            planes_length: usize,
+            film: *mut u64,
+            film_length: usize,
+        ) -> u32;
+        pub fn wedgepetal_settings_write(
+            version: u64,
+            settings: *const u64,
+            settings_length: usize,
+            out: *mut u8,
+            out_length: usize,
+            written: *mut u64,
+            written_length: usize,
+        ) -> u32;
+        pub fn wedgepetal_settings_read(
+            version: u64,
+            text: *const u8,
+            text_length: usize,
+            settings: *mut u64,
+            settings_length: usize,
         ) -> u32;
         pub fn wedgepetal_frame(
             session: *mut u64,
@@ -435,6 +494,103 @@ pub fn rgb(session: &[u64], planes: &[u8], out: &mut [u8], written: &mut [u64]) 
             out.len(),
             written.as_mut_ptr(),
             written.len(),
+        )
+    }
+}
+
+/// Writes frames, plane buffer after plane buffer, as a YUV4MPEG2 stream:
+/// `written` (1 number) receives how many bytes of `out` were written.
+pub fn y4m_write(session: &[u64], frames: &[u8], out: &mut [u8], written: &mut [u64]) -> u32 {
+    // SAFETY: as in `identification`.
+    unsafe {
+        face::wedgepetal_y4m_write(
+            session.as_ptr(),
+            session.len(),
+            frames.as_ptr(),
+            frames.len(),
+            out.as_mut_ptr(),
+            out.len(),
+            written.as_mut_ptr(),
+            written.len(),
+        )
+    }
+}
+
+/// Writes the header of a session's stream, likewise.
+pub fn y4m_header(session: &[u64], out: &mut [u8], written: &mut [u64]) -> u32 {
+    // SAFETY: as in `identification`.
+    unsafe {
+        face::wedgepetal_y4m_header(
+            session.as_ptr(),
+            session.len(),
+            out.as_mut_ptr(),
+            out.len(),
+            written.as_mut_ptr(),
+            written.len(),
+        )
+    }
+}
+
+/// Writes one frame of a session's stream, likewise.
+pub fn y4m_frame(session: &[u64], planes: &[u8], out: &mut [u8], written: &mut [u64]) -> u32 {
+    // SAFETY: as in `identification`.
+    unsafe {
+        face::wedgepetal_y4m_frame(
+            session.as_ptr(),
+            session.len(),
+            planes.as_ptr(),
+            planes.len(),
+            out.as_mut_ptr(),
+            out.len(),
+            written.as_mut_ptr(),
+            written.len(),
+        )
+    }
+}
+
+/// Reads a stream: `planes` receives its frames, `film` (8 numbers) what it
+/// holds.
+pub fn y4m_read(stream: &[u8], planes: &mut [u8], film: &mut [u64]) -> u32 {
+    // SAFETY: as in `identification`.
+    unsafe {
+        face::wedgepetal_y4m_read(
+            stream.as_ptr(),
+            stream.len(),
+            planes.as_mut_ptr(),
+            planes.len(),
+            film.as_mut_ptr(),
+            film.len(),
+        )
+    }
+}
+
+/// Writes the text of settings (4 numbers) in a version: `written` (1 number)
+/// receives how many bytes of `out` were written.
+pub fn settings_write(version: u64, settings: &[u64], out: &mut [u8], written: &mut [u64]) -> u32 {
+    // SAFETY: as in `identification`.
+    unsafe {
+        face::wedgepetal_settings_write(
+            version,
+            settings.as_ptr(),
+            settings.len(),
+            out.as_mut_ptr(),
+            out.len(),
+            written.as_mut_ptr(),
+            written.len(),
+        )
+    }
+}
+
+/// Reads a text for a version into the settings in use (4 numbers).
+pub fn settings_read(version: u64, text: &[u8], settings: &mut [u64]) -> u32 {
+    // SAFETY: as in `identification`.
+    unsafe {
+        face::wedgepetal_settings_read(
+            version,
+            text.as_ptr(),
+            text.len(),
+            settings.as_mut_ptr(),
+            settings.len(),
         )
     }
 }

@@ -225,7 +225,7 @@ impl Session {
 }
 
 /// The answer of a call that writes one number.
-fn one(call: impl FnOnce(&mut [u64]) -> u32) -> Result<u64, Refusal> {
+pub(crate) fn one(call: impl FnOnce(&mut [u64]) -> u32) -> Result<u64, Refusal> {
     let mut list = [0; 1];
     Refusal::check(call(&mut list))?;
     Ok(list[0])

@@ -19,7 +19,8 @@ static const uint8_t *packet;
 static size_t packet_length;
 static uint64_t session[WEDGEPETAL_SESSION_NUMBERS], number[1], matrix[WEDGEPETAL_MATRIX_NUMBERS];
 static uint64_t answer[WEDGEPETAL_ANSWER_NUMBERS];
-static uint8_t *golden, *previous, *new_frame, *picture;
+static uint64_t film[WEDGEPETAL_FILM_NUMBERS], settings[WEDGEPETAL_SETTINGS_NUMBERS] = {32, 0, 999999, 2};
+static uint8_t *golden, *previous, *new_frame, *picture, *stream;
 static size_t buffer, picture_length;
 static struct wedgepetal_work work;
 static uint32_t answered;
@@ -66,6 +67,42 @@ static void rgb(void)
     session[WEDGEPETAL_CS] = space;
 }
 
+/* The new frame as a stream, whole and in pieces; a stream read into the picture's bytes; settings. */
+static void y4m_write(void)
+{
+    answered = wedgepetal_y4m_write(session, WEDGEPETAL_SESSION_NUMBERS, new_frame, buffer, stream,
+                                    buffer + 6 + WEDGEPETAL_Y4M_HEADER_BYTES, number, 1);
+}
+
+static void y4m_frame(void)
+{
+    answered = wedgepetal_y4m_frame(session, WEDGEPETAL_SESSION_NUMBERS, new_frame, buffer, stream,
+                                    buffer + 6, number, 1);
+}
+
+static void y4m_header(void)
+{
+    answered = wedgepetal_y4m_header(session, WEDGEPETAL_SESSION_NUMBERS, stream,
+                                     WEDGEPETAL_Y4M_HEADER_BYTES, number, 1);
+}
+
+static void y4m_read(void)
+{
+    answered = wedgepetal_y4m_read(stream, number[0], picture, picture_length, film,
+                                   WEDGEPETAL_FILM_NUMBERS);
+}
+
+static void settings_write(void)
+{
+    answered = wedgepetal_settings_write(2, settings, WEDGEPETAL_SETTINGS_NUMBERS, stream,
+                                         WEDGEPETAL_SETTINGS_BYTES, number, 1);
+}
+
+static void settings_read(void)
+{
+    answered = wedgepetal_settings_read(2, stream, number[0], settings, WEDGEPETAL_SETTINGS_NUMBERS);
+}
+
 static struct {
     const char *name;
     void (*run)(void);
@@ -73,10 +110,15 @@ static struct {
 } calls[] = {
     {"identification", identification, 0}, {"setup", setup, 0},           {"table", test_table, 0},
     {"loop_limit", loop_limit, 0},         {"matrix", one_matrix, 0},     {"frame", frame, 0},
-    {"rgb", rgb, 0},
+    {"rgb", rgb, 0},                       {"y4m_frame", y4m_frame, 0},   {"y4m_header", y4m_header, 0},
+    {"y4m_write", y4m_write, 0},           {"y4m_read", y4m_read, 0},
+    {"settings_write", settings_write, 0}, {"settings_read", settings_read, 0},
 };
 
-enum { IDENTIFICATION, SETUP, TABLE, LOOP_LIMIT, MATRIX, FRAME, RGB, CALLS };
+enum {
+    IDENTIFICATION, SETUP, TABLE, LOOP_LIMIT, MATRIX, FRAME, RGB, Y4M_FRAME, Y4M_HEADER, Y4M_WRITE,
+    Y4M_READ, SETTINGS_WRITE, SETTINGS_READ, CALLS
+};
 
 /* ---- the painted stack */
 
@@ -146,7 +188,8 @@ static void begin_frames(void)
     work = wedgepetal_work_in(malloc(lengths[WEDGEPETAL_WORK_BYTES]), lengths);
     picture_length = 768 * sizes[WEDGEPETAL_NMBS];
     picture = malloc(picture_length);
-    if (golden == NULL || work.coded == NULL || picture == NULL) {
+    stream = malloc(buffer + 6 + WEDGEPETAL_Y4M_HEADER_BYTES);
+    if (golden == NULL || work.coded == NULL || picture == NULL || stream == NULL) {
         abort();
     }
     previous = golden + buffer;
@@ -155,13 +198,16 @@ static void begin_frames(void)
 
 static void next_frame(void)
 {
+    int which;
     call(FRAME);
     if (answered == 0) {
         memcpy(previous, new_frame, buffer);
         if (answer[WEDGEPETAL_KIND] == WEDGEPETAL_INTRA) {
             memcpy(golden, new_frame, buffer);
         }
-        accepted(RGB);
+        for (which = RGB; which < CALLS; which++) {
+            accepted(which);
+        }
     }
 }
 

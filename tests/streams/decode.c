@@ -7,6 +7,11 @@
  * or its packets in hex, one in a line, for tests/streams/store:
  *
  *   decode --packets RECORDING.ogv
+ *
+ * or its frames as a YUV4MPEG2 stream, whole and not cropped, for tests/scoring:
+ *
+ *   decode --y4m RECORDING.ogv
+ *   decode --y4m FILE.packets
  */
 #include "hash.h"
 
@@ -25,7 +30,7 @@ static th_comment comment;
 static th_setup_info *setup = NULL;
 static th_dec_ctx *decoder = NULL;
 static long packets = 0;
-static int only_packets = 0;
+static enum { TEXT, PACKETS, FILM } form = TEXT;
 
 static void fail(const char *what)
 {
@@ -90,6 +95,34 @@ static void print_frame(ogg_packet *packet)
     printf(" %016" PRIx64 "\n", hash_frame(planes));
 }
 
+/* The first line of a film. */
+static void write_film_header(void)
+{
+    static const char *const FORMATS[] = {"420jpeg", "", "422", "444"};
+    int known = info.aspect_numerator != 0 && info.aspect_denominator != 0;
+    printf("YUV4MPEG2 W%u H%u F%u:%u Ip A%u:%u C%s\n", info.frame_width, info.frame_height,
+           info.fps_numerator, info.fps_denominator, known ? info.aspect_numerator : 0,
+           known ? info.aspect_denominator : 0, FORMATS[info.pixel_fmt]);
+}
+
+/* A frame of a film, unless the packet is refused. */
+static void write_film_frame(ogg_packet *packet)
+{
+    th_ycbcr_buffer planes;
+    if (th_decode_packetin(decoder, packet, NULL) < 0) {
+        return;
+    }
+    if (th_decode_ycbcr_out(decoder, planes) != 0) {
+        fail("no planes");
+    }
+    printf("FRAME\n");
+    for (int p = 0; p < 3; p++) {
+        for (int row = 0; row < planes[p].height; row++) {
+            fwrite(planes[p].data + (ptrdiff_t)row * planes[p].stride, 1, (size_t)planes[p].width, stdout);
+        }
+    }
+}
+
 static void print_packet(const ogg_packet *packet)
 {
     for (long i = 0; i < packet->bytes; i++) {
@@ -101,27 +134,35 @@ static void print_packet(const ogg_packet *packet)
 /* A packet of the Theora stream. */
 static void decode_packet(ogg_packet *packet)
 {
-    printf("packet %ld %ld %016" PRIx64 "\n", packets, packet->bytes,
-           hash_bytes(HASH_START, packet->packet, (size_t)packet->bytes));
+    if (form == TEXT) {
+        printf("packet %ld %ld %016" PRIx64 "\n", packets, packet->bytes,
+               hash_bytes(HASH_START, packet->packet, (size_t)packet->bytes));
+    }
     if (packets < 3) {
         if (th_decode_headerin(&info, &comment, &setup, packet) <= 0) {
             fail("a header is refused");
         }
         if (packets == 2) {
-            print_fields();
+            if (form == TEXT) {
+                print_fields();
+            } else {
+                write_film_header();
+            }
             decoder = th_decode_alloc(&info, setup);
             if (decoder == NULL) {
                 fail("no decoder");
             }
         }
-    } else {
+    } else if (form == TEXT) {
         print_frame(packet);
+    } else {
+        write_film_frame(packet);
     }
 }
 
 static void take_packet(ogg_packet *packet)
 {
-    if (only_packets) {
+    if (form == PACKETS) {
         print_packet(packet);
     } else {
         decode_packet(packet);
@@ -195,9 +236,11 @@ int main(int count, char **words)
 {
     FILE *in;
     const char *ending;
-    only_packets = count == 3 && strcmp(words[1], "--packets") == 0;
-    if (count != 2 + only_packets) {
-        fail("usage: decode [--packets] RECORDING.ogv | decode FILE.packets");
+    if (count == 3) {
+        form = strcmp(words[1], "--packets") == 0 ? PACKETS : strcmp(words[1], "--y4m") == 0 ? FILM : TEXT;
+    }
+    if (count != 2 + (form != TEXT)) {
+        fail("usage: decode [--packets | --y4m] RECORDING.ogv | decode [--y4m] FILE.packets");
     }
     in = fopen(words[count - 1], "rb");
     if (in == NULL) {

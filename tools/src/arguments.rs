@@ -30,7 +30,7 @@ const fn flag(name: &'static str, value: Option<&'static str>, about: &'static s
     Flag { name, value, about }
 }
 
-const FLAGS: [Flag; 13] = [
+const FLAGS: [Flag; 18] = [
     flag(
         "--stream",
         Some("N"),
@@ -57,6 +57,23 @@ const FLAGS: [Flag; 13] = [
         "1 or 2: the colour space of a recording that names none (CS 0)",
     ),
     flag("--grey", None, "its luma alone, cut to the picture (PNG)"),
+    flag("--tile", Some("N"), "the size of a tile: 8, 16 or 32"),
+    flag(
+        "--shot-first",
+        Some("N"),
+        "the first shot, from 0 to the last",
+    ),
+    flag("--shot-last", Some("N"), "the last shot, from 0 to 999999"),
+    flag(
+        "--plane",
+        Some("N"),
+        "the plane: 0 (Y', as without this word), 1 (Cb) or 2 (Cr)",
+    ),
+    flag(
+        "--version",
+        Some("N"),
+        "the version of the text, or of its reader: 1, or 2 (as without this word)",
+    ),
     flag(
         "--fields",
         None,
@@ -84,7 +101,7 @@ const RECORDING: (&str, &str) = (
 );
 
 /// All verbs.
-pub const VERBS: [Verb; 8] = [
+pub const VERBS: [Verb; 12] = [
     Verb {
         name: "info",
         words: &[RECORDING],
@@ -98,8 +115,37 @@ pub const VERBS: [Verb; 8] = [
             RECORDING,
             ("FILM.y4m", "the film, or - for the standard output"),
         ],
-        about: "writes all frames as a film (YUV4MPEG2), cut to the picture",
-        more: "Joined recordings with the same picture and rate give one film.",
+        about: "writes all frames as a stream (YUV4MPEG2): the whole coded frames",
+        more: "One frame for each accepted packet, repeats too, written by the library's proved call. Joined\n\
+               recordings with the same first line give one stream. Memory does not grow with its length.",
+        options: &[
+            "--stream",
+            "--after-gap",
+            "--index",
+            "--max-memory",
+            "--force",
+            "--json",
+            "--quiet",
+        ],
+    },
+    Verb {
+        name: "y4m check",
+        words: &[("FILM.y4m", "a stream, or - for the standard input")],
+        about: "says what a stream holds, or what is wrong with it",
+        more: "The library's proved reader accepts exactly the streams that `y4m` writes; where it refuses, it is\n\
+               said at which byte, what stands there and what may. FFmpeg's own streams have more on their first\n\
+               line, so that they are refused. A file may have any length: it is mapped, and no planes are stored.",
+        options: &["--max-memory", "--json", "--quiet"],
+    },
+    Verb {
+        name: "cut",
+        words: &[
+            RECORDING,
+            ("FILM.y4m", "the film, or - for the standard output"),
+        ],
+        about: "writes all frames as a film for players, cut to the picture",
+        more: "What should be shown of each frame and no more, by this command and not by a proved call. Where the\n\
+               picture is the whole frame, it is what `y4m` writes.",
         options: &[
             "--stream",
             "--after-gap",
@@ -192,6 +238,32 @@ pub const VERBS: [Verb; 8] = [
         options: &["--max-memory", "--json", "--quiet"],
     },
     Verb {
+        name: "settings check",
+        words: &[(
+            "SETTINGS.txt",
+            "a text of settings, or - for the standard input",
+        )],
+        about: "says what settings hold, or which line is wrong",
+        more: "The library's proved reader for the version decides; that for version 2 takes texts of version 1\n\
+               too. Where it refuses, it is said which line, what stands there and what may.",
+        options: &["--version", "--json", "--quiet"],
+    },
+    Verb {
+        name: "settings write",
+        words: &[("SETTINGS.txt", "the text, or - for the standard output")],
+        about: "writes settings of the scoring scripts",
+        more: "--tile, --shot-first and --shot-last must be given.",
+        options: &[
+            "--tile",
+            "--shot-first",
+            "--shot-last",
+            "--plane",
+            "--version",
+            "--force",
+            "--quiet",
+        ],
+    },
+    Verb {
         name: "sample",
         words: &[(
             "OUT.ogv",
@@ -272,19 +344,40 @@ pub fn parse(words: &[OsString]) -> Result<Wanted, String> {
     match names[..] {
         [] => Err(format!("a verb is missing\n\n{}", overview())),
         ["help" | "--help" | "-h"] => Ok(Wanted::Text(overview())),
-        ["help", name, ..] => Ok(Wanted::Text(help(verb(name)?))),
+        ["help", ref name @ ..] => Ok(Wanted::Text(help(verb(name)?.0))),
         ["version" | "--version" | "-V"] => Ok(Wanted::Text(version())),
-        [name, ..] => parse_verb(verb(name)?, &words[1..]),
+        ref names => {
+            let (verb, rest) = verb(names)?;
+            parse_verb(verb, &words[words.len() - rest..])
+        }
     }
 }
 
-/// The verb of this name.
-fn verb(name: &str) -> Result<&'static Verb, String> {
-    VERBS.iter().find(|verb| verb.name == name).ok_or_else(|| {
+/// The verb that these words begin with, which has one or two words, and how many
+/// words are behind it. A recording named `check` is `./check`.
+fn verb(names: &[&str]) -> Result<(&'static Verb, usize), String> {
+    let named = |count: usize| {
+        let name = names.get(..count)?.join(" ");
+        let verb = VERBS.iter().find(|verb| verb.name == name)?;
+        Some((verb, names.len() - count))
+    };
+    named(2).or_else(|| named(1)).ok_or_else(|| {
+        let name = match VERBS.iter().any(|verb| begins(verb, names[0])) {
+            true => names[..names.len().min(2)].join(" "),
+            false => names[0].to_string(),
+        };
+        let name = name.as_str();
         let names = VERBS.iter().map(|verb| verb.name);
         let hint = hint(name, names.chain(["help", "version"]));
         format!("{name}: no such verb{hint}; wedgepetal help names all")
     })
+}
+
+/// Whether a verb of two words begins with this one.
+fn begins(verb: &Verb, word: &str) -> bool {
+    verb.name
+        .split_once(' ')
+        .is_some_and(|(first, _)| first == word)
 }
 
 /// Reads the words behind a verb.
@@ -514,6 +607,12 @@ mod tests {
         assert_eq!(job.value("--index"), Some(OsStr::new("i.csv")));
         assert!(job.has("--force") && !job.has("--quiet"));
         assert_eq!(self::job("info -- --help").words, ["--help"]);
+        let check = self::job("y4m check f --json");
+        assert_eq!(
+            (check.verb, &check.words[..]),
+            ("y4m check", &["f".into()][..])
+        );
+        assert_eq!(self::job("y4m ./check f").verb, "y4m");
     }
 
     #[test]
@@ -530,6 +629,10 @@ mod tests {
         assert!(wrong("y4m a b --index --force").contains("FILE.csv is missing"));
         assert!(wrong("y4m a b --force=1").contains("--force takes no value"));
         assert!(wrong("").starts_with("a verb is missing"));
+        assert!(wrong("settings a").starts_with("settings a: no such verb"));
+        assert!(wrong("settings chek a").contains("(did you mean settings check?)"));
+        assert!(wrong("help settings").starts_with("settings: no such verb"));
+        assert!(wrong("settings check").contains("SETTINGS.txt is missing"));
         let job = job("picture a b --frame x");
         let frame = job.parsed("--frame", |text| text.parse::<u64>().ok());
         assert_eq!(frame, Err("--frame x: expected --frame N".to_string()));

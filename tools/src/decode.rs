@@ -185,7 +185,7 @@ impl Decoder<'_> {
         let Stage::Headers(headers) = &playing.stage else {
             return Ok(Flow::On);
         };
-        let player = match player(headers, &self.request.limit) {
+        let player = match player(headers, &self.request) {
             Ok(player) => player,
             Err(why) => {
                 playing.refuse(why);
@@ -379,7 +379,7 @@ impl Playing {
 
 /// A player of a stream with these three headers. The second, with its
 /// comments, is not looked at.
-fn player(headers: &[Vec<u8>], limit: &Limit) -> Result<Player, String> {
+fn player(headers: &[Vec<u8>], request: &Request) -> Result<Player, String> {
     let said = |number: usize, name: &str, refusal: Refusal| {
         let refusal = refusal.in_packet(headers[number].len());
         format!("packet {number}, the {name} header: {refusal}")
@@ -387,7 +387,11 @@ fn player(headers: &[Vec<u8>], limit: &Limit) -> Result<Player, String> {
     let session =
         identification(&headers[0]).map_err(|refusal| said(0, "identification", refusal))?;
     let table = setup(&headers[2]).map_err(|refusal| said(2, "setup", refusal))?;
-    match limit.excess(&session) {
+    let excess = request
+        .output
+        .memory(&session)
+        .and_then(|beside| request.limit.excess(&session, beside));
+    match excess {
         Ok(None) => Player::new(session, table).map_err(|why| why.to_string()),
         Ok(Some(text)) => Err(text),
         Err(refusal) => Err(refusal.to_string()),

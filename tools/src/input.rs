@@ -45,7 +45,7 @@ impl Input {
 }
 
 /// Opens a file to be read.
-fn open(path: &Path) -> Result<File, Failure> {
+pub fn open(path: &Path) -> Result<File, Failure> {
     let file = File::open(path).map_err(|error| Failure::file(path, error))?;
     match file.metadata().is_ok_and(|data| data.is_dir()) {
         true => Err(Failure::file(path, "is a folder")),

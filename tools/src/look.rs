@@ -1,10 +1,10 @@
 //! How one frame is shown: in colour by the library's proved call, as a PNG or
 //! PPM file, or its luma alone.
 
+use crate::cut::Cut;
 use crate::output::Trouble;
 use crate::png::{self, Samples};
 use crate::target::Target;
-use crate::y4m::Y4m;
 use std::ffi::OsStr;
 use std::io::{self, Write};
 use std::path::Path;
@@ -35,8 +35,8 @@ impl Look {
         frame: Frame<'_>,
     ) -> Result<(), Trouble> {
         if self.grey {
-            let y4m = Y4m::of(session).map_err(Trouble::Unfit)?;
-            let (width, rows) = y4m.luma(frame);
+            let cut = Cut::of(session).map_err(Trouble::Unfit)?;
+            let (width, rows) = cut.luma(frame);
             target.open()?;
             return Ok(target.write(|out| png::write(out, Samples::Grey, width, &rows))?);
         }
@@ -59,9 +59,9 @@ impl Look {
         let mut bytes = vec![0; 768 * (named.fmbw * named.fmbh) as usize];
         match named.rgb(frame.bytes(), &mut bytes) {
             Ok(_) => Ok((16 * named.fmbw as usize, bytes)),
-            Err(Refusal::COLOUR_SPACE) if session.cs == 0 => Err(format!(
+            Err(Refusal::UNKNOWN_COLOUR) if session.cs == 0 => Err(format!(
                 "{}: the recording says 0, which is unknown; --colour-space 1 or 2 names it",
-                Refusal::COLOUR_SPACE
+                Refusal::UNKNOWN_COLOUR
             )),
             Err(refusal) => Err(refusal.to_string()),
         }

@@ -2,8 +2,10 @@
 
 mod arguments;
 mod clock;
+mod cut;
 mod decode;
 mod fields;
+mod film;
 mod index;
 mod info;
 mod input;
@@ -12,6 +14,7 @@ mod json;
 mod layout;
 mod left;
 mod look;
+mod mapped;
 mod memory;
 mod output;
 mod packets;
@@ -19,16 +22,17 @@ mod places;
 mod png;
 mod progress;
 mod sample;
+mod settings;
 mod summary;
 mod target;
 mod work;
-mod y4m;
 
 use arguments::{Job, Wanted};
 use decode::{AfterGap, Request};
 use index::Index;
 use input::{Input, is_same_file};
 use look::Look;
+use mapped::Mapped;
 use memory::Limit;
 use output::{Folder, Output, Trouble};
 use recording::{Choice, Fault, packet_file};
@@ -38,6 +42,7 @@ use std::io::{self, ErrorKind, Write};
 use std::path::Path;
 use std::process::ExitCode;
 use target::{Target, is_standard};
+use wedgepetal::Settings;
 
 /// Why the command fails.
 enum Failure {
@@ -144,6 +149,9 @@ fn perform(job: &Job) -> Result<Said, Failure> {
         "packets" => write_packets(job),
         "work" => measure(job),
         "sample" => write_sample(job),
+        "y4m check" => check_film(job),
+        "settings check" => check_settings(job),
+        "settings write" => write_settings(job),
         _ => decode_recording(job),
     }
 }
@@ -154,16 +162,30 @@ fn describe(job: &Job) -> Result<Said, Failure> {
     let name = input.name.clone();
     let limit = Limit::new(parsed(job, "--max-memory", memory::parse)?);
     let info = info::read(input, job.has("--places").then_some(limit))?;
-    let text = match (job.has("--json"), job.has("--quiet")) {
-        (true, _) => format!("{}\n", info.json(&name)),
-        (false, true) => info.faults(&name),
-        (false, false) => info.text(&name, job.has("--fields")),
-    };
     Ok(Said {
-        text,
+        text: match form(job) {
+            Form::Json => format!("{}\n", info.json(&name)),
+            Form::Faults => info.faults(&name),
+            Form::Text => info.text(&name, job.has("--fields")),
+        },
         output_taken: job.has("--quiet"),
         clean: info.is_clean(),
     })
+}
+
+/// In which form a job's answer is wanted.
+enum Form {
+    Json,
+    Faults,
+    Text,
+}
+
+fn form(job: &Job) -> Form {
+    match (job.has("--json"), job.has("--quiet")) {
+        (true, _) => Form::Json,
+        (false, true) => Form::Faults,
+        (false, false) => Form::Text,
+    }
 }
 
 /// Says how much work a recording's packets cause.
@@ -172,10 +194,10 @@ fn measure(job: &Job) -> Result<Said, Failure> {
     let input = Input::open(Path::new(&job.words[0]), job.has("--quiet"))?;
     let name = input.name.clone();
     let work = work::measure(input, &limit)?;
-    let text = match (job.has("--json"), job.has("--quiet")) {
-        (true, _) => format!("{}\n", work.json(&name)),
-        (false, true) => work.faults(&name),
-        (false, false) => work.text(&name),
+    let text = match form(job) {
+        Form::Json => format!("{}\n", work.json(&name)),
+        Form::Faults => work.faults(&name),
+        Form::Text => work.text(&name),
     };
     Ok(Said {
         text,
@@ -194,15 +216,15 @@ fn decode_recording(job: &Job) -> Result<Said, Failure> {
     let input = Input::open(path, job.has("--quiet"))?;
     let name = input.name.clone();
     let summary = decode::decode(input, request)?;
-    let text = match (job.has("--json"), job.has("--quiet")) {
-        (true, _) => format!("{}\n", summary.json(&name)),
-        (false, true) => summary.faults(&name),
-        (false, false) if job.verb == "picture" && summary.is_clean() => {
+    let text = match form(job) {
+        Form::Json => format!("{}\n", summary.json(&name)),
+        Form::Faults => summary.faults(&name),
+        Form::Text if job.verb == "picture" && summary.is_clean() => {
             let frame = parsed(job, "--frame", |text| text.parse::<u64>().ok())?;
             let frame = frame.unwrap_or(0);
             target::said(out, format!("frame {frame} of {name}\n"))
         }
-        (false, false) => summary.text(&name),
+        Form::Text => summary.text(&name),
     };
     Ok(Said {
         text,
@@ -220,6 +242,7 @@ fn request(job: &Job, out: &Path) -> Result<Request, Failure> {
             let target = Target::plan(out, force).map_err(Failure::File)?;
             match verb {
                 "y4m" => Output::Film(target, None),
+                "cut" => Output::Cut(target, None),
                 "picture" => {
                     let frame = parsed(job, "--frame", |text| text.parse().ok())?;
                     let space = parsed(job, "--colour-space", |text| text.parse().ok())?;
@@ -284,16 +307,92 @@ fn write_packets(job: &Job) -> Result<Said, Failure> {
     let input = Input::open(path, job.has("--quiet"))?;
     let name = input.name.clone();
     let written = packets::write(input, choice(job)?, target)?;
-    let text = match (job.has("--json"), job.has("--quiet")) {
-        (true, _) => format!("{}\n", written.json(&name)),
-        (false, true) => written.faults(&name),
-        (false, false) => written.text(&name),
+    let text = match form(job) {
+        Form::Json => format!("{}\n", written.json(&name)),
+        Form::Faults => written.faults(&name),
+        Form::Text => written.text(&name),
     };
     Ok(Said {
         text,
         output_taken: is_standard(out) || job.has("--quiet"),
         clean: written.is_clean(),
     })
+}
+
+/// What is said of a file that is read.
+fn name(path: &Path) -> String {
+    match is_standard(path) {
+        true => "standard input".to_string(),
+        false => path.display().to_string(),
+    }
+}
+
+/// Says what a stream of frames holds.
+fn check_film(job: &Job) -> Result<Said, Failure> {
+    let path = Path::new(&job.words[0]);
+    let limit = Limit::new(parsed(job, "--max-memory", memory::parse)?);
+    let checked = film::check(&Mapped::open(path, &limit)?);
+    let name = name(path);
+    let text = match form(job) {
+        Form::Json => format!("{}\n", checked.json(&name)),
+        Form::Faults => checked.faults(&name),
+        Form::Text => checked.text(&name),
+    };
+    Ok(Said {
+        text,
+        output_taken: job.has("--quiet"),
+        clean: checked.is_clean(),
+    })
+}
+
+/// Says what settings hold.
+fn check_settings(job: &Job) -> Result<Said, Failure> {
+    let path = Path::new(&job.words[0]);
+    let version = number(job, "--version")?.unwrap_or(2);
+    let text = Mapped::open(path, &Limit::new(None))?;
+    let checked = settings::check(version, &text);
+    let name = name(path);
+    let text = match form(job) {
+        Form::Json => format!("{}\n", checked.json(&name)),
+        Form::Faults => checked.faults(&name),
+        Form::Text => checked.text(&name),
+    };
+    Ok(Said {
+        text,
+        output_taken: job.has("--quiet"),
+        clean: checked.is_clean(),
+    })
+}
+
+/// Writes settings.
+fn write_settings(job: &Job) -> Result<Said, Failure> {
+    let out = Path::new(&job.words[0]);
+    let wanted = |name: &str| {
+        let text = format!("settings write: {name} N is missing");
+        number(job, name)?.ok_or(Failure::Usage(text))
+    };
+    let settings = Settings {
+        tile: wanted("--tile")?,
+        shot_first: wanted("--shot-first")?,
+        shot_last: wanted("--shot-last")?,
+        plane: number(job, "--plane")?.unwrap_or(0),
+    };
+    let version = number(job, "--version")?.unwrap_or(2);
+    let text = settings::text(version, &settings).map_err(Failure::Refused)?;
+    target::write_file(out, job.has("--force"), text.as_bytes()).map_err(Failure::File)?;
+    Ok(Said {
+        text: match job.has("--quiet") {
+            true => String::new(),
+            false => target::said(out, format!("{} bytes written\n", text.len())),
+        },
+        output_taken: is_standard(out),
+        clean: true,
+    })
+}
+
+/// The value of an option that is a whole number.
+fn number(job: &Job, name: &str) -> Result<Option<u64>, Failure> {
+    parsed(job, name, |text| text.parse().ok())
 }
 
 /// Writes the sample in the form that its name asks for.

@@ -21,13 +21,19 @@ impl Limit {
         }
     }
 
-    /// What a player of this session would take too much, in words, if it does.
+    /// The limit in bytes.
+    pub fn bytes(&self) -> u64 {
+        self.bytes
+    }
+
+    /// What a player of this session would take too much, in words, if it does,
+    /// with so many bytes beside it.
     ///
     /// # Errors
     ///
     /// Number 8, as for every call on a session.
-    pub fn excess(&self, session: &Session) -> Result<Option<String>, Refusal> {
-        let bytes = Player::memory(session)?;
+    pub fn excess(&self, session: &Session, beside: u64) -> Result<Option<String>, Refusal> {
+        let bytes = Player::memory(session)? + beside;
         let text = || {
             let (wanted, allowed) = (counted(bytes), counted(self.bytes));
             format!(
@@ -180,9 +186,9 @@ mod tests {
         let header = crate::sample::identification_header();
         let session = wedgepetal::identification(&header).unwrap();
         let need = Player::memory(&session).unwrap();
-        assert_eq!(Limit::new(Some(need)).excess(&session), Ok(None));
+        assert_eq!(Limit::new(Some(need)).excess(&session, 0), Ok(None));
         let text = Limit::new(Some(need - 1))
-            .excess(&session)
+            .excess(&session, 0)
             .unwrap()
             .unwrap();
         assert!(text.contains("need 649.7 kB"), "{text}");

@@ -1,15 +1,15 @@
-//! What is made of decoded frames: a film, planes, a picture, hashes.
+//! What is made of decoded frames: films, planes, a picture, hashes.
 
+use crate::cut::Cut;
 use crate::interrupt::begun;
 use crate::layout;
 use crate::look::Look;
 use crate::target::{Target, Temporary, is_standard, resolved, said};
-use crate::y4m::Y4m;
 use recording::hash::hash;
 use std::fs::{self, File};
 use std::io::{ErrorKind, Write};
 use std::path::{Path, PathBuf};
-use wedgepetal::{Frame, FrameAnswer, Kind, Player, Refusal};
+use wedgepetal::{FilmWriter, Frame, FrameAnswer, Kind, Player, Refusal, Session};
 
 /// Why an output takes no more.
 #[derive(Debug)]
@@ -47,8 +47,11 @@ impl<'a> Answer<'a> {
 
 /// What is made of decoded frames.
 pub enum Output {
+    /// The whole frames as a stream, by the library's proved writer, which is
+    /// there once the first line is written.
+    Film(Target, Option<FilmWriter>),
     /// The picture regions, one after the other, and the line before the first.
-    Film(Target, Option<String>),
+    Cut(Target, Option<String>),
     /// A folder with a file for each frame.
     Frames(Folder),
     /// A line for each packet.
@@ -61,7 +64,8 @@ impl Output {
     /// The frames of a stream follow.
     pub fn begin(&mut self, stream: u64, player: &Player) -> Result<(), Trouble> {
         match self {
-            Output::Film(target, line) => begin_film(target, line, player),
+            Output::Film(target, film) => begin_film(target, film, player),
+            Output::Cut(target, line) => begin_cut(target, line, player),
             Output::Frames(folder) => Ok(folder.begin(stream, player)?),
             Output::Hashes(target) => {
                 open_once(target)?;
@@ -80,9 +84,14 @@ impl Output {
                 target.write(|out| out.write_all(line.as_bytes()))?;
             }
             (Output::Frames(folder), Some(frame)) => folder.write(answer.number, frame)?,
-            (Output::Film(target, _), Some(frame)) => {
-                let y4m = Y4m::of(answer.player.session()).map_err(Trouble::Unfit)?;
-                target.write(|out| y4m.write_frame(out, frame))?;
+            (Output::Film(target, Some(film)), Some(frame)) => {
+                let refused = |refusal: Refusal| Trouble::Unfit(refusal.to_string());
+                let bytes = film.frame(frame.bytes()).map_err(refused)?;
+                target.write(|out| out.write_all(bytes))?;
+            }
+            (Output::Cut(target, _), Some(frame)) => {
+                let cut = Cut::of(answer.player.session()).map_err(Trouble::Unfit)?;
+                target.write(|out| cut.write_frame(out, frame))?;
             }
             (Output::Picture(target, wanted, look), Some(frame))
                 if *wanted == Some(answer.number) =>
@@ -118,32 +127,48 @@ impl Output {
         self.target().is_some_and(Target::is_standard)
     }
 
+    /// How many bytes of memory it takes beside the player of a session.
+    ///
+    /// # Errors
+    ///
+    /// Number 8, as for every call on a session.
+    pub fn memory(&self, session: &Session) -> Result<u64, Refusal> {
+        match self {
+            Output::Film(..) => FilmWriter::memory(session),
+            _ => Ok(0),
+        }
+    }
+
     fn target(&self) -> Option<&Target> {
         match self {
-            Output::Film(target, _) | Output::Hashes(target) | Output::Picture(target, ..) => {
-                Some(target)
-            }
+            Output::Film(target, _)
+            | Output::Cut(target, _)
+            | Output::Hashes(target)
+            | Output::Picture(target, ..) => Some(target),
+            Output::Frames(_) => None,
+        }
+    }
+
+    fn target_mut(&mut self) -> Option<&mut Target> {
+        match self {
+            Output::Film(target, _)
+            | Output::Cut(target, _)
+            | Output::Hashes(target)
+            | Output::Picture(target, ..) => Some(target),
             Output::Frames(_) => None,
         }
     }
 
     /// Writes what is still held back.
     pub fn flush(&mut self) -> Result<(), String> {
-        match self {
-            Output::Film(target, _) | Output::Hashes(target) | Output::Picture(target, ..) => {
-                target.flush()
-            }
-            Output::Frames(_) => Ok(()),
-        }
+        self.target_mut().map_or(Ok(()), Target::flush)
     }
 
     /// All is written: it takes its own name.
     pub fn finish(&mut self) -> Result<(), String> {
         match self {
-            Output::Film(target, _) | Output::Hashes(target) | Output::Picture(target, ..) => {
-                target.finish()
-            }
             Output::Frames(folder) => folder.finish(),
+            _ => self.target_mut().map_or(Ok(()), Target::finish),
         }
     }
 }
@@ -159,17 +184,39 @@ fn open_once(target: &mut Target) -> Result<(), String> {
 /// Begins a film, or goes on with one whose first line is the same.
 fn begin_film(
     target: &mut Target,
+    film: &mut Option<FilmWriter>,
+    player: &Player,
+) -> Result<(), Trouble> {
+    let next = FilmWriter::new(player.session()).map_err(|why| Trouble::Unfit(why.to_string()))?;
+    match film {
+        Some(film) if film.header() == next.header() => Ok(()),
+        Some(_) => Err(no_way_on(&String::from_utf8_lossy(next.header()))),
+        None => {
+            target.open()?;
+            target.write(|out| out.write_all(next.header()))?;
+            *film = Some(next);
+            Ok(())
+        }
+    }
+}
+
+/// A film has one first line, and this is another.
+fn no_way_on(line: &str) -> Trouble {
+    let line = line.trim_end();
+    Trouble::Unfit(format!("the film cannot go on with it: {line}"))
+}
+
+/// Begins a film of pictures, or goes on with one whose first line is the same.
+fn begin_cut(
+    target: &mut Target,
     line: &mut Option<String>,
     player: &Player,
 ) -> Result<(), Trouble> {
-    let y4m = Y4m::of(player.session()).map_err(Trouble::Unfit)?;
-    let wanted = y4m.header();
+    let cut = Cut::of(player.session()).map_err(Trouble::Unfit)?;
+    let wanted = cut.header();
     match line {
         Some(line) if *line == wanted => Ok(()),
-        Some(_) => Err(Trouble::Unfit(format!(
-            "the film cannot go on with it: {}",
-            wanted.trim_end()
-        ))),
+        Some(_) => Err(no_way_on(&wanted)),
         None => {
             target.open()?;
             target.write(|out| out.write_all(wanted.as_bytes()))?;

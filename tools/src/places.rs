@@ -36,7 +36,7 @@ impl Places {
 
     /// The headers are read.
     pub fn begin(&mut self, session: &Session, table: &Table) {
-        let player = match self.limit.excess(session) {
+        let player = match self.limit.excess(session, 0) {
             Ok(None) => Player::new(session.clone(), table.clone()).map_err(|why| why.to_string()),
             Ok(Some(text)) => Err(text),
             Err(refusal) => Err(refusal.to_string()),

@@ -39,7 +39,7 @@ pub fn measure(input: Input, limit: &Limit) -> Result<Work, Failure> {
     let session = identification(first).map_err(|why| refused(why.in_packet(first.len())))?;
     let table = setup(third).map_err(|why| refused(why.in_packet(third.len())))?;
     if let Some(text) = limit
-        .excess(&session)
+        .excess(&session, 0)
         .map_err(|why| refused(why.to_string()))?
     {
         return Err(refused(text));

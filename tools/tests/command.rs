@@ -33,9 +33,9 @@ fn the_sample_in_every_form() {
         assert_eq!(fs::read(folder.join(name)).unwrap().len(), 115_200);
     }
     let film = fs::read(folder.join("s.y4m")).unwrap();
-    let header = b"YUV4MPEG2 W320 H232 F25:1 Ip A1:1 C420jpeg\n";
+    let header = b"YUV4MPEG2 W320 H240 F25:1 Ip A1:1 C420jpeg\n";
     assert!(film.starts_with(header));
-    assert_eq!(film.len(), header.len() + 7 * (6 + 320 * 232 * 3 / 2));
+    assert_eq!(film.len(), header.len() + 7 * (6 + 115_200));
     let index = fs::read_to_string(folder.join("s.csv")).unwrap();
     let rows: Vec<&str> = index.lines().collect();
     assert_eq!(
@@ -54,6 +54,135 @@ fn the_sample_in_every_form() {
     let all = format!("\"tokens\": {}, ", tokens.iter().sum::<u64>());
     assert!(json.contains(&all), "{json}");
     assert_eq!(rows.len(), 8);
+}
+
+#[test]
+fn films_whole_and_cut() {
+    let folder = folder("films");
+    good(&folder, "sample s.packets");
+    good(&folder, "y4m s.packets s.y4m");
+    good(&folder, "frames s.packets planes");
+    let film = fs::read(folder.join("s.y4m")).unwrap();
+    // The planes of each frame, and what the film has of them.
+    for frame in 0..7 {
+        let planes = fs::read(folder.join(format!("planes/{frame:06}.planes"))).unwrap();
+        let text = &film[43 + frame * 115_206..][..115_206];
+        assert_eq!(&text[..6], b"FRAME\n");
+        let mut turned: Vec<u8> = Vec::new();
+        for (from, rows, row) in [(0, 240, 320), (76_800, 120, 160), (96_000, 120, 160)] {
+            let plane = &planes[from..from + rows * row];
+            plane.rchunks(row).for_each(|row| turned.extend(row));
+        }
+        assert!(turned == text[6..]);
+    }
+    let said = "s.y4m: 7 frames of 320 x 240 samples (4:2:0), 25/1 a second, samples 1:1\n";
+    assert_eq!(good(&folder, "y4m check s.y4m"), said);
+    assert_eq!(good(&folder, "y4m check s.y4m --quiet"), "");
+    let input = fs::File::open(folder.join("s.y4m")).unwrap();
+    let output = command(&folder, "y4m check -").stdin(input).output();
+    let (status, out, _) = ended(&output.unwrap());
+    assert_eq!((status, out), (0, said.replace("s.y4m", "standard input")));
+    let input = fs::File::open(folder.join("s.y4m")).unwrap();
+    let output = command(&folder, "y4m check - --max-memory 1K")
+        .stdin(input)
+        .output();
+    let (status, _, err) = ended(&output.unwrap());
+    assert!(status == 2 && err.contains("has more than 1.0 kB"), "{err}");
+    // The picture alone is another film, which the reader refuses.
+    good(&folder, "cut s.packets cut.y4m");
+    let cut = fs::read(folder.join("cut.y4m")).unwrap();
+    let header = b"YUV4MPEG2 W320 H232 F25:1 Ip A1:1 C420jpeg\n";
+    assert!(cut.starts_with(header));
+    assert_eq!(cut.len(), header.len() + 7 * (6 + 320 * 232 * 3 / 2));
+    let (status, out, err) = run(&folder, "y4m check cut.y4m");
+    assert_eq!((status, &err[..]), (1, ""));
+    assert!(
+        out.starts_with("cut.y4m: refused by 21, ")
+            && out
+                .ends_with("\"232 F25:1 Ip A1:1 C420jp\" .. stands there; a multiple of 16 may\n"),
+        "{out}"
+    );
+    let (status, out, _) = run(&folder, "y4m check cut.y4m --json");
+    assert!(
+        status == 1 && out.contains("\"refusal\": 21, ") && out.contains("\"byte\": 16, "),
+        "{out}"
+    );
+    fs::write(folder.join("short.y4m"), &film[..film.len() - 1]).unwrap();
+    let (status, _, err) = run(&folder, "y4m check short.y4m --quiet");
+    assert!(
+        status == 1 && err.ends_with("the end, 1 bytes before that of frame 6\n"),
+        "{err}"
+    );
+    fs::write(folder.join("empty"), b"").unwrap();
+    assert_eq!(run(&folder, "y4m check empty").0, 1);
+    assert_eq!(run(&folder, "y4m check missing").0, 2);
+}
+
+#[test]
+fn settings_are_written_and_checked() {
+    let folder = folder("settings");
+    let words = "settings write s.txt --tile 16 --shot-first 3 --shot-last 9";
+    assert_eq!(
+        good(&folder, &format!("{words} --plane 1")),
+        "s.txt: 51 bytes written\n"
+    );
+    let text = fs::read_to_string(folder.join("s.txt")).unwrap();
+    assert_eq!(
+        text,
+        "version=2\ntile=16\nshot_first=3\nshot_last=9\nplane=1\n"
+    );
+    assert_eq!(
+        good(&folder, "settings check s.txt"),
+        "s.txt: version 2, tile 16, shots 3 to 9, plane 1\n"
+    );
+    assert_eq!(good(&folder, "settings check s.txt --quiet"), "");
+    let json = good(&folder, "settings check s.txt --json");
+    assert!(json.contains("\"version\": 2, \"tile\": 16, "), "{json}");
+    let (status, out, _) = run(&folder, "settings check s.txt --version 1");
+    assert!(
+        status == 1 && out.starts_with("s.txt: refused by 19: line 1: "),
+        "{out}"
+    );
+    // A text that is there is not replaced, and one that is refused not written.
+    let (status, _, err) = run(&folder, words);
+    assert!(status == 2 && err.contains("is there already"), "{err}");
+    for (more, why) in [
+        (
+            "--version 1 --plane 1",
+            "plane 1; version 1 holds plane 0 alone",
+        ),
+        ("--version 3", "there is no version 3; 1 and 2 are"),
+        ("--plane 3", "plane 3; 0 to 2 may be"),
+        ("--tile 9", "tile 9; 8, 16 or 32 may be"),
+    ] {
+        let (status, _, err) = run(&folder, &format!("{words} --force {more}"));
+        assert_eq!(
+            (status, err),
+            (1, format!("wedgepetal: refused by 20: {why}\n"))
+        );
+    }
+    let (status, _, err) = run(&folder, "settings write t.txt --tile 8 --shot-last 9");
+    assert!(
+        status == 2 && err.contains("--shot-first N is missing"),
+        "{err}"
+    );
+    assert_eq!(names(&folder), ["s.txt"]);
+    let out = good(&folder, &format!("{words} --force --version 1 --quiet"));
+    assert_eq!(out, "");
+    assert_eq!(
+        good(&folder, "settings check s.txt"),
+        "s.txt: version 1, tile 16, shots 3 to 9, plane 0\n"
+    );
+    fs::write(folder.join("s.txt"), text.replace("16", "016")).unwrap();
+    let (status, out, _) = run(&folder, "settings check s.txt");
+    assert_eq!(
+        (status, &out[..]),
+        (
+            1,
+            "s.txt: refused by 20: line 2: \"tile=016\" stands there; \
+             tile=8 or tile=16 or tile=32 may\n"
+        )
+    );
 }
 
 #[test]
@@ -518,7 +647,7 @@ fn memory_is_summed_up_before_it_is_asked_for() {
     let (status, out, err) = run(&folder, "y4m huge f --index i");
     assert_eq!((status, &out[..]), (1, ""));
     assert!(
-        err.contains("huge: its frames need 17.8 TB of memory, more than the "),
+        err.contains("huge: its frames need 21.1 TB of memory, more than the "),
         "{err}"
     );
     assert!(

@@ -66,7 +66,7 @@ fn joined_ogg_files_are_read_one_after_the_other() {
          j.ogv: stream 2: 14 frames (2 intra, 10 inter, 2 repeat), no packet refused\n"
     );
     let film = fs::read(folder.join("j.y4m")).unwrap();
-    assert_eq!(film.len(), 43 + 21 * (6 + 320 * 232 * 3 / 2));
+    assert_eq!(film.len(), 43 + 21 * (6 + 320 * 240 * 3 / 2));
     let index = fs::read_to_string(folder.join("j.csv")).unwrap();
     let rows: Vec<&str> = index.lines().collect();
     assert_row(rows[7], "1,9,6,inter,20,", ",1,6,,,,0.240000");
@@ -93,7 +93,7 @@ fn a_film_does_not_go_on_with_another_picture_of_an_ogg_file() {
         "j.ogv",
         &[pages(5, &packets, 1), pages(6, &lower(&packets), 1)].concat(),
     );
-    let (status, out, _) = run(&folder, "y4m j.ogv j.y4m");
+    let (status, out, _) = run(&folder, "cut j.ogv j.y4m");
     assert_eq!(status, 1);
     assert!(out.contains("j.ogv: stream 2: 0 frames"), "{out}");
     assert!(
@@ -104,9 +104,25 @@ fn a_film_does_not_go_on_with_another_picture_of_an_ogg_file() {
         fs::read(folder.join("j.y4m")).unwrap().len(),
         43 + 7 * (6 + 320 * 232 * 3 / 2)
     );
-    good(&folder, "y4m j.ogv second.y4m --stream 2");
+    good(&folder, "cut j.ogv second.y4m --stream 2");
     let film = fs::read(folder.join("second.y4m")).unwrap();
     assert!(film.starts_with(b"YUV4MPEG2 W320 H100 "));
+    // Of whole frames it is one stream, until the rate is another.
+    good(&folder, "y4m j.ogv whole.y4m");
+    let said = good(&folder, "y4m check whole.y4m");
+    assert!(said.starts_with("whole.y4m: 14 frames of 320 x 240 samples"));
+    let slower = changed_header(&packets, 22, &[0, 0, 0, 24]);
+    write(
+        &folder,
+        "k.ogv",
+        &[pages(5, &packets, 1), pages(6, &slower, 1)].concat(),
+    );
+    let (status, out, _) = run(&folder, "y4m k.ogv k.y4m");
+    assert_eq!(status, 1);
+    assert!(
+        out.contains("the film cannot go on with it: YUV4MPEG2 W320 H240 F24:1 "),
+        "{out}"
+    );
 }
 
 #[test]

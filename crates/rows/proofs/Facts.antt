@@ -1,13 +1,23 @@
 -- Facts for a loop over rows. Assumes nothing.
-use Prim.Native.Nat.{ℕ, suc, _+_, _-_, _*_, _≤_, _<_}
-use native.Mathlib.Nat.{mul-le-mul-right, suc-mul, add-mul, le-trans, le-of-eq}
+use Prim.Native.Nat.{ℕ, zero, suc, _+_, _-_, _*_, _≤_, _<_}
+use native.Mathlib.Nat.{mul-le-mul-right, lt-of-mul-lt-mul-right, eq-of-mul-eq-mul-right, zero-lt-suc, mul-zero, suc-mul, add-mul, le-trans, le-of-eq}
 use native.Mathlib.Omega.{arith}
-use mathlib.Core.Path.{_≡_, sym, ap, _∙_}
-use mathlib.Core.List.{List, _++_}
+use mathlib.Core.Path.{_≡_, refl, sym, ap, _∙_}
+use mathlib.Core.List.{List, [], _++_}
 use lib.ListN.{length, take}
 use lib.Seq.{length-take-le, take-append-add, take-at}
 use borrow.Rule.Slice.PartMut.{putMid, postOf}
 use Rattle.geometry.specs.Order.{inTurn}
+use Rattle.output.specs.Output.{part}
+
+-- while something is left there is a row more
+pub row-left : (r rows row at from : ℕ) → 0 < from → at ≡ r * row → at + from ≡ rows * row → r < rows
+row-left r rows row at from h a s = lt-of-mul-lt-mul-right row (omega (arith, h, a, s))
+
+-- and rows have samples
+pub row-some : (rows row at from : ℕ) → 0 < from → at + from ≡ rows * row → 0 < row
+row-some rows zero at from h s = omega (arith, h, s, mul-zero rows)
+row-some rows (suc row) at from h s = omega arith
 
 -- a row more fits
 pub row-fits : (r rows row : ℕ) → r < rows → r * row + row ≤ rows * row
@@ -35,3 +45,14 @@ taken-more at n dst mid h e =
 pub in-turn-more : (f : ℕ → List ℕ) (r : ℕ) → inTurn f (r + 1) ≡ inTurn f r ++ f r
 unfolding inTurn
 in-turn-more f r = let e : r + 1 ≡ suc r = omega arith in ap (λ (n : ℕ). inTurn f n) e
+
+-- rows without samples
+no-samples : (g : ℕ → ℕ) (l : List ℕ) (n : ℕ) → inTurn (λ i. part l (g i) 0) n ≡ []
+unfolding inTurn
+no-samples g l zero = refl
+no-samples g l (suc n) = λ i. no-samples g l n i ++ []
+
+-- as many samples are as many rows, or there are none
+pub all-rows : (g : ℕ → ℕ) (l : List ℕ) (r rows row : ℕ) → r * row ≡ rows * row → inTurn (λ i. part l (g i) row) r ≡ inTurn (λ i. part l (g i) row) rows
+all-rows g l r rows zero e = no-samples g l r ∙ sym (no-samples g l rows)
+all-rows g l r rows (suc row) e = ap (λ (n : ℕ). inTurn (λ i. part l (g i) (suc row)) n) (eq-of-mul-eq-mul-right (suc row) (zero-lt-suc row) r rows e)

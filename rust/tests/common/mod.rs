@@ -1,4 +1,5 @@
 //! Sessions and packets that the tests share.
+#![allow(dead_code)]
 
 use wedgepetal::Session;
 

@@ -1,10 +1,11 @@
-//! The picture region of frames as a Y4M film, which most players take.
+//! The picture region of frames as a film for players. The stream of whole
+//! coded frames is the library's, which is proved; this one is not.
 
 use std::io::{self, Write};
 use wedgepetal::{Frame, Samples, Session};
 
 /// What is cut out of each plane.
-pub struct Y4m<'a> {
+pub struct Cut<'a> {
     session: &'a Session,
     /// How many luma samples there are for one of chroma, across and up.
     step: (u64, u64),
@@ -19,9 +20,9 @@ struct Region {
     height: usize,
 }
 
-impl<'a> Y4m<'a> {
+impl<'a> Cut<'a> {
     /// The film of a session's pictures.
-    pub fn of(session: &'a Session) -> Result<Y4m<'a>, String> {
+    pub fn of(session: &'a Session) -> Result<Cut<'a>, String> {
         let step = match session.pf {
             0 => (2, 2),
             2 => (2, 1),
@@ -30,7 +31,7 @@ impl<'a> Y4m<'a> {
         if session.picw == 0 || session.pich == 0 {
             return Err("the picture has no samples, so that there is no film of it".to_string());
         }
-        Ok(Y4m { session, step })
+        Ok(Cut { session, step })
     }
 
     /// The line before the first frame.
@@ -41,9 +42,13 @@ impl<'a> Y4m<'a> {
             (2, _) => "422",
             _ => "444",
         };
+        let (across, up) = match (s.parn, s.pard) {
+            (0, _) | (_, 0) => (0, 0),
+            aspect => aspect,
+        };
         format!(
-            "YUV4MPEG2 W{} H{} F{}:{} Ip A{}:{} C{format}\n",
-            s.picw, s.pich, s.frn, s.frd, s.parn, s.pard
+            "YUV4MPEG2 W{} H{} F{}:{} Ip A{across}:{up} C{format}\n",
+            s.picw, s.pich, s.frn, s.frd
         )
     }
 
@@ -110,13 +115,13 @@ mod tests {
     /// A region of the chroma planes.
     fn chroma(region: [u64; 4], pf: u64) -> [usize; 4] {
         let session = session(region, pf);
-        let y4m = Y4m::of(&session).unwrap();
+        let cut = Cut::of(&session).unwrap();
         let Region {
             left,
             top,
             width,
             height,
-        } = y4m.region(y4m.step);
+        } = cut.region(cut.step);
         [left, top, width, height]
     }
 
@@ -126,7 +131,7 @@ mod tests {
         assert_eq!(chroma([4, 6, 311, 227], 0), [2, 3, 156, 114]);
         assert_eq!(chroma([4, 6, 311, 227], 2), [2, 7, 156, 227]);
         assert_eq!(chroma([4, 6, 311, 227], 3), [4, 7, 311, 227]);
-        assert!(Y4m::of(&session([0, 0, 0, 5], 0)).is_err());
+        assert!(Cut::of(&session([0, 0, 0, 5], 0)).is_err());
     }
 
     #[test]
@@ -149,12 +154,12 @@ mod tests {
         bytes[640 + 2..640 + 5].copy_from_slice(b"def");
         bytes[76800 + 160 + 1..76800 + 160 + 3].copy_from_slice(b"gh");
         bytes[96000 + 160 + 1..96000 + 160 + 3].copy_from_slice(b"ij");
-        let y4m = Y4m::of(&session).unwrap();
-        let mut film = y4m.header().into_bytes();
+        let cut = Cut::of(&session).unwrap();
+        let mut film = cut.header().into_bytes();
         let frame = Frame::new(&sizes, &bytes).unwrap();
-        y4m.write_frame(&mut film, frame).unwrap();
+        cut.write_frame(&mut film, frame).unwrap();
         let wanted = b"YUV4MPEG2 W3 H2 F25:1 Ip A1:1 C420jpeg\nFRAME\ndefabcghij";
         assert_eq!(film, wanted);
-        assert_eq!(y4m.luma(frame), (3, vec![&b"def"[..], b"abc"]));
+        assert_eq!(cut.luma(frame), (3, vec![&b"def"[..], b"abc"]));
     }
 }
