@@ -13,7 +13,6 @@ use Rattle.ways.specs.Ways.{firstWay}
 use Rattle.work_memory.specs.Memory.{Memory}
 use Rattle.work_memory.specs.Lengths.{blocks, lengthsOf, lengthsFit, cleared}
 use Rattle.reading.specs.declared.FrameAnswer.{FrameAnswer}
-use Rattle.reading.specs.Answer.{answerNumbers}
 use Rattle.decoding.specs.Answer.{Done}
 use Rattle.theora.specs.Call.{said, lengthsHold, byRules}
 use Rattle.theora.proofs.Tokens.{said-got}
@@ -24,7 +23,7 @@ use Rattle.buffer_names.specs.Names.{free, Sound}
 use Rattle.buffer_names.proofs.Free.{free-is}
 use Rattle.shot_packets.specs.Play.{Shot, shot, bufferOf, stateOf, callOf, oneMore, played, answerSize, numbersOf, allNumbers}
 use Rattle.shot_packets.specs.Inner.{PlaysAll}
-use Rattle.shot_packets.proofs.Cut.{numbers-more}
+use Rattle.shot_packets.proofs.Cut.{numbers-more, numbers-first}
 use Rattle.shot_packets.proofs.Rules.{sound-after, session-kept, by-decoded}
 use Rattle.shot_packets.proofs.Packet.{big, cleared-memory, fit-with}
 
@@ -160,7 +159,7 @@ module _ (table lengths packets : List ℕ) (s₀ : Session) (n₀ : Names) (m�
               let lp : length p ≡ 8 * i = length-take-le (8 * i) numbers (omega (arith, g .size)) in
               let k : answerSize * (i + 1) ≡ length p + 8 = omega arith in
               ap (take (answerSize * (i + 1))) en ∙ ap (λ (k : ℕ). take k (p ++ (numbersOf a ++ behind))) k ∙ take-append-add p (numbersOf a ++ behind) 8
-              ∙ ap (λ (l : List ℕ). l ++ numbersOf a) (g .stored) ∙ sym (numbers-more (g .answers) a)
+              ∙ (λ j. g .stored j ++ numbers-first a behind j) ∙ sym (numbers-more (g .answers) a)
 
 -- what the loop's indices need
 module _ {table lengths packets : List ℕ} {s₀ : Session} {planes₀ : List (List ℕ)} {n₀ : Names} {m₀ : Memory} {s : Session} {x y z : List ℕ} {n : Names} {m : Memory} {numbers : List ℕ} {at i : ℕ}
