@@ -64,7 +64,7 @@ module _ (c : ShotCall) where
   unfolding lentNumber
   passes h = go (sessionFits (c .session)) (shotLengthsFit c) (namesFit (c .session) (c .names)) h
     where
-      go : (x y z : Bool) → choose x (choose y (choose z 0 8) 1) 8 ≡ 0 → (x ≡ true) × (y ≡ true) × (z ≡ true)
+      go : (x y z : Bool) → _≡_ {A = ℕ} (choose x (choose y (choose z 0 8) 1) 8) 0 → (x ≡ true) × (y ≡ true) × (z ≡ true)
       go true true true h = (refl, refl, refl)
       go true true false h = absurd (omega arith)
       go true false z h = absurd (omega arith)
