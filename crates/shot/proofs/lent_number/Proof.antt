@@ -1,6 +1,7 @@
 -- `shot::lent_number` meets its contract. Assumes nothing.
 use borrow.Author.Needs.{needs}
 use mathlib.Core.Path.{_≡_, sym, _∙_}
+use Rattle.work_memory.specs.Memory.{memory}
 use Rattle.theora.proofs.Lengths.{blocks-few}
 use Rattle.shot.proofs.Calls.{lent-8, lent-1, lent-names, lent-0, long-is}
 use Rattle.shot.proofs.lent_number.Statement.{statement}
@@ -28,19 +29,19 @@ returns : tie.Need-returns
 returns c =
     let z = c .before .before .before .before .before .before .before .before .before .before .before .before .before .before .before .before .before .before .before .before .before .before .before .before in
     let a = z .args in
-    sym (lent-0 _ (sym (c .before .before .before .before .before .before .before .before .session-fits .ensures) ∙ c .before .before .before .before .before .before .before .if1 .taken) (long-is (a .s) (a .names) (a .lengths .now) (a .packets .now) (a .table .now) _ (a .first .now) (a .second .now) (a .third .now) (a .answers .now) (c .before .before .before .before .before .before .lengths-of .ensures) (c .before .before .before .before .before .buffers-fit .ensures) (c .before .before .before .before .lengths-fit .ensures) (c .before .before .before .answers-fit .ensures) (c .before .before .if2 .taken)) (sym (c .before .names-fit .ensures) ∙ c .if3 .taken))
+    sym (lent-0 _ (sym (c .before .before .before .before .before .before .before .before .session-fits .ensures) ∙ c .before .before .before .before .before .before .before .if1 .taken) (long-is (a .s) (a .names) (a .lengths .now) (a .packets .now) (a .table .now) (memory (a .records .now) (a .coded .now) (a .coefs .now) (a .dc .now) (a .lasts .now) (a .flags .now) (a .bits .now) (a .supers .now) (a .modes .now) (a .active .now)) (a .first .now) (a .second .now) (a .third .now) (a .answers .now) (c .before .before .before .before .before .before .lengths-of .ensures) (c .before .before .before .before .before .buffers-fit .ensures) (c .before .before .before .before .lengths-fit .ensures) (c .before .before .before .answers-fit .ensures) (c .before .before .if2 .taken)) (sym (c .before .names-fit .ensures) ∙ c .if3 .taken))
 
 returns-2 : tie.Need-returns-2
 returns-2 c =
     let z = c .before .before .before .before .before .before .before .before .before .before .before .before .before .before .before .before .before .before .before .before .before .before .before .before in
     let a = z .args in
-    sym (lent-names _ (sym (c .before .before .before .before .before .before .before .before .session-fits .ensures) ∙ c .before .before .before .before .before .before .before .if1 .taken) (long-is (a .s) (a .names) (a .lengths .now) (a .packets .now) (a .table .now) _ (a .first .now) (a .second .now) (a .third .now) (a .answers .now) (c .before .before .before .before .before .before .lengths-of .ensures) (c .before .before .before .before .before .buffers-fit .ensures) (c .before .before .before .before .lengths-fit .ensures) (c .before .before .before .answers-fit .ensures) (c .before .before .if2 .taken)) (sym (c .before .names-fit .ensures) ∙ c .if3 .left))
+    sym (lent-names _ (sym (c .before .before .before .before .before .before .before .before .session-fits .ensures) ∙ c .before .before .before .before .before .before .before .if1 .taken) (long-is (a .s) (a .names) (a .lengths .now) (a .packets .now) (a .table .now) (memory (a .records .now) (a .coded .now) (a .coefs .now) (a .dc .now) (a .lasts .now) (a .flags .now) (a .bits .now) (a .supers .now) (a .modes .now) (a .active .now)) (a .first .now) (a .second .now) (a .third .now) (a .answers .now) (c .before .before .before .before .before .before .lengths-of .ensures) (c .before .before .before .before .before .buffers-fit .ensures) (c .before .before .before .before .lengths-fit .ensures) (c .before .before .before .answers-fit .ensures) (c .before .before .if2 .taken)) (sym (c .before .names-fit .ensures) ∙ c .if3 .left))
 
 returns-3 : tie.Need-returns-3
 returns-3 c =
     let z = c .before .before .before .before .before .before .before .before .before .before .before .before .before .before .before .before .before .before .before .before .before .before in
     let a = z .args in
-    sym (lent-1 _ (sym (c .before .before .before .before .before .before .session-fits .ensures) ∙ c .before .before .before .before .before .if1 .taken) (long-is (a .s) (a .names) (a .lengths .now) (a .packets .now) (a .table .now) _ (a .first .now) (a .second .now) (a .third .now) (a .answers .now) (c .before .before .before .before .lengths-of .ensures) (c .before .before .before .buffers-fit .ensures) (c .before .before .lengths-fit .ensures) (c .before .answers-fit .ensures) (c .if2 .left)))
+    sym (lent-1 _ (sym (c .before .before .before .before .before .before .session-fits .ensures) ∙ c .before .before .before .before .before .if1 .taken) (long-is (a .s) (a .names) (a .lengths .now) (a .packets .now) (a .table .now) (memory (a .records .now) (a .coded .now) (a .coefs .now) (a .dc .now) (a .lasts .now) (a .flags .now) (a .bits .now) (a .supers .now) (a .modes .now) (a .active .now)) (a .first .now) (a .second .now) (a .third .now) (a .answers .now) (c .before .before .before .before .lengths-of .ensures) (c .before .before .before .buffers-fit .ensures) (c .before .before .lengths-fit .ensures) (c .before .answers-fit .ensures) (c .if2 .left)))
 
 returns-4 : tie.Need-returns-4
 returns-4 c = sym (lent-8 _ (sym (c .before .session-fits .ensures) ∙ c .if1 .left))

@@ -3,6 +3,7 @@ use borrow.Author.Needs.{needs}
 use mathlib.Core.Path.{_≡_, refl, sym, ap, _∙_, subst}
 use native.Mathlib.Omega.{arith}
 use borrow.Author.Tests.{leb-true, not-true, not-false}
+use Rattle.work_memory.specs.Memory.{memory}
 use Rattle.work_memory.specs.Lengths.{lengthsOf}
 use Rattle.buffer_names.specs.Names.{Sound}
 use Rattle.buffer_names.proofs.First.{sound-first}
@@ -21,7 +22,7 @@ returns : tie.Need-returns
 returns c =
     let z = c .before .before .before .before .before .before .before .before .before .before .before .before .before .before .before .before .before .before in
     let a = z .args in
-    left-by (a .s) (a .names) (a .lengths .now) (a .packets .now) (a .table .now) _ (a .first .now) (a .second .now) (a .third .now) (a .answers .now) 16 (c .refused .result) (c .refused .ensures) (number-16 _ (z .pre .0) (loaded-genuine (a .table .now) (z .pre .1)) (sym (c .before .before .lengths-reach .ensures) ∙ not-true _ (c .before .if1 .taken))) (λ e. omega arith)
+    left-by (a .s) (a .names) (a .lengths .now) (a .packets .now) (a .table .now) (memory (a .records .now) (a .coded .now) (a .coefs .now) (a .dc .now) (a .lasts .now) (a .flags .now) (a .bits .now) (a .supers .now) (a .modes .now) (a .active .now)) (a .first .now) (a .second .now) (a .third .now) (a .answers .now) 16 (c .refused .result) (c .refused .ensures) (number-16 _ (z .pre .0) (loaded-genuine (a .table .now) (z .pre .1)) (sym (c .before .before .lengths-reach .ensures) ∙ not-true _ (c .before .if1 .taken))) (λ e. omega arith)
 
 names-of-requires : tie.Need-names-of-requires
 names-of-requires c κs = search needs
@@ -30,13 +31,13 @@ returns-2 : tie.Need-returns-2
 returns-2 c =
     let z = c .before .before .before .before .before .before .before .before .before .before .before .before .before .before .before .before .before .before .before in
     let a = z .args in
-    shot-empty (a .s) (a .names) (a .lengths .now) (a .packets .now) (a .table .now) _ (a .first .now) (a .second .now) (a .third .now) (a .answers .now) (z .pre .0) (loaded-genuine (a .table .now) (z .pre .1)) (sym (c .before .before .before .lengths-reach .ensures) ∙ not-false _ (c .before .before .if1 .left)) (c .if2 .taken) _ (c .before .names-of .ensures)
+    shot-empty (a .s) (a .names) (a .lengths .now) (a .packets .now) (a .table .now) (memory (a .records .now) (a .coded .now) (a .coefs .now) (a .dc .now) (a .lasts .now) (a .flags .now) (a .bits .now) (a .supers .now) (a .modes .now) (a .active .now)) (a .first .now) (a .second .now) (a .third .now) (a .answers .now) (z .pre .0) (loaded-genuine (a .table .now) (z .pre .1)) (sym (c .before .before .before .lengths-reach .ensures) ∙ not-false _ (c .before .before .if1 .left)) (c .if2 .taken) _ (c .before .names-of .ensures)
 
 clear-memory-requires : tie.Need-clear-memory-requires
 clear-memory-requires c κs =
     let z = c .before .before .before .before .before .before .before .before .before .before .before .before .before .before .before .before .before .before .before .before .before .before .before .before .before .before .before .before .before in
     let a = z .args in
-    ranks-fit (a .s) (a .names) (a .lengths .now) (a .packets .now) (a .table .now) _ (a .first .now) (a .second .now) (a .third .now) (a .answers .now) (z .pre .0)
+    ranks-fit (a .s) (a .names) (a .lengths .now) (a .packets .now) (a .table .now) (memory (a .records .now) (a .coded .now) (a .coefs .now) (a .dc .now) (a .lasts .now) (a .flags .now) (a .bits .now) (a .supers .now) (a .modes .now) (a .active .now)) (a .first .now) (a .second .now) (a .third .now) (a .answers .now) (z .pre .0)
 
 play-packets-requires : tie.Need-play-packets-requires
 play-packets-requires c κs =
@@ -44,9 +45,9 @@ play-packets-requires c κs =
     let a = z .args in
     let p = z .pre .0 in
     let t = passes _ p in
-    let l = planes-long (a .s) (a .names) (a .lengths .now) (a .packets .now) (a .table .now) _ (a .first .now) (a .second .now) (a .third .now) (a .answers .now) p in (
+    let l = planes-long (a .s) (a .names) (a .lengths .now) (a .packets .now) (a .table .now) (memory (a .records .now) (a .coded .now) (a .coefs .now) (a .dc .now) (a .lasts .now) (a .flags .now) (a .bits .now) (a .supers .now) (a .modes .now) (a .active .now)) (a .first .now) (a .second .now) (a .third .now) (a .answers .now) p in (
       (t .0, subst (Sound (a .s)) (sym (c .before .before .before .before .before .before .before .before .before .before .before .before .before .before .before .before .before .before .before .before .before .before .before .before .before .before .before .before .before .before .before .before .before .before .before .before .before .before .before .before .before .before .before .before .names-of .ensures)) (sound-first (a .s) (a .names) (t .2)), z .pre .1),
-      ((c .before .before .before .before .before .before .before .before .before .before .before .before .before .before .before .before .before .before .before .before .before .before .before .before .before .before .before .before .before .before .before .before .clear-memory .ensures (lengthsOf (a .s)) (memory-fits (a .s) (a .names) (a .lengths .now) (a .packets .now) (a .table .now) _ (a .first .now) (a .second .now) (a .third .now) (a .answers .now) p), l .0, l .1, l .2), (leb-true _ _ (sym (c .before .before .before .before .before .before .before .before .before .before .before .before .before .before .before .before .before .before .before .before .before .before .before .before .before .before .before .before .before .before .before .before .before .before .before .before .before .before .before .before .before .before .before .before .before .before .lengths-reach .ensures) ∙ not-false _ (c .before .before .before .before .before .before .before .before .before .before .before .before .before .before .before .before .before .before .before .before .before .before .before .before .before .before .before .before .before .before .before .before .before .before .before .before .before .before .before .before .before .before .before .before .before .if1 .left)), answers-long (a .s) (a .names) (a .lengths .now) (a .packets .now) (a .table .now) _ (a .first .now) (a .second .now) (a .third .now) (a .answers .now) p)),
+      ((c .before .before .before .before .before .before .before .before .before .before .before .before .before .before .before .before .before .before .before .before .before .before .before .before .before .before .before .before .before .before .before .before .clear-memory .ensures (lengthsOf (a .s)) (memory-fits (a .s) (a .names) (a .lengths .now) (a .packets .now) (a .table .now) (memory (a .records .now) (a .coded .now) (a .coefs .now) (a .dc .now) (a .lasts .now) (a .flags .now) (a .bits .now) (a .supers .now) (a .modes .now) (a .active .now)) (a .first .now) (a .second .now) (a .third .now) (a .answers .now) p), l .0, l .1, l .2), (leb-true _ _ (sym (c .before .before .before .before .before .before .before .before .before .before .before .before .before .before .before .before .before .before .before .before .before .before .before .before .before .before .before .before .before .before .before .before .before .before .before .before .before .before .before .before .before .before .before .before .before .before .lengths-reach .ensures) ∙ not-false _ (c .before .before .before .before .before .before .before .before .before .before .before .before .before .before .before .before .before .before .before .before .before .before .before .before .before .before .before .before .before .before .before .before .before .before .before .before .before .before .before .before .before .before .before .before .before .if1 .left)), answers-long (a .s) (a .names) (a .lengths .now) (a .packets .now) (a .table .now) (memory (a .records .now) (a .coded .now) (a .coefs .now) (a .dc .now) (a .lasts .now) (a .flags .now) (a .bits .now) (a .supers .now) (a .modes .now) (a .active .now)) (a .first .now) (a .second .now) (a .third .now) (a .answers .now) p)),
     )
 
 same-length : tie.Need-same-length
@@ -96,7 +97,7 @@ returns-3 c =
     let z = c .before .before .before .before .before .before .before .before .before .before .before .before .before .before .before .before .before .before .before .before .before .before .before .before .before .before .before .before .before .before .before .before .before .before .before .before .before .before .before .before .before .before .before .before .before .before .before .before .before .before .before .before .before .before .before .before .before .before .before .before .before .before .before .before .before .before .before .before .before .before .before .before .before .before .before .before .before .before .before .before .before .before .before .before .before .before .before .before .before .before .before in
     let a = z .args in
     let p = z .pre .0 in
-    shot-some (a .s) (a .names) (a .lengths .now) (a .packets .now) (a .table .now) _ (a .first .now) (a .second .now) (a .third .now) (a .answers .now) p (loaded-genuine (a .table .now) (z .pre .1)) (sym (c .before .before .before .before .before .before .before .before .before .before .before .before .before .before .before .before .before .before .before .before .before .before .before .before .before .before .before .before .before .before .before .before .before .before .before .before .before .before .before .before .before .before .before .before .before .before .before .before .before .before .before .before .before .before .before .before .before .before .before .before .before .before .before .before .before .before .before .before .before .before .before .before .before .before .before .lengths-reach .ensures) ∙ not-false _ (c .before .before .before .before .before .before .before .before .before .before .before .before .before .before .before .before .before .before .before .before .before .before .before .before .before .before .before .before .before .before .before .before .before .before .before .before .before .before .before .before .before .before .before .before .before .before .before .before .before .before .before .before .before .before .before .before .before .before .before .before .before .before .before .before .before .before .before .before .before .before .before .before .before .before .if1 .left)) (c .before .before .before .before .before .before .before .before .before .before .before .before .before .before .before .before .before .before .before .before .before .before .before .before .before .before .before .before .before .before .before .before .before .before .before .before .before .before .before .before .before .before .before .before .before .before .before .before .before .before .before .before .before .before .before .before .before .before .before .before .before .before .before .before .before .before .before .before .before .before .before .before .if2 .left) (c .before .before .before .before .before .before .before .before .before .before .before .before .before .before .before .before .before .before .before .before .before .before .before .before .before .before .before .before .before .before .before .before .before .before .before .before .before .before .before .before .before .before .before .before .before .before .before .before .before .before .before .before .before .before .before .before .before .before .before .before .before .before .before .before .before .before .before .before .before .before .before .before .before .names-of .ensures) (c .before .before .before .before .before .before .before .before .before .before .before .before .before .before .before .before .before .before .before .before .before .before .before .before .before .before .before .before .before .before .before .before .before .before .before .before .before .before .before .before .before .before .before .before .before .before .before .before .before .before .before .before .before .before .before .before .before .before .before .before .before .clear-memory .ensures (lengthsOf (a .s)) (memory-fits (a .s) (a .names) (a .lengths .now) (a .packets .now) (a .table .now) _ (a .first .now) (a .second .now) (a .third .now) (a .answers .now) p)) (c .before .before .before .before .before .before .before .before .before .before .before .before .before .before .before .before .before .before .before .before .before .before .before .before .before .before .before .before .play-packets .ensures)
+    shot-some (a .s) (a .names) (a .lengths .now) (a .packets .now) (a .table .now) (memory (a .records .now) (a .coded .now) (a .coefs .now) (a .dc .now) (a .lasts .now) (a .flags .now) (a .bits .now) (a .supers .now) (a .modes .now) (a .active .now)) (a .first .now) (a .second .now) (a .third .now) (a .answers .now) p (loaded-genuine (a .table .now) (z .pre .1)) (sym (c .before .before .before .before .before .before .before .before .before .before .before .before .before .before .before .before .before .before .before .before .before .before .before .before .before .before .before .before .before .before .before .before .before .before .before .before .before .before .before .before .before .before .before .before .before .before .before .before .before .before .before .before .before .before .before .before .before .before .before .before .before .before .before .before .before .before .before .before .before .before .before .before .before .before .before .lengths-reach .ensures) ∙ not-false _ (c .before .before .before .before .before .before .before .before .before .before .before .before .before .before .before .before .before .before .before .before .before .before .before .before .before .before .before .before .before .before .before .before .before .before .before .before .before .before .before .before .before .before .before .before .before .before .before .before .before .before .before .before .before .before .before .before .before .before .before .before .before .before .before .before .before .before .before .before .before .before .before .before .before .before .if1 .left)) (c .before .before .before .before .before .before .before .before .before .before .before .before .before .before .before .before .before .before .before .before .before .before .before .before .before .before .before .before .before .before .before .before .before .before .before .before .before .before .before .before .before .before .before .before .before .before .before .before .before .before .before .before .before .before .before .before .before .before .before .before .before .before .before .before .before .before .before .before .before .before .before .before .if2 .left) (c .before .before .before .before .before .before .before .before .before .before .before .before .before .before .before .before .before .before .before .before .before .before .before .before .before .before .before .before .before .before .before .before .before .before .before .before .before .before .before .before .before .before .before .before .before .before .before .before .before .before .before .before .before .before .before .before .before .before .before .before .before .before .before .before .before .before .before .before .before .before .before .before .before .names-of .ensures) (c .before .before .before .before .before .before .before .before .before .before .before .before .before .before .before .before .before .before .before .before .before .before .before .before .before .before .before .before .before .before .before .before .before .before .before .before .before .before .before .before .before .before .before .before .before .before .before .before .before .before .before .before .before .before .before .before .before .before .before .before .before .clear-memory .ensures (lengthsOf (a .s)) (memory-fits (a .s) (a .names) (a .lengths .now) (a .packets .now) (a .table .now) (memory (a .records .now) (a .coded .now) (a .coefs .now) (a .dc .now) (a .lasts .now) (a .flags .now) (a .bits .now) (a .supers .now) (a .modes .now) (a .active .now)) (a .first .now) (a .second .now) (a .third .now) (a .answers .now) p)) (c .before .before .before .before .before .before .before .before .before .before .before .before .before .before .before .before .before .before .before .before .before .before .before .before .before .before .before .before .play-packets .ensures)
 
 pub play-loaded-spec : {M : Type 1} → statement M
 play-loaded-spec =

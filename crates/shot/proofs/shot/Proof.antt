@@ -2,6 +2,7 @@
 use borrow.Author.Needs.{needs}
 use mathlib.Core.Path.{_≡_, refl, sym, ap, _∙_, subst}
 use native.Mathlib.Omega.{arith}
+use Rattle.work_memory.specs.Memory.{memory}
 use Rattle.setup.proofs.Held.{genuine-setup, genuine-held, genuine-holds}
 use Rattle.shot.proofs.Calls.{number-lent, number-table, table-is-not, left-by}
 use Rattle.shot.proofs.shot.Statement.{statement}
@@ -59,7 +60,7 @@ returns : tie.Need-returns
 returns c =
     let z = c .before .before .before .before .before .before .before .before .before .before .before .before .before .before .before .before .before .before .before .before .before .before .before .before .before .before .before .before .before .before .before .before in
     let a = z .args in
-    left-by (a .s) (a .names) (a .lengths .now) (a .packets .now) (a .table .now) _ (a .first .now) (a .second .now) (a .third .now) (a .answers .now) _ (c .refused .result) (c .refused .ensures) (number-lent _ (λ e. c .before .if1 .taken (c .before .before .lent-number .ensures ∙ e)) ∙ sym (c .before .before .lent-number .ensures)) (c .before .if1 .taken)
+    left-by (a .s) (a .names) (a .lengths .now) (a .packets .now) (a .table .now) (memory (a .records .now) (a .coded .now) (a .coefs .now) (a .dc .now) (a .lasts .now) (a .flags .now) (a .bits .now) (a .supers .now) (a .modes .now) (a .active .now)) (a .first .now) (a .second .now) (a .third .now) (a .answers .now) _ (c .refused .result) (c .refused .ensures) (number-lent _ (λ e. c .before .if1 .taken (c .before .before .lent-number .ensures ∙ e)) ∙ sym (c .before .before .lent-number .ensures)) (c .before .if1 .taken)
 
 load-table-requires : tie.Need-load-table-requires
 load-table-requires c κs = search needs
@@ -128,7 +129,7 @@ returns-2 : tie.Need-returns-2
 returns-2 c =
     let z = c .before .before .before .before .before .before .before .before .before .before .before .before .before .before .before .before .before .before .before .before .before .before .before .before .before .before .before .before .before .before .before .before .before .before .before in
     let a = z .args in
-    left-by (a .s) (a .names) (a .lengths .now) (a .packets .now) (a .table .now) _ (a .first .now) (a .second .now) (a .third .now) (a .answers .now) 8 (c .refused2 .result) (c .refused2 .ensures) (number-table _ (sym (c .before .before .before .before .before .lent-number .ensures) ∙ c .before .before .before .before .if1 .left) (table-is-not (a .table .now) (c .before .before .before .load-table .ensures) (c .before .enum-told .given .1))) (λ e. omega arith)
+    left-by (a .s) (a .names) (a .lengths .now) (a .packets .now) (a .table .now) (memory (a .records .now) (a .coded .now) (a .coefs .now) (a .dc .now) (a .lasts .now) (a .flags .now) (a .bits .now) (a .supers .now) (a .modes .now) (a .active .now)) (a .first .now) (a .second .now) (a .third .now) (a .answers .now) 8 (c .refused2 .result) (c .refused2 .ensures) (number-table _ (sym (c .before .before .before .before .before .lent-number .ensures) ∙ c .before .before .before .before .if1 .left) (table-is-not (a .table .now) (c .before .before .before .load-table .ensures) (c .before .enum-told .given .1))) (λ e. omega arith)
 
 same-length-29 : tie.Need-same-length-29
 same-length-29 c = c .before .before .before .before .before .before .before .before .before .before .before .before .before .before .before .before .before .before .before .before .before .before .before .before .before .records .given
