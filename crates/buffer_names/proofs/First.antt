@@ -5,7 +5,7 @@ use lib.Dec.{ltb}
 use borrow.Author.Tests.{ltb-true}
 use Rattle.bitstream.specs.Reading.{choose}
 use Rattle.headers.specs.declared.Session.{Session}
-use Rattle.headers.proofs.Fitting.{and-both}
+use Rattle.bitstream.proofs.ListLaws.{and-both}
 use Rattle.buffer_names.specs.declared.Names.{Names}
 use Rattle.buffer_names.specs.Names.{names, namesOf, namesFit, Sound}
 use Rattle.buffer_names.proofs.Free.{none}

@@ -35,9 +35,9 @@ use Rattle.work_memory.specs.Lengths.{blocks, lengthsOf, lengthsFit, cleared}
 use Rattle.reading.specs.Answer.{Asked, read, answerFor}
 use Rattle.decoding.specs.Answer.{State, state, done, blocksAsked, matricesAsked, qiAt, picture, newBy}
 use Rattle.theora.specs.Lengths.{buffersFit}
-use Rattle.theora.specs.Call.{Call, lengthsHold, said, memoryAfter, byRules}
-use Rattle.theora.proofs.Tokens.{said-got}
-use Rattle.shot_packets.proofs.Rules.{said-kind}
+use Rattle.theora.specs.Call.{Call, lengthsHold, outcomeOf, memoryAfter, byRules}
+use Rattle.theora.proofs.Tokens.{outcome-got}
+use Rattle.shot_packets.proofs.Rules.{outcome-kind}
 use Rattle.shot.specs.Claims.{Alone}
 
 -- ---- a frame whose blocks are all coded, and predicted from no reference
@@ -89,20 +89,20 @@ module _ (s : Session) (golden previous golden′ previous′ : List ℕ) (c : C
   unfolding buffersFit
   hold-same = λ i. all (eqb (eg i) (64 * blocks s) ∷ eqb (ep i) (64 * blocks s) ∷ eqb (length (c .new)) (64 * blocks s) ∷ eqb (length (c .table)) tableBytes ∷ []) && lengthsFit (lengthsOf s) (c .memory)
 
-  said-same : said st c ≡ said st′ c
-  unfolding said
-  said-same = ap (λ (b : Bool). choose (sessionFits s) (choose b (read s (c .table) (c .packet)) (refused 1 0)) (refused 8 0)) hold-same
+  outcome-same : outcomeOf st c ≡ outcomeOf st′ c
+  unfolding outcomeOf
+  outcome-same = ap (λ (b : Bool). choose (sessionFits s) (choose b (read s (c .table) (c .packet)) (refused 1 0)) (refused 8 0)) hold-same
 
   memory-same : memoryAfter st c ≡ memoryAfter st′ c
   unfolding memoryAfter
   memory-same = ap (λ (b : Bool). choose (sessionFits s && b) (cleared (lengthsOf s)) (c .memory)) hold-same
 
-  new-same : (o : Outcome Asked) → said st c ≡ o → newBy firstWay st (c .new) o ≡ newBy firstWay st′ (c .new) o
+  new-same : (o : Outcome Asked) → outcomeOf st c ≡ o → newBy firstWay st (c .new) o ≡ newBy firstWay st′ (c .new) o
   unfolding picture recordOf
   new-same (refused k e) h = refl
   new-same (got a e) h =
-      let kind : a .frame .header .kind ≡ Intra = ⊎-elim (λ y. y) (λ y. absurd (true≢false (sym y ∙ none))) (said-kind st c h) in
-      let reads = said-got st c h .0 in
+      let kind : a .frame .header .kind ≡ Intra = ⊎-elim (λ y. y) (λ y. absurd (true≢false (sym y ∙ none))) (outcome-kind st c h) in
+      let reads = outcome-got st c h .0 in
       let fits = packet-fits (format s) (s .fields .fmbw) (s .fields .fmbh) (a .setup .trees) (s .references) (c .packet) reads in
       frame-alone (format s) (s .fields .fmbw) (s .fields .fmbh) (blocksAsked a) (matricesAsked a) (limitOf (a .setup) (qiAt a 0))
       (λ b x y o. intra-coded (format s) (s .fields .fmbw) (s .fields .fmbh) (a .setup .trees) (s .references) (c .packet) reads kind b (o .inside))
@@ -111,9 +111,9 @@ module _ (s : Session) (golden previous golden′ previous′ : List ℕ) (c : C
   pub call-alone : byRules firstWay st c ≡ byRules firstWay st′ c
   unfolding byRules
   call-alone =
-      let n = new-same (said st c) refl in
-      (λ i. done (answerFor s (said st c)) (n i) (memory-same i))
-      ∙ ap (λ (o : Outcome Asked). done (answerFor s o) (newBy firstWay st′ (c .new) o) (memoryAfter st′ c)) said-same
+      let n = new-same (outcomeOf st c) refl in
+      (λ i. done (answerFor s (outcomeOf st c)) (n i) (memory-same i))
+      ∙ ap (λ (o : Outcome Asked). done (answerFor s o) (newBy firstWay st′ (c .new) o) (memoryAfter st′ c)) outcome-same
 
 pub alone : Alone
 alone = call-alone

@@ -12,7 +12,7 @@ use Rattle.bitstream.specs.Answer.{asEnd}
 use Rattle.bitstream.specs.declared.End.the-variants.{Refused as Stopped}
 use Rattle.headers.specs.declared.Session.{Session}
 use Rattle.headers.specs.Fits.{sessionFits}
-use Rattle.headers.proofs.Fitting.{and-both}
+use Rattle.bitstream.proofs.ListLaws.{and-both}
 use Rattle.setup.specs.Header.{Setup, setupHeader}
 use Rattle.setup.specs.Loaded.{asSetupRead}
 use Rattle.setup.specs.declared.SetupRead.{SetupRead}

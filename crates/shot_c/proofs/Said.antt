@@ -18,7 +18,7 @@ use Rattle.ways.specs.Ways.{firstWay}
 use Rattle.work_memory.specs.Memory.{Memory}
 use Rattle.reading.specs.Answer.{Asked, sessionAfter, answerFor}
 use Rattle.decoding.specs.Answer.{Way}
-use Rattle.theora.specs.Call.{Call, said, byRules}
+use Rattle.theora.specs.Call.{Call, outcomeOf, byRules}
 use Rattle.packet_list.specs.Packets.{packetsIn}
 use Rattle.shot_packets.specs.Play.{Shot, stateOf, callOf, after, oneMore, played}
 use Rattle.shot.specs.Call.{ShotCall, ShotDone, shotCall, shotNumber, startOf, ended, unchanged, byShot}
@@ -39,7 +39,7 @@ played-fields : (way : Way) (table : List ℕ) (h : Shot) (ps : List (List ℕ))
 unfolding played oneMore byRules
 played-fields way table h [] = refl
 played-fields way table h (p ∷ ps) =
-    played-fields way table (after h (byRules way (stateOf h) (callOf table h p))) ps ∙ answer-fields (h .session) (said (stateOf h) (callOf table h p))
+    played-fields way table (after h (byRules way (stateOf h) (callOf table h p))) ps ∙ answer-fields (h .session) (outcomeOf (stateOf h) (callOf table h p))
 
 -- ---- a session's list whose last three numbers are set
 module _ (l : List ℕ) (h : length l ≡ 19) where

@@ -14,8 +14,8 @@ use Rattle.work_memory.specs.Memory.{Memory}
 use Rattle.work_memory.specs.Lengths.{blocks, lengthsOf, lengthsFit, cleared}
 use Rattle.reading.specs.declared.FrameAnswer.{FrameAnswer}
 use Rattle.decoding.specs.Answer.{Done}
-use Rattle.theora.specs.Call.{said, lengthsHold, byRules}
-use Rattle.theora.proofs.Tokens.{said-got}
+use Rattle.theora.specs.Call.{outcomeOf, lengthsHold, byRules}
+use Rattle.theora.proofs.Tokens.{outcome-got}
 use Rattle.packet_list.specs.Packets.{packetsIn, total}
 use Rattle.packet_list.proofs.Walk.{total-drop, packets-left, packets-none}
 use Rattle.buffer_names.specs.declared.Names.{Names}
@@ -65,7 +65,7 @@ module _ (s : Session) (fits : sessionFits s ≡ true) (x y z : List ℕ) (n : N
   more-kept =
       let st = stateOf h in
       let c = callOf table h packet in
-      let k = session-kept s fits (said st c) (λ a e r. said-got st c r .1) in
+      let k = session-kept s fits (outcomeOf st c) (λ a e r. outcome-got st c r .1) in
       (k .0, k .1, k .2, sound-after h refl sound firstWay c, ap (λ (d : Done). d .memory) (by-decoded firstWay st packet table (c .new) fits m (holds s x y z n m (ap (lengthsFit (lengthsOf s)) em ∙ cleared-memory s) table packet ht hx hy hz answers)))
 
 -- ---- a shot that is being played: what is left of it is what was to be played

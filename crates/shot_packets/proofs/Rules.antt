@@ -14,7 +14,7 @@ use Rattle.bitstream.proofs.Fields.{no-mix}
 use Rattle.headers.specs.declared.Session.{Session}
 use Rattle.headers.specs.Fits.{sessionFits}
 use Rattle.headers.specs.Sizes.{format}
-use Rattle.headers.proofs.Fitting.{and-both}
+use Rattle.bitstream.proofs.ListLaws.{and-both}
 use Rattle.setup.specs.Header.{setupHeader}
 use Rattle.setup.specs.Loaded.{Holds}
 use Rattle.setup.specs.declared.LoadedSetup.{LoadedSetup}
@@ -31,11 +31,11 @@ use Rattle.reading.specs.declared.Verdict.{Verdict}
 use Rattle.reading.specs.declared.Verdict.the-variants.{Accepted, Refused}
 use Rattle.reading.specs.Answer.{Asked, staysCounted, read, sessionAfter, answerFor}
 use Rattle.reading.proofs.Counted.{fits-after}
-use Rattle.reading.proofs.Places.{said-by}
+use Rattle.reading.proofs.Places.{outcome-by}
 use Rattle.decoding.specs.Answer.{State, Done, Way, state, done, newBy, decoded}
-use Rattle.theora.specs.Call.{Call, call, lengthsHold, said, memoryAfter, byRules}
+use Rattle.theora.specs.Call.{Call, call, lengthsHold, outcomeOf, memoryAfter, byRules}
 use Rattle.theora.specs.Demand.{handedOn}
-use Rattle.theora.proofs.Tokens.{said-got}
+use Rattle.theora.proofs.Tokens.{outcome-got}
 use Rattle.buffer_names.specs.declared.Names.{Names}
 use Rattle.buffer_names.specs.Names.{names, free, namesAfter, Sound}
 use Rattle.buffer_names.proofs.Free.{free-is}
@@ -46,10 +46,10 @@ use Rattle.shot_packets.specs.Inner.{TableLoaded}
 abbrev IntraUnless : Session → Kind → Type 0
 IntraUnless s kind = (kind ≡ Intra) ⊎ (s .references ≡ true)
 
-pub said-kind : (st : State) (c : Call) {a : Asked} {e : ℕ} → said st c ≡ got a e → IntraUnless (st .session) (a .frame .header .kind)
-said-kind st c {a} {e} h = go (c .packet) (said-got st c h .0)
+pub outcome-kind : (st : State) (c : Call) {a : Asked} {e : ℕ} → outcomeOf st c ≡ got a e → IntraUnless (st .session) (a .frame .header .kind)
+outcome-kind st c {a} {e} h = go (c .packet) (outcome-got st c h .0)
   where
-    go : (p : List ℕ) → said-by (st .session) p (a .setup) ≡ got (a .frame) e → IntraUnless (st .session) (a .frame .header .kind)
+    go : (p : List ℕ) → outcome-by (st .session) p (a .setup) ≡ got (a .frame) e → IntraUnless (st .session) (a .frame .header .kind)
     go [] h = let s = st .session in inr (packet-repeat (format s) (s .fields .fmbw) (s .fields .fmbh) (a .setup .trees) (s .references) h .2)
     go (b ∷ p) h =
         let s = st .session in
@@ -138,17 +138,17 @@ module _ (h : Shot) (three : length (h .planes) ≡ 3) (sound : Sound (h .sessio
   -- by the rules the names stay sound
   pub sound-after : (way : Way) (c : Call) → let g = after h (byRules way (stateOf h) c) in Sound (g .session) (g .names)
   unfolding byRules
-  sound-after way c = go (said (stateOf h) c) refl
+  sound-after way c = go (outcomeOf (stateOf h) c) refl
     where
-      go : (o : Outcome Asked) → said (stateOf h) c ≡ o → let g = after h (done (answerFor (h .session) o) (newBy way (stateOf h) (c .new) o) (memoryAfter (stateOf h) c)) in Sound (g .session) (g .names)
+      go : (o : Outcome Asked) → outcomeOf (stateOf h) c ≡ o → let g = after h (done (answerFor (h .session) o) (newBy way (stateOf h) (c .new) o) (memoryAfter (stateOf h) c)) in Sound (g .session) (g .names)
       go (refused j e) w = sound-refused (h .session) (h .names) sound j e Repeat
-      go (got a e) w = sound-accepted (h .session) (h .names) sound (a .frame .body .tokens .tokens) (a .frame .header .kind) (said-kind (stateOf h) c w)
+      go (got a e) w = sound-accepted (h .session) (h .names) sound (a .frame .body .tokens .tokens) (a .frame .header .kind) (outcome-kind (stateOf h) c w)
 
 -- ---- the rules do not look at what work memory held
 module _ (way : Way) (st : State) (p t new : List ℕ) (fits : sessionFits (st .session) ≡ true) where
   -- a call past its length check
   pub by-decoded : (m : Memory) → lengthsHold st (call p t m new) ≡ true → byRules way st (call p t m new) ≡ decoded way st new (read (st .session) t p)
-  unfolding byRules said memoryAfter
+  unfolding byRules outcomeOf memoryAfter
   by-decoded m l = rw (fits, l)
 
   pub any-memory : (m m′ : Memory) → lengthsHold st (call p t m new) ≡ true → lengthsHold st (call p t m′ new) ≡ true → byRules way st (call p t m new) ≡ byRules way st (call p t m′ new)

@@ -4,7 +4,7 @@ use mathlib.Core.Path.{_≡_, refl, sym, ap, _∙_}
 use lib.Dec.{eqb}
 use lib.ListN.{length}
 use borrow.Author.Tests.{eqb-true}
-use Rattle.headers.proofs.Fitting.{and-both}
+use Rattle.bitstream.proofs.ListLaws.{and-both}
 use Rattle.work_memory.specs.Memory.{memory}
 use Rattle.shot_c.proofs.Calls.{shot-made, shot-unmade}
 use Rattle.shot_c.proofs.wedgepetal_shot.Statement.{statement}
