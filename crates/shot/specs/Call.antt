@@ -6,6 +6,7 @@ use mathlib.Core.List.{List, [], _∷_}
 use lib.Dec.{eqb, leb}
 use lib.ListN.{length, getD}
 use Rattle.bitstream.specs.Reading.{choose}
+use Rattle.bitstream.specs.Numbers.{wrongLength, notGenuine, pastPackets}
 use Rattle.headers.specs.declared.Session.{Session}
 use Rattle.headers.specs.Fits.{sessionFits}
 use Rattle.setup.specs.Table.{isTable}
@@ -59,11 +60,11 @@ reaches c = leb (total (c .lengths)) (length (c .joined))
 
 -- the tests before table memory is looked at: the identification part of 8, then 1, then the names, which are 8
 unfoldable pub lentNumber : ShotCall → ℕ
-lentNumber c = choose (sessionFits (c .session)) (choose (shotLengthsFit c) (choose (namesFit (c .session) (c .names)) 0 8) 1) 8
+lentNumber c = choose (sessionFits (c .session)) (choose (shotLengthsFit c) (choose (namesFit (c .session) (c .names)) 0 notGenuine) wrongLength) notGenuine
 
 -- then the rest of 8; "number 16, found after 1 and 8 and before the first packet". 0 where the call is accepted
 unfoldable pub shotNumber : ShotCall → ℕ
-shotNumber c = choose (eqb (lentNumber c) 0) (choose (isTable (c .table)) (choose (reaches c) 0 16) 8) (lentNumber c)
+shotNumber c = choose (eqb (lentNumber c) 0) (choose (isTable (c .table)) (choose (reaches c) 0 pastPackets) notGenuine) (lentNumber c)
 
 -- ---- what a call leaves
 pub record ShotDone : Type 0 where

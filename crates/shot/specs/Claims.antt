@@ -4,6 +4,7 @@ use mathlib.Core.Path.{_≡_}
 use mathlib.Core.Bool.{true, false}
 use mathlib.Core.List.{List, [], _∷_, _++_, map}
 use lib.ListN.{length, drop}
+use Rattle.bitstream.specs.Numbers.{pastPackets}
 use Rattle.headers.specs.declared.Session.{Session}
 use Rattle.setup.specs.Table.{isTable}
 use Rattle.ways.specs.Ways.{firstWay, secondWay}
@@ -54,8 +55,8 @@ pub record Cuts (does : State → Call → Done) (table : List ℕ) (h : Shot) :
 -- ---- 16 exactly where everything else passes, and the lengths reach past the packets' end
 abbrev pub SixteenExactly : Type 0
 SixteenExactly = (c : ShotCall)
-    → ((lentNumber c ≡ 0) × (isTable (c .table) ≡ true) × (length (c .joined) < total (c .lengths)) → shotNumber c ≡ 16)
-    × (shotNumber c ≡ 16 → (lentNumber c ≡ 0) × (isTable (c .table) ≡ true) × (length (c .joined) < total (c .lengths)))
+    → ((lentNumber c ≡ 0) × (isTable (c .table) ≡ true) × (length (c .joined) < total (c .lengths)) → shotNumber c ≡ pastPackets)
+    × (shotNumber c ≡ pastPackets → (lentNumber c ≡ 0) × (isTable (c .table) ≡ true) × (length (c .joined) < total (c .lengths)))
 
 -- ---- without references what is lent as golden and previous, and is as long, does not matter
 abbrev pub Alone : Type 0

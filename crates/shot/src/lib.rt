@@ -1,5 +1,5 @@
 // A whole shot in one call: packets joined together, applied in order, with three buffers that are named.
-use bitstream::End as Place;
+use bitstream::End;
 use buffer_names::Names;
 use headers::Session;
 use setup::LoadedSetup;
@@ -87,11 +87,11 @@ pub fn lent_number(
             if buffer_names::names_fit(s, names) {
                 return 0;
             }
-            return 8;
+            return bitstream::NOT_GENUINE;
         }
-        return 1;
+        return bitstream::WRONG_LENGTH;
     }
-    8
+    bitstream::NOT_GENUINE
 }
 
 // A shot whose lent lengths and names passed their tests, by the setup that table memory holds.
@@ -123,7 +123,7 @@ fn play_loaded(
 {
     let reach = packet_list::lengths_reach(lengths, packets.len() as u64);
     if !reach {
-        return refused(16, s, names);
+        return refused(bitstream::PAST_PACKETS, s, names);
     }
     let both = buffer_names::names_of(s, names);
     if lengths.len() == 0 {
@@ -229,8 +229,8 @@ pub fn shot(
     let held = setup::load_table(table);
     let place = held.place;
     match place {
-        Place::Refused(_, _) => refused(8, s, names),
-        Place::At(_) => play_loaded(
+        End::Refused(_, _) => refused(bitstream::NOT_GENUINE, s, names),
+        End::At(_) => play_loaded(
             s,
             names,
             lengths,

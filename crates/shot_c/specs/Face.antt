@@ -6,6 +6,7 @@ use mathlib.Core.List.{List, [], _∷_}
 use lib.Dec.{eqb}
 use lib.ListN.{length, getD, set}
 use Rattle.bitstream.specs.Reading.{choose}
+use Rattle.bitstream.specs.Numbers.{wrongLength}
 use Rattle.headers.specs.declared.Session.{Session}
 use Rattle.session_list.specs.List.{sessionOf}
 use Rattle.ways.specs.Ways.{firstWay}
@@ -66,7 +67,7 @@ unfoldable pub shotFace : (session names lengths joined table : List ℕ) → Me
 shotFace session names lengths joined table memory first second third answers =
     choose (eqb (length session) 19 && eqb (length names) 2)
     (doneReturned session names (byShot firstWay (shotCall (sessionOf session) (namesIn names) lengths joined table memory first second third answers)))
-    (shotGives (lists 1 session names) first second third memory answers)
+    (shotGives (lists wrongLength session names) first second third memory answers)
 
 -- ---- the lists that a call leaves say what the next call is to be given: session and names as `shot` answers them
 abbrev pub ListsSay : Type 0

@@ -103,5 +103,5 @@ pub extern "C" fn wedgepetal_shot(
         );
         return return_shot(done, session, names);
     }
-    1
+    bitstream::WRONG_LENGTH
 }
