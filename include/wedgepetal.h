@@ -24,9 +24,9 @@
  * Each call returns 0 if it is accepted, else the number of its refusal. Where
  * several numbers apply, they are found in this order: 1 for the session's list,
  * 8 for its numbers, 1 for any other list, 8 for the table memory, then a fault
- * of the packet, then 17 (for a picture: 18, then 14), or 255 if there is no
- * such thing as is asked for. The calls on streams of frames and on settings say
- * their own order; none of their refusals writes anything.
+ * of the packet, then 17 (for a picture: 18, then 14; for a shot: 16), or 255 if
+ * there is no such thing as is asked for. The calls on streams of frames and on
+ * settings say their own order; none of their refusals writes anything.
  *
  * A refusal found inside a packet (2 to 7, 9 to 13) has a place: the bit of the
  * packet, counted from 0 and from the highest bit of byte 0 on, at which the
@@ -42,6 +42,10 @@
  *   frame           session, new_frame,   answer (*)     answer; work memory: all zero
  *                   answer; work                         (8 for the session's numbers:
  *                   memory: all zero                     answer (*) alone)
+ *   shot            session, names, one   nothing        nothing
+ *                   or more buffers and
+ *                   answers; work memory:
+ *                   all zero (**)
  *   rgb, y4m_write, y4m_header, y4m_frame, settings_write
  *                   out, written          nothing        nothing
  *   y4m_read        planes, film          nothing        nothing
@@ -50,6 +54,7 @@
  *
  *   (*) nothing where the list for the place or the answer, or the session's
  *       list, has itself another length than it must have
+ *  (**) nothing for a shot of no packets
  *
  * Planes are 0 (Y'), 1 (Cb) and 2 (Cr). A block has 8 by 8 samples of one
  * plane, a super block 4 by 4 blocks; a macro block has 16 by 16 samples of Y'
@@ -81,7 +86,8 @@ enum {
                                        sum above 63, a code longer than 32, a 33rd leaf */
     WEDGEPETAL_NOT_GENUINE = 8,     /* the session's identification fields break 5, 6 or their
                                        widths, or its others are not below 2 to the power
-                                       KFGSHIFT; or no accepted setup packet leaves this table
+                                       KFGSHIFT; or a shot with references, and a name that is
+                                       not 0 to 2; or no accepted setup packet leaves this table
                                        memory */
     WEDGEPETAL_NO_REFERENCES = 9,   /* an inter or empty packet, and no references */
     WEDGEPETAL_NO_FRAME = 10,       /* the first bit of a frame packet is 1 */
@@ -89,6 +95,7 @@ enum {
     WEDGEPETAL_LONG_RUN = 12,       /* a run exceeds the bits still wanted */
     WEDGEPETAL_PAST_BLOCK = 13,     /* a token moves its block past position 64 */
     WEDGEPETAL_SHORT_OUTPUT = 14,   /* the lent output is too short; reading a stream: planes are */
+    WEDGEPETAL_PAST_PACKETS = 16,   /* the lengths of a shot's packets reach past their end */
     WEDGEPETAL_UNCOUNTED = 17,      /* key frames would pass 64 bits, or others would not stay
                                        below 2 to the power KFGSHIFT; found after all else */
     WEDGEPETAL_UNKNOWN_COLOUR = 18, /* CS is neither 1 nor 2 */
@@ -304,6 +311,59 @@ uint32_t wedgepetal_frame(uint64_t *session, size_t session_length,
                           const uint8_t *previous, size_t previous_length,
                           uint8_t *new_frame, size_t new_frame_length,
                           uint64_t *answer, size_t answer_length);
+
+/* ---- Shots. */
+
+/* The names of a shot's buffers are a list of 2 numbers: which of the three
+ * buffers, 0 to 2, holds golden and which previous. Without references both are
+ * WEDGEPETAL_NO_BUFFER in the answer, and ignored in what is lent. */
+enum { WEDGEPETAL_GOLDEN, WEDGEPETAL_PREVIOUS, WEDGEPETAL_NAME_NUMBERS };
+enum { WEDGEPETAL_NO_BUFFER = 3 };
+
+/* Decodes all packets of a shot, in order: what one wedgepetal_frame for each
+ * would give, refused packets included. Table memory is tested once, and work
+ * memory cleared once.
+ *
+ * session  (19 numbers) as wedgepetal_frame leaves it after the last packet; a
+ *          reference number that says yes already stays
+ * names    (2 numbers) where golden and previous lie, before and after
+ * lengths  the lengths of the packets in bytes; 0 is an empty packet
+ * packets  the packets, joined together; bytes behind the last are ignored
+ * table    (WEDGEPETAL_TABLE_BYTES bytes) what wedgepetal_setup left; only read
+ * records to active
+ *          work memory, as for wedgepetal_frame
+ * first, second, third
+ *          (64 NBS bytes each) buffers 0 to 2. Each new frame goes into the
+ *          first that holds neither golden nor previous: buffer 0 without
+ *          references
+ * answers  (8 numbers for each packet) receives the answer of each packet, as
+ *          of wedgepetal_frame, also of a refused one
+ *
+ * Returns 0, whatever the packets answer, or refuses the whole shot, in this
+ * order: 1 for the lists of the session and the names, 8 for the session's
+ * fields and its others, 1 for any other list, 8 for a name and for the table
+ * memory, 16 if the lengths reach past the packets' end. A refused shot writes
+ * nothing, and a shot of no packets changes nothing but the names (to
+ * WEDGEPETAL_NO_BUFFER without references). */
+uint32_t wedgepetal_shot(uint64_t *session, size_t session_length,
+                         uint64_t *names, size_t names_length,
+                         const uint64_t *lengths, size_t lengths_length,
+                         const uint8_t *packets, size_t packets_length,
+                         const uint8_t *table, size_t table_length,
+                         uint32_t *records, size_t records_length,
+                         uint64_t *coded, size_t coded_length,
+                         int16_t *coefs, size_t coefs_length,
+                         int16_t *dc, size_t dc_length,
+                         uint8_t *lasts, size_t lasts_length,
+                         uint8_t *flags, size_t flags_length,
+                         uint8_t *bits, size_t bits_length,
+                         uint8_t *supers, size_t supers_length,
+                         uint8_t *modes, size_t modes_length,
+                         uint64_t *active, size_t active_length,
+                         uint8_t *first, size_t first_length,
+                         uint8_t *second, size_t second_length,
+                         uint8_t *third, size_t third_length,
+                         uint64_t *answers, size_t answers_length);
 
 /* ---- What is made of a decoded frame. */
 

@@ -10,7 +10,7 @@ pub struct Refusal {
     /// The number.
     pub number: u32,
     /// The bit place in the packet of the first bit of the field at fault, from
-    /// 0; 0 where no field of a packet is (1, 8, 14, 17 to 21, 255).
+    /// 0; 0 where no field of a packet is (1, 8, 14, 16 to 21, 255).
     pub place: u64,
 }
 
@@ -46,6 +46,8 @@ impl Refusal {
     pub const PAST_BLOCK: Refusal = Refusal::by(13);
     /// The lent output, or the plane buffer for a stream's frames, is too short.
     pub const SHORT_OUTPUT: Refusal = Refusal::by(14);
+    /// The lengths of a shot's packets reach past their end.
+    pub const PAST_PACKETS: Refusal = Refusal::by(16);
     /// A key frame more than 64 bits count, or so many other packets since the
     /// last one that they would not stay below 2 to the power KFGSHIFT.
     pub const UNCOUNTED: Refusal = Refusal::by(17);
@@ -100,6 +102,7 @@ impl Refusal {
             12 => "a run exceeds the bits still wanted",
             13 => "a token moves its block past position 64",
             14 => "the lent output is too short",
+            16 => "the lengths of the packets reach past their end",
             17 => {
                 "the key frames would pass 64 bits, \
                  or the packets since the last one would reach 2 to the power KFGSHIFT"

@@ -57,6 +57,10 @@ pastBlock = 13
 abbrev pub shortOutput : ℕ
 shortOutput = 14
 
+-- request 6: the lengths of packets reach past the joined bytes
+abbrev pub pastPackets : ℕ
+pastPackets = 16
+
 -- request 7: one packet more than the session can count
 abbrev pub uncounted : ℕ
 uncounted = 17

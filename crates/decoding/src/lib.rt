@@ -109,7 +109,7 @@ fn make(
 }
 
 // A packet, by a setup that was loaded. Work memory is all zero before and after.
-fn decode_packet(
+pub fn decode_packet(
     s: Session,
     packet: &[u8],
     table: &[u8],

@@ -144,7 +144,7 @@ module _ (f : PixelFormat) (w h : ℕ) where
 
   module _ (trees : List Tree) (references : Bool) where
     -- what a frame went through: its header, and its blocks behind it
-    frame-through : (p : List ℕ) (i : ℕ) {fr : Frame} {e : ℕ} → frame f w h trees references p i ≡ got fr e
+    pub frame-through : (p : List ℕ) (i : ℕ) {fr : Frame} {e : ℕ} → frame f w h trees references p i ≡ got fr e
         → (d : ℕ) × (frameHeader references p i ≡ got (fr .header) d) × (body f w h trees (fr .header .kind) (length (fr .header .qis)) p d ≡ got (fr .body) e)
     unfolding frame
     frame-through p i {fr} {e} g =

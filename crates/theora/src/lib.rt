@@ -55,7 +55,7 @@ pub fn work_lengths(s: Session) -> WorkAnswer
 }
 
 // Whether the buffers for frames of n blocks, and table memory, have their lengths.
-fn buffers_fit(n: u64, golden: &[u8], previous: &[u8], new: &[u8], table: &[u8]) -> bool
+pub fn buffers_fit(n: u64, golden: &[u8], previous: &[u8], new: &[u8], table: &[u8]) -> bool
     requires { ⌜ n ≤ 2 ^ 36 ⌝ }
     ensures { λ r. ⌜ r ≡ buffersFit n (now (golden .entry)) (now (previous .entry)) (now (new .entry)) (now (table .entry)) ⌝ }
 {

@@ -1,0 +1,295 @@
+// The packets of a shot, applied in order: one packet by a setup that was loaded, and all of a list.
+use buffer_names::Names;
+use headers::Session;
+use reading::FrameAnswer;
+use setup::LoadedSetup;
+ghost use mathlib.Core.Path.{_≡_};
+ghost use mathlib.Core.Bool.{true};
+ghost use mathlib.Core.List.{List, [], _∷_, _++_};
+ghost use Prim.Native.Nat.{_*_, _≤_};
+ghost use lib.ListN.{length};
+ghost use Rattle.bitstream.specs.Reading.{choose};
+ghost use Rattle.headers.specs.Fits.{sessionFits};
+ghost use Rattle.ways.specs.Ways.{firstWay};
+ghost use Rattle.work_memory.specs.Memory.{memory};
+ghost use Rattle.work_memory.specs.Lengths.{blocks, lengthsOf, cleared};
+ghost use Rattle.reading.specs.declared.FrameAnswer.{FrameAnswer};
+ghost use Rattle.reading.specs.Answer.{read};
+ghost use Rattle.decoding.specs.Answer.{state, done, decoded};
+ghost use Rattle.theora.specs.Call.{byRules};
+ghost use Rattle.packet_list.specs.Packets.{total, packetsIn};
+ghost use Rattle.buffer_names.specs.Names.{Sound};
+ghost use Rattle.shot_packets.specs.Play.{shot, oneMore, answerSize};
+ghost use Rattle.shot_packets.specs.Inner.{TableLoaded, PlaysAll};
+
+// One of two buffers.
+fn one_of<'a>(second: bool, a: &'a [u8], b: &'a [u8]) -> &'a [u8]
+    ensures { λ r. ⌜ now r ≡ choose second (now (b .entry)) (now (a .entry)) ⌝ }
+{
+    if second {
+        return b;
+    }
+    a
+}
+
+// A packet, into one buffer, by golden and previous in the two others.
+fn decode_into<'a>(
+    s: Session,
+    packet: &[u8],
+    table: &[u8],
+    loaded: LoadedSetup,
+    records: &mut [u32],
+    coded: &mut [u64],
+    coefs: &mut [i16],
+    dc: &mut [i16],
+    lasts: &mut [u8],
+    flags: &mut [u8],
+    bits: &mut [u8],
+    supers: &mut [u8],
+    modes: &mut [u8],
+    active: &mut [u64],
+    low: &'a [u8],
+    high: &'a [u8],
+    golden_high: bool,
+    previous_high: bool,
+    new: &mut [u8],
+) -> FrameAnswer
+    requires { ⌜ (sessionFits s ≡ true) × TableLoaded (now table) loaded ⌝ }
+    requires { ⌜ (memory (now records) (now coded) (now coefs) (now dc) (now lasts) (now flags) (now bits) (now supers) (now modes) (now active) ≡ cleared (lengthsOf s)) × (length (now new) ≡ 64 * blocks s) × (length (now low) ≡ 64 * blocks s) × (length (now high) ≡ 64 * blocks s) ⌝ }
+    ensures { λ r. ⌜ done r (now (new .exit)) (memory (now (records .exit)) (now (coded .exit)) (now (coefs .exit)) (now (dc .exit)) (now (lasts .exit)) (now (flags .exit)) (now (bits .exit)) (now (supers .exit)) (now (modes .exit)) (now (active .exit)))
+        ≡ decoded firstWay (state s (choose «golden_high» (now (high .entry)) (now (low .entry))) (choose «previous_high» (now (high .entry)) (now (low .entry)))) (now (new .entry)) (read s (now (table .entry)) (now (packet .entry))) ⌝ }
+{
+    let part = bitstream::readable(packet);
+    let golden = one_of(golden_high, low, high);
+    let previous = one_of(previous_high, low, high);
+    decoding::decode_packet(
+        s,
+        part,
+        table,
+        loaded,
+        records,
+        coded,
+        coefs,
+        dc,
+        lasts,
+        flags,
+        bits,
+        supers,
+        modes,
+        active,
+        golden,
+        previous,
+        new,
+    )
+}
+
+// What one packet answers, and the names after it.
+pub struct Played {
+    pub answer: FrameAnswer,
+    pub names: Names,
+}
+
+// One packet of a shot: a frame call whose new frame goes into the free buffer.
+pub fn play_packet(
+    s: Session,
+    names: Names,
+    packet: &[u8],
+    table: &[u8],
+    loaded: LoadedSetup,
+    records: &mut [u32],
+    coded: &mut [u64],
+    coefs: &mut [i16],
+    dc: &mut [i16],
+    lasts: &mut [u8],
+    flags: &mut [u8],
+    bits: &mut [u8],
+    supers: &mut [u8],
+    modes: &mut [u8],
+    active: &mut [u64],
+    first: &mut [u8],
+    second: &mut [u8],
+    third: &mut [u8],
+) -> Played
+    requires { ⌜ (sessionFits s ≡ true) × Sound s names × TableLoaded (now table) loaded ⌝ }
+    requires { ⌜ (memory (now records) (now coded) (now coefs) (now dc) (now lasts) (now flags) (now bits) (now supers) (now modes) (now active) ≡ cleared (lengthsOf s)) × (length (now first) ≡ 64 * blocks s) × (length (now second) ≡ 64 * blocks s) × (length (now third) ≡ 64 * blocks s) ⌝ }
+    ensures { λ r. ⌜ ((answers : List FrameAnswer) → shot (r .answer .session) ((now (first .exit)) ∷ (now (second .exit)) ∷ (now (third .exit)) ∷ []) (r .names) (memory (now (records .exit)) (now (coded .exit)) (now (coefs .exit)) (now (dc .exit)) (now (lasts .exit)) (now (flags .exit)) (now (bits .exit)) (now (supers .exit)) (now (modes .exit)) (now (active .exit))) (answers ++ (r .answer ∷ []))
+        ≡ oneMore (byRules firstWay) (now (table .entry)) (shot s ((now (first .entry)) ∷ (now (second .entry)) ∷ (now (third .entry)) ∷ []) names (memory (now (records .entry)) (now (coded .entry)) (now (coefs .entry)) (now (dc .entry)) (now (lasts .entry)) (now (flags .entry)) (now (bits .entry)) (now (supers .entry)) (now (modes .entry)) (now (active .entry))) answers) (now (packet .entry))) ⌝ }
+{
+    let free = buffer_names::free_buffer(names);
+    if free == 0 {
+        let golden_high = names.golden == 2;
+        let previous_high = names.previous == 2;
+        let answer = decode_into(
+            s,
+            packet,
+            table,
+            loaded,
+            records,
+            coded,
+            coefs,
+            dc,
+            lasts,
+            flags,
+            bits,
+            supers,
+            modes,
+            active,
+            second,
+            third,
+            golden_high,
+            previous_high,
+            first,
+        );
+        let verdict = answer.verdict;
+        let header = answer.header;
+        let kind = header.kind;
+        let after = buffer_names::names_after(names, 0, verdict, kind);
+        return Played {
+            answer,
+            names: after,
+        };
+    }
+    if free == 1 {
+        let golden_high = names.golden == 2;
+        let previous_high = names.previous == 2;
+        let answer = decode_into(
+            s,
+            packet,
+            table,
+            loaded,
+            records,
+            coded,
+            coefs,
+            dc,
+            lasts,
+            flags,
+            bits,
+            supers,
+            modes,
+            active,
+            first,
+            third,
+            golden_high,
+            previous_high,
+            second,
+        );
+        let verdict = answer.verdict;
+        let header = answer.header;
+        let kind = header.kind;
+        let after = buffer_names::names_after(names, 1, verdict, kind);
+        return Played {
+            answer,
+            names: after,
+        };
+    }
+    let golden_high = names.golden != 0;
+    let previous_high = names.previous != 0;
+    let answer = decode_into(
+        s,
+        packet,
+        table,
+        loaded,
+        records,
+        coded,
+        coefs,
+        dc,
+        lasts,
+        flags,
+        bits,
+        supers,
+        modes,
+        active,
+        first,
+        second,
+        golden_high,
+        previous_high,
+        third,
+    );
+    let verdict = answer.verdict;
+    let header = answer.header;
+    let kind = header.kind;
+    let after = buffer_names::names_after(names, 2, verdict, kind);
+    Played {
+        answer,
+        names: after,
+    }
+}
+
+// The session and the names after some packets.
+pub struct Ended {
+    pub session: Session,
+    pub names: Names,
+}
+
+// Packets, applied in order.
+pub fn play_packets(
+    s: Session,
+    names: Names,
+    lengths: &[u64],
+    packets: &[u8],
+    table: &[u8],
+    loaded: LoadedSetup,
+    records: &mut [u32],
+    coded: &mut [u64],
+    coefs: &mut [i16],
+    dc: &mut [i16],
+    lasts: &mut [u8],
+    flags: &mut [u8],
+    bits: &mut [u8],
+    supers: &mut [u8],
+    modes: &mut [u8],
+    active: &mut [u64],
+    first: &mut [u8],
+    second: &mut [u8],
+    third: &mut [u8],
+    answers: &mut [u64],
+) -> Ended
+    requires { ⌜ (sessionFits s ≡ true) × Sound s names × TableLoaded (now table) loaded ⌝ }
+    requires { ⌜ (memory (now records) (now coded) (now coefs) (now dc) (now lasts) (now flags) (now bits) (now supers) (now modes) (now active) ≡ cleared (lengthsOf s)) × (length (now first) ≡ 64 * blocks s) × (length (now second) ≡ 64 * blocks s) × (length (now third) ≡ 64 * blocks s) ⌝ }
+    requires { ⌜ (total (now lengths) ≤ length (now packets)) × (length (now answers) ≡ answerSize * length (now lengths)) ⌝ }
+    ensures { λ r. ⌜ PlaysAll (now (table .entry)) (shot s ((now (first .entry)) ∷ (now (second .entry)) ∷ (now (third .entry)) ∷ []) names (memory (now (records .entry)) (now (coded .entry)) (now (coefs .entry)) (now (dc .entry)) (now (lasts .entry)) (now (flags .entry)) (now (bits .entry)) (now (supers .entry)) (now (modes .entry)) (now (active .entry))) []) (packetsIn (now (lengths .entry)) (now (packets .entry)))
+        (r .session) ((now (first .exit)) ∷ (now (second .exit)) ∷ (now (third .exit)) ∷ []) (r .names) (memory (now (records .exit)) (now (coded .exit)) (now (coefs .exit)) (now (dc .exit)) (now (lasts .exit)) (now (flags .exit)) (now (bits .exit)) (now (supers .exit)) (now (modes .exit)) (now (active .exit))) (now (answers .exit)) ⌝ }
+{
+    let mut session = s;
+    let mut both = names;
+    let mut at: usize = 0;
+    let mut i: usize = 0;
+    while i < lengths.len() {
+        let n = lengths[i] as usize;
+        let end = at + n;
+        let played = play_packet(
+            session,
+            both,
+            &packets[at..end],
+            table,
+            loaded,
+            records,
+            coded,
+            coefs,
+            dc,
+            lasts,
+            flags,
+            bits,
+            supers,
+            modes,
+            active,
+            first,
+            second,
+            third,
+        );
+        let answer = played.answer;
+        let from = 8 * i;
+        let to = from + 8;
+        let verdict = answer.verdict;
+        let header = answer.header;
+        reading::store_answer(verdict, header, &mut answers[from..to]);
+        session = answer.session;
+        both = played.names;
+        at = end;
+        i += 1;
+    }
+    Ended {
+        session,
+        names: both,
+    }
+}
