@@ -11,7 +11,7 @@ use Rattle.block_record.specs.declared.BlockRecord.{BlockRecord}
 use Rattle.block_record.specs.Packed.{unpacked}
 use Rattle.block_record.proofs.Laws.{unpacked-at}
 use Rattle.ways.specs.Loops.{upTo}
-use Rattle.dc_prediction.specs.Planes.{State, blockStep, row, NoneCoded}
+use Rattle.dc_prediction.specs.Planes.{DcState, blockStep, row, NoneCoded}
 use Rattle.dc_prediction.proofs.Steps.{both-true}
 
 module _ (ns : List ℕ) (start : ℕ) where
@@ -32,15 +32,15 @@ module _ (ns : List ℕ) (start : ℕ) where
       go false d = k (both-true t (not b) g .0) x (less x n l (eqb-false x n d))
 
   module _ (across : ℕ) (below : Bool) where
-    pub uncoded : (x : ℕ) (s : State) → unpacked (getD ns (start + x) 0) .coded ≡ false → s ≡ blockStep (map unpacked ns) start across below x s
+    pub uncoded : (x : ℕ) (s : DcState) → unpacked (getD ns (start + x) 0) .coded ≡ false → s ≡ blockStep (map unpacked ns) start across below x s
     unfolding blockStep
     uncoded x s e = sym (rw (ap (λ (b : BlockRecord). b .coded) (unpacked-at ns (start + x)) ∙ e))
 
-    none-steps : (n : ℕ) (s : State) → NoneCoded ns start n → s ≡ upTo n (blockStep (map unpacked ns) start across below) s
+    none-steps : (n : ℕ) (s : DcState) → NoneCoded ns start n → s ≡ upTo n (blockStep (map unpacked ns) start across below) s
     unfolding NoneCoded upTo
     none-steps zero s k = refl
     none-steps (suc n) s k = uncoded n s (k n (omega arith)) ∙ ap (blockStep (map unpacked ns) start across below n) (none-steps n s (λ x l. k x (omega arith)))
 
-    pub none-row : (s : State) → NoneCoded ns start across → s ≡ row (map unpacked ns) start across below s
+    pub none-row : (s : DcState) → NoneCoded ns start across → s ≡ row (map unpacked ns) start across below s
     unfolding row
     none-row s k = none-steps across s k

@@ -39,7 +39,7 @@ use Rattle.vectors.specs.declared.Motion.{Motion}
 use Rattle.vectors.specs.declared.Motion.the-variants.{One}
 use Rattle.vectors.specs.declared.Moved.{Moved}
 use Rattle.vectors.specs.Motion.{zeroVector, behind, motion, predictionOf}
-use Rattle.vectors.specs.Vectors.{numberIn, codedIn, predictedAt, predictedFrom, State, macroBlock, macroBlocks}
+use Rattle.vectors.specs.Vectors.{numberIn, codedIn, predictedAt, predictedFrom, VectorState, macroBlock, macroBlocks}
 use Rattle.vectors.specs.Memory.{stateOf}
 use Rattle.vectors.specs.Start.{unmoved, predictedAs, started, Waiting}
 use Rattle.vectors.proofs.Motions.{zero-small, still-nomv, motion-still}
@@ -303,7 +303,7 @@ module _ (f : PixelFormat) (w h : ℕ) where
     unfolding Waiting
     still-there = from-unmoved f w h (macro m) (blocksEach f) 0 rs (λ d g. z m (0 + d) (omega arith) l (omega arith))
 
-  pub passed-over : (code mode m : ℕ) (s : State) (p : List ℕ) (i : ℕ) → mode ≡ 0 → m < macroBlocksOf w h → Waiting f w h m (s .records) → macroBlock f w h code mode (macro m) s p i ≡ got s i
+  pub passed-over : (code mode m : ℕ) (s : VectorState) (p : List ℕ) (i : ℕ) → mode ≡ 0 → m < macroBlocksOf w h → Waiting f w h m (s .records) → macroBlock f w h code mode (macro m) s p i ≡ got s i
   passed-over code mode m s p i e l z =
       let no-move = still-nomv mode (s .last) (s .last2) (λ y. omega (arith, e, y)) (λ y. omega (arith, e, y)) (λ y. omega (arith, e, y)) (λ y. omega (arith, e, y)) in
       let got-it = motion-still code mode (codedIn f w h (macro m) (s .records) 0) (codedIn f w h (macro m) (s .records) 1) (codedIn f w h (macro m) (s .records) 2) (codedIn f w h (macro m) (s .records) 3) (s .last) (s .last2) p i
@@ -342,19 +342,19 @@ module _ (f : PixelFormat) (w h : ℕ) where
       sym (as-coded None (getD rs n uncoded)) ∙ ap (λ (r : BlockRecord). r .coded) (s .1 n None) ∙ as-coded None (getD ss n uncoded)
 
   module _ (code : ℕ) (modes p : List ℕ) where
-    record Pair (m : ℕ) (s t : State) : Type 0 where
+    record Pair (m : ℕ) (s t : VectorState) : Type 0 where
       all : length (s .records) ≡ blocksOf f w h
       like : Like (s .records) (t .records)
       settled : Settled m (s .records) (t .records)
       last : s .last ≡ t .last
       last2 : s .last2 ≡ t .last2
 
-    same-moves : (mode : ℕ) (q : Place) (s t : State) (m : ℕ) → Pair m s t → (i : ℕ) → moves f w h code mode q s p i ≡ moves f w h code mode q t p i
+    same-moves : (mode : ℕ) (q : Place) (s t : VectorState) (m : ℕ) → Pair m s t → (i : ℕ) → moves f w h code mode q s p i ≡ moves f w h code mode q t p i
     same-moves mode q s t m a i =
         let e = same-flag q (s .records) (t .records) (a .like) in
         λ d. motion code mode (e 0 d) (e 1 d) (e 2 d) (e 3 d) (a .last d) (a .last2 d) p i
 
-    same-blocks : (n m : ℕ) (s t : State) → m + n ≡ macroBlocksOf w h → Pair m s t → (i : ℕ) → macroBlocks f w h code modes n m s p i ≡ macroBlocks f w h code modes n m t p i
+    same-blocks : (n m : ℕ) (s t : VectorState) → m + n ≡ macroBlocksOf w h → Pair m s t → (i : ℕ) → macroBlocks f w h code modes n m s p i ≡ macroBlocks f w h code modes n m t p i
     unfolding macroBlocks
     same-blocks zero m s t e a i =
         let z : m ≡ macroBlocksOf w h = omega arith in
@@ -363,7 +363,7 @@ module _ (f : PixelFormat) (w h : ℕ) where
     same-blocks (suc n) m s t e a i = go (moves f w h code (getD modes m 0) (macro m) s p i) refl (same-blocks n)
       where
         go : (o : Outcome Moved) → moves f w h code (getD modes m 0) (macro m) s p i ≡ o
-            → ((m : ℕ) (s t : State) → m + n ≡ macroBlocksOf w h → Pair m s t → (i : ℕ) → macroBlocks f w h code modes n m s p i ≡ macroBlocks f w h code modes n m t p i)
+            → ((m : ℕ) (s t : VectorState) → m + n ≡ macroBlocksOf w h → Pair m s t → (i : ℕ) → macroBlocks f w h code modes n m s p i ≡ macroBlocks f w h code modes n m t p i)
             → macroBlocks f w h code modes (suc n) m s p i ≡ macroBlocks f w h code modes (suc n) m t p i
         go (refused k d) g again =
             let g2 = sym (same-moves (getD modes m 0) (macro m) s t m a i) ∙ g in

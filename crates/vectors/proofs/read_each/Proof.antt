@@ -10,7 +10,7 @@ use Rattle.block_record.specs.declared.BlockRecord.{BlockRecord}
 use mathlib.Core.List.{List}
 use Rattle.block_record.specs.Memory.{AllPacked, recordsOf}
 use Rattle.vectors.specs.Motion.{zeroVector}
-use Rattle.vectors.specs.Vectors.{State, macroBlocks}
+use Rattle.vectors.specs.Vectors.{VectorState, macroBlocks}
 use Rattle.vectors.specs.Memory.{stateOf}
 use Rattle.vectors.specs.Start.{Waiting}
 use Rattle.vectors.proofs.Motions.{zero-small}
@@ -37,7 +37,7 @@ stepped c = let w = c .before .before .before .before .before .read-number in st
 
 -- the vectors that are kept are in range, and the blocks of the macro blocks behind are as they started
 goes-on : (c : tie.After-known-told2 Inv-loop μ-loop) → let a = c .before .before .before .before .before .before .before .before .before .before .before .before .before .before .before .args in let l = c .before .before .before .before .before .before .before .before .before .loop in let v = c .before .step2 .given .0 in let out = c .before .before .before .before .before .read-number .last .1 .1 .1 .1 .1 .1 .1 .1 .1 .1 .0 in VectorInRange (v .0) × VectorInRange (v .1 .0) × Waiting (a .format) (a .w) (a .h) (l .m + 1) (recordsOf out)
-goes-on c = let a = c .before .before .before .before .before .before .before .before .before .before .before .before .before .before .before .args in let p = c .before .before .before .before .before .before .before .before .before .before .before .before .before .before .before .pre in let l = c .before .before .before .before .before .before .before .before .before .loop in let t = c .before .before .before .before .before .before .before .before .loop-test .taken in let u = macro-through (a .format) (a .w) (a .h) (a .code) _ _ (stateOf (l .records) (l .last) (l .last2)) (a .packet .now) (l .place) (l .inv .2) (l .inv .3) (stepped c .0) in let k = waiting-on (a .format) (a .w) (a .h) (l .m) (omega (arith, t, p .3)) (recordsOf (l .records)) (l .inv .6) (u .0 .motion) in subst (λ (s : State). VectorInRange (s .last) × VectorInRange (s .last2) × Waiting (a .format) (a .w) (a .h) (l .m + 1) (s .records)) (u .2) (u .1 .last, u .1 .last2, k)
+goes-on c = let a = c .before .before .before .before .before .before .before .before .before .before .before .before .before .before .before .args in let p = c .before .before .before .before .before .before .before .before .before .before .before .before .before .before .before .pre in let l = c .before .before .before .before .before .before .before .before .before .loop in let t = c .before .before .before .before .before .before .before .before .loop-test .taken in let u = macro-through (a .format) (a .w) (a .h) (a .code) _ _ (stateOf (l .records) (l .last) (l .last2)) (a .packet .now) (l .place) (l .inv .2) (l .inv .3) (stepped c .0) in let k = waiting-on (a .format) (a .w) (a .h) (l .m) (omega (arith, t, p .3)) (recordsOf (l .records)) (l .inv .6) (u .0 .motion) in subst (λ (s : VectorState). VectorInRange (s .last) × VectorInRange (s .last2) × Waiting (a .format) (a .w) (a .h) (l .m + 1) (s .records)) (u .2) (u .1 .last, u .1 .last2, k)
 
 loop-holds : tie.Need-loop-holds Inv-loop μ-loop
 loop-holds c = let a = c .before .before .before .before .before .args in let p = c .before .before .before .before .before .pre in let n = length (a .modes .now) in let z : n ≡ n - 0 = omega arith in let e = sym (c .before .zero-vector .ensures) in let e2 = sym (c .zero-vector2 .ensures) in (refl, search needs, subst VectorInRange e zero-small, subst VectorInRange e2 zero-small, p .5, (λ i. macroBlocks (a .format) (a .w) (a .h) (a .code) (a .modes .now) (z i) 0 (stateOf (a .records .now) (e i) (e2 i)) (a .packet .now) (a .at)), p .6)
