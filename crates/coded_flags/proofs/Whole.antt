@@ -11,10 +11,10 @@ use Rattle.geometry.specs.declared.PixelFormat.{PixelFormat}
 use Rattle.geometry.specs.declared.Place.{Place}
 use Rattle.geometry.specs.declared.Block.{Block}
 use Rattle.geometry.specs.Sizes.{across, up, blocksBefore, blocksOf, superBlocksOf}
-use Rattle.geometry.specs.Order.{at, blockWalk, keep, present, moved, tile}
+use Rattle.geometry.specs.Order.{at, blockWalk, keep, present, shifted, square}
 use Rattle.geometry.specs.Frame.{block, inPlane, frameOrder, superBlocksBefore, superBlockIn, superBlockOf}
 use Rattle.geometry.specs.Raster.{rasterNumber}
-use Rattle.geometry.proofs.Lists.{turn-at, moved-at, moved-length}
+use Rattle.geometry.proofs.Lists.{turn-at, shifted-at, shifted-length}
 use Rattle.geometry.proofs.FrameLaws.{in-plane-length}
 use Rattle.geometry.proofs.SuperBlockLaws.{frame-flat}
 use Rattle.coded_flags.specs.Coded.{order}
@@ -22,7 +22,7 @@ use Rattle.coded_flags.specs.Listing.{walkPlaces, WholeAt}
 use Rattle.coded_flags.proofs.Listing.{order-at}
 use Rattle.coded_flags.proofs.Spread.{firstOf}
 
--- ---- a tile that lies whole in its plane
+-- ---- a square that lies whole in its plane
 present-most : (w h : ℕ) (l : List Place) → length (present w h l) ≤ length l
 unfolding present
 present-most w h [] = omega arith
@@ -95,35 +95,35 @@ Whole l =
     length l ≡ 16 → (j : ℕ) → j < 16 → let b = getD l 0 (block 0 0 0) in
     getD l j (block 0 0 0) ≡ block (b .plane) (b .x + getD walkPlaces j 0 % 4) (b .y + getD walkPlaces j 0 / 4)
 
-module _ (p w h dx dy : ℕ) (e : length (inPlane p (present w h (moved dx dy blockWalk))) ≡ 16) where
-  all-there : present w h (moved dx dy blockWalk) ≡ moved dx dy blockWalk
-  all-there = present-all w h (moved dx dy blockWalk) (sym (in-plane-length p (present w h (moved dx dy blockWalk))) ∙ e ∙ sym (moved-length dx dy blockWalk))
+module _ (p w h dx dy : ℕ) (e : length (inPlane p (present w h (shifted dx dy blockWalk))) ≡ 16) where
+  all-there : present w h (shifted dx dy blockWalk) ≡ shifted dx dy blockWalk
+  all-there = present-all w h (shifted dx dy blockWalk) (sym (in-plane-length p (present w h (shifted dx dy blockWalk))) ∙ e ∙ sym (shifted-length dx dy blockWalk))
 
-  tile-place : (j : ℕ) → j < 16 → getD (inPlane p (present w h (moved dx dy blockWalk))) j (block 0 0 0) ≡ block p (dx + getD walkPlaces j 0 % 4) (dy + getD walkPlaces j 0 / 4)
-  tile-place j l =
+  square-place : (j : ℕ) → j < 16 → getD (inPlane p (present w h (shifted dx dy blockWalk))) j (block 0 0 0) ≡ block p (dx + getD walkPlaces j 0 % 4) (dy + getD walkPlaces j 0 / 4)
+  square-place j l =
       ap (λ (t : List Place). getD (inPlane p t) j (block 0 0 0)) all-there
-      ∙ in-plane-at p j (moved dx dy blockWalk) (omega (arith, l, moved-length dx dy blockWalk))
-      ∙ ap (λ (q : Place). block p (q .x) (q .y)) (moved-at dx dy j blockWalk (at 0 0) l ∙ ap (λ (q : Place). at (dx + q .x) (dy + q .y)) (walk-at j l))
+      ∙ in-plane-at p j (shifted dx dy blockWalk) (omega (arith, l, shifted-length dx dy blockWalk))
+      ∙ ap (λ (q : Place). block p (q .x) (q .y)) (shifted-at dx dy j blockWalk (at 0 0) l ∙ ap (λ (q : Place). at (dx + q .x) (dy + q .y)) (walk-at j l))
 
-tile-whole : (p w h dx dy : ℕ) → Whole (inPlane p (present w h (moved dx dy blockWalk)))
-tile-whole p w h dx dy e j l =
-    let s = tile-place p w h dx dy e 0 (omega arith) in
-    let b = getD (inPlane p (present w h (moved dx dy blockWalk))) 0 (block 0 0 0) in
+square-whole : (p w h dx dy : ℕ) → Whole (inPlane p (present w h (shifted dx dy blockWalk)))
+square-whole p w h dx dy e j l =
+    let s = square-place p w h dx dy e 0 (omega arith) in
+    let b = getD (inPlane p (present w h (shifted dx dy blockWalk))) 0 (block 0 0 0) in
     let x0 : b .x ≡ dx + 0 = ap (λ (c : Block). c .x) s in
     let y0 : b .y ≡ dy + 0 = ap (λ (c : Block). c .y) s in
     let ex : dx + getD walkPlaces j 0 % 4 ≡ b .x + getD walkPlaces j 0 % 4 = omega (arith, x0) in
     let ey : dy + getD walkPlaces j 0 / 4 ≡ b .y + getD walkPlaces j 0 / 4 = omega (arith, y0) in
-    tile-place p w h dx dy e j l ∙ (λ i. block (sym (ap (λ (c : Block). c .plane) s) i) (ex i) (ey i))
+    square-place p w h dx dy e j l ∙ (λ i. block (sym (ap (λ (c : Block). c .plane) s) i) (ex i) (ey i))
 
 module _ (f : PixelFormat) (w h : ℕ) where
   super-whole : (k : ℕ) → Whole (superBlockOf f w h k)
-  unfolding superBlockOf superBlockIn tile
+  unfolding superBlockOf superBlockIn square
   super-whole k = go (ltb k (superBlocksBefore f w h 1)) (ltb k (superBlocksBefore f w h 2))
     where
       go : (a b : Bool) → Whole (cond a (superBlockIn f w h 0 k) (cond b (superBlockIn f w h 1 (k - superBlocksBefore f w h 1)) (superBlockIn f w h 2 (k - superBlocksBefore f w h 2))))
-      go true b = tile-whole 0 (across f w 0) (up f h 0) _ _
-      go false true = tile-whole 1 (across f w 1) (up f h 1) _ _
-      go false false = tile-whole 2 (across f w 2) (up f h 2) _ _
+      go true b = square-whole 0 (across f w 0) (up f h 0) _ _
+      go false true = square-whole 1 (across f w 1) (up f h 1) _ _
+      go false false = square-whole 2 (across f w 2) (up f h 2) _ _
 
   -- a super block of 16 blocks is whole
   pub whole-at : (k : ℕ) → k < superBlocksOf f w h → length (superBlockOf f w h k) ≡ 16 → WholeAt f w h (firstOf f w h k)
