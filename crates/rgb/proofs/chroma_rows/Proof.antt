@@ -1,0 +1,62 @@
+-- `rgb::chroma_rows` meets its contract. The loop's invariant: k parts are put. Assumes nothing.
+use Prim.Native.Nat.{ℕ, _+_, _-_, _*_, _/_, _≤_, _<_}
+use native.Mathlib.Omega.{arith}
+use mathlib.Core.Path.{_≡_, refl, _∙_}
+use lib.ListN.{length, take}
+use Rattle.geometry.specs.Order.{inTurn}
+use Rattle.rgb.proofs.Facts.{rowPart, rows-more, rows-done}
+use borrow.Author.Needs.{needs}
+use Rattle.rgb.proofs.chroma_rows.Statement.{statement}
+use Rattle.rgb.proofs.chroma_rows.Tie as tie
+
+abbrev Inv-loop : tie.InvT-loop
+Inv-loop tables rows₀ k₀ rows k = (k ≤ 1536) × (length rows ≡ 4608) × (take (3 * k) rows ≡ inTurn rowPart k)
+
+abbrev μ-loop : tie.MeasureT-loop
+μ-loop tables rows₀ k₀ rows k = 1536 - k
+
+loop-holds : tie.Need-loop-holds Inv-loop μ-loop
+unfolding inTurn
+loop-holds c = (omega arith, refl, refl)
+
+part-of-requires : tie.Need-part-of-requires Inv-loop μ-loop
+part-of-requires c κs = (c .before .before .pre, omega (arith, c .loop-test .taken))
+
+slice-aggregate-put-part : tie.Need-slice-aggregate-put-part Inv-loop μ-loop
+slice-aggregate-put-part c = search needs
+
+mul-put-part : tie.Need-mul-put-part Inv-loop μ-loop
+mul-put-part c = search needs
+
+put-part-requires : tie.Need-put-part-requires Inv-loop μ-loop
+put-part-requires c κs = omega (arith, c .before .before .before .loop .inv .1, c .before .before .loop-test .taken)
+
+add-k : tie.Need-add-k Inv-loop μ-loop
+add-k c = search needs
+
+loop-less : tie.Need-loop-less Inv-loop μ-loop
+loop-less c = search needs
+
+loop-again : tie.Need-loop-again Inv-loop μ-loop
+loop-again c =
+    let l = c .before .before .before .before .before .loop in
+    (omega (arith, c .before .before .before .before .loop-test .taken), c .before .put-part .kept .1 .0 ∙ l .inv .1, rows-more (l .rows) _ (l .k) _ (c .before .before .before .part-of .ensures) (l .inv .2) (c .before .put-part .ensures))
+
+returns : tie.Need-returns Inv-loop μ-loop
+returns c = let l = c .before .loop in rows-done (l .rows) (l .k) (l .inv .1) (omega (arith, l .inv .0, c .loop-test .left)) (l .inv .2)
+
+pub chroma-rows-spec : {M : Type 1} → statement M
+chroma-rows-spec =
+    tie.close
+    (tie.spec
+    Inv-loop
+    μ-loop
+    loop-holds
+    part-of-requires
+    slice-aggregate-put-part
+    mul-put-part
+    put-part-requires
+    add-k
+    loop-less
+    loop-again
+    returns)
