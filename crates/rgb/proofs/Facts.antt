@@ -97,13 +97,26 @@ rows-are = refl
 pub rows-length : length chromaRows ≡ 4608
 rows-length = ap length rows-are ∙ turn-each rowPart 3 1536 (λ i. refl)
 
-pub rows-done : (l : List ℤ) (k : ℕ) → length l ≡ 4608 → k ≡ 1536 → take (3 * k) l ≡ inTurn rowPart k → l ≡ chromaRows
-rows-done l k n ek e = sym (take-all (3 * k) l (omega (arith, n, ek))) ∙ e ∙ ap (inTurn rowPart) ek ∙ sym rows-are
+pub rows-done : (l : List ℤ) (k : ℕ) → length l ≡ 4608 → k ≡ 512 → take (9 * k) l ≡ inTurn rowPart (3 * k) → l ≡ chromaRows
+rows-done l k n ek e = sym (take-all (9 * k) l (omega (arith, n, ek))) ∙ e ∙ ap (λ (z : ℕ). inTurn rowPart (3 * z)) ek ∙ sym rows-are
 
-pub rows-more : (l m : List ℤ) (k : ℕ) (c : Chroma) → c ≡ partOf (k / 3) → take (3 * k) l ≡ inTurn rowPart k → take (3 * k + 3) m ≡ take (3 * k) l ++ three c → take (3 * (k + 1)) m ≡ inTurn rowPart (k + 1)
-rows-more l m k c ec e em =
-    let n : 3 * (k + 1) ≡ 3 * k + 3 = omega arith in
-    ap (λ (z : ℕ). take z m) n ∙ em ∙ (λ i. e i ++ three (ec i)) ∙ sym (turn-more rowPart k)
+part-more : (l m : List ℤ) (t at : ℕ) (c : Chroma) → c ≡ partOf (t / 3) → take at l ≡ inTurn rowPart t → take (at + 3) m ≡ take at l ++ three c → take (at + 3) m ≡ inTurn rowPart (t + 1)
+part-more l m t at c ec e em = em ∙ (λ i. e i ++ three (ec i)) ∙ sym (turn-more rowPart t)
+
+-- a row more
+pub row-more : (l a b m : List ℤ) (k : ℕ) (c : Chroma) → c ≡ partOf k → take (9 * k) l ≡ inTurn rowPart (3 * k) → take (9 * k + 3) a ≡ take (9 * k) l ++ three c
+    → take (9 * k + 3 + 3) b ≡ take (9 * k + 3) a ++ three c → take (9 * k + 6 + 3) m ≡ take (9 * k + 6) b ++ three c → take (9 * (k + 1)) m ≡ inTurn rowPart (3 * (k + 1))
+row-more l a b m k c ec e ea eb em =
+    let k1 : k ≡ 3 * k / 3 = omega arith in
+    let k2 : k ≡ (3 * k + 1) / 3 = omega arith in
+    let k3 : k ≡ (3 * k + 1 + 1) / 3 = omega arith in
+    let six : 9 * k + 3 + 3 ≡ 9 * k + 6 = omega arith in
+    let all : 9 * (k + 1) ≡ 9 * k + 6 + 3 = omega arith in
+    let end : 3 * k + 1 + 1 + 1 ≡ 3 * (k + 1) = omega arith in
+    let one = part-more l a (3 * k) (9 * k) c (ec ∙ ap partOf k1) e ea in
+    let two = part-more a b (3 * k + 1) (9 * k + 3) c (ec ∙ ap partOf k2) one eb in
+    let last = part-more b m (3 * k + 1 + 1) (9 * k + 6) c (ec ∙ ap partOf k3) (sym (ap (λ (z : ℕ). take z b) six) ∙ two) em in
+    ap (λ (z : ℕ). take z m) all ∙ last ∙ ap (inTurn rowPart) end
 
 row-at : (i j at : ℕ) → i < 512 → j < 9 → at ≡ 9 * i + j → getD chromaRows at (pos 0) ≡ getD (three (partOf i)) (j % 3) (pos 0)
 row-at i j at hi hj ea =

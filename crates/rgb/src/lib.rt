@@ -1362,9 +1362,11 @@ fn chroma_rows(tables: &[i32]) -> [i32; 4608]
 {
     let mut rows = [0i32; 4608];
     let mut k: usize = 0;
-    while k < 1536 {
-        let c = part_of(tables, k / 3);
-        put_part(c, &mut rows, 3 * k);
+    while k < 512 {
+        let c = part_of(tables, k);
+        put_part(c, &mut rows, 9 * k);
+        put_part(c, &mut rows, 9 * k + 3);
+        put_part(c, &mut rows, 9 * k + 6);
         k += 1;
     }
     rows
@@ -1431,14 +1433,7 @@ fn put_pair(
 
 // A row in which each chroma sample serves two pixels. Eight bytes are written for each pair: the next pair writes over two
 // of them, and the last pair has six.
-fn write_pairs(
-    tables: &[i32],
-    rows: &[i32],
-    luma: &[u8],
-    cb: &[u8],
-    cr: &[u8],
-    out: &mut [u8],
-)
+fn write_pairs(tables: &[i32], rows: &[i32], luma: &[u8], cb: &[u8], cr: &[u8], out: &mut [u8])
     requires { ⌜ (now tables ≡ contributions) × (now rows ≡ chromaRows) × (length (now luma) % 2 ≡ 0) × (length (now out) ≡ 3 * length (now luma)) ⌝ }
     requires { ⌜ (length (now luma) ≤ 2 * length (now cb)) × (length (now luma) ≤ 2 * length (now cr)) ⌝ }
     ensures { λ _. ⌜ now (out .exit) ≡ rowOf (λ x. x / 2) (now (luma .entry)) (now (cb .entry)) (now (cr .entry)) ⌝ }
@@ -1455,14 +1450,7 @@ fn write_pairs(
 
 // A row in which each pixel has chroma samples of its own. Four bytes are written for each: the next pixel writes over one
 // of them, and the last pixel has three.
-fn write_singles(
-    tables: &[i32],
-    rows: &[i32],
-    luma: &[u8],
-    cb: &[u8],
-    cr: &[u8],
-    out: &mut [u8],
-)
+fn write_singles(tables: &[i32], rows: &[i32], luma: &[u8], cb: &[u8], cr: &[u8], out: &mut [u8])
     requires { ⌜ (now tables ≡ contributions) × (now rows ≡ chromaRows) × (length (now out) ≡ 3 * length (now luma)) ⌝ }
     requires { ⌜ (length (now luma) ≤ length (now cb)) × (length (now luma) ≤ length (now cr)) ⌝ }
     ensures { λ _. ⌜ now (out .exit) ≡ rowOf (λ x. x) (now (luma .entry)) (now (cb .entry)) (now (cr .entry)) ⌝ }
@@ -1560,7 +1548,15 @@ fn write_picture_row(
 }
 
 // The whole coded frame, top row first.
-fn write_picture(format: PixelFormat, w: u64, h: u64, tables: &[i32], rows: &[i32], planes: &[u8], out: &mut [u8])
+fn write_picture(
+    format: PixelFormat,
+    w: u64,
+    h: u64,
+    tables: &[i32],
+    rows: &[i32],
+    planes: &[u8],
+    out: &mut [u8],
+)
     requires { ⌜ (w ≤ 65535) × (h ≤ 65535) × (now tables ≡ contributions) × (now rows ≡ chromaRows) × (length (now planes) ≡ 64 * blocksOf format w h) × (768 * (h * w) ≤ length (now out)) ⌝ }
     ensures { λ _. ⌜ now (out .exit) ≡ spliced 0 (picture format w h (now (planes .entry))) (now (out .entry)) ⌝ }
 {

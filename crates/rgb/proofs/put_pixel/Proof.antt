@@ -136,7 +136,7 @@ returns c =
     let a = c .before .before .before .before .args in
     let e : l .j ≡ a .n = omega (arith, l .inv .0, c .loop-test .left) in
     bytes-done (a .y) (a .cb) (a .cr) (a .at) (a .out .now) (l .out) (a .n) (c .before .before .before .before .pre .4) (omega (arith, c .before .before .before .before .pre .5))
-        (subst (λ (m : ℕ). take (a .at + m) (l .out) ≡ take (a .at) (a .out .now) ++ inTurn (laid (a .y) (a .cb) (a .cr)) m) e (l .inv .2))
+    (subst (λ (m : ℕ). take (a .at + m) (l .out) ≡ take (a .at) (a .out .now) ++ inTurn (laid (a .y) (a .cb) (a .cr)) m) e (l .inv .2))
 
 pub put-pixel-spec : {M : Type 1} → statement M
 put-pixel-spec =

@@ -79,7 +79,7 @@ returns c =
     let l = c .before .before .before .before .before .before .before .before .before .loop in
     let a = c .before .before .before .before .before .before .before .before .before .before .before .before .before .before .args in
     row-done (λ x. x) (a .luma .now) (a .cb .now) (a .cr .now) (l .x + 1) _ (omega (arith, c .before .before .before .before .before .before .before .if1 .taken, c .before .before .before .before .before .before .before .before .loop-test .left)) (c .before .before .put-pixel2 .kept .1 .1 .1 .1 .1 .1 .1 .0 ∙ l .inv .1 ∙ p .0 .2)
-        (pixel-more (λ x. x) (a .luma .now) (a .cb .now) (a .cr .now) (l .x) (l .x) (3 * l .x) (l .out) _ refl refl (l .inv .2) (c .before .before .put-pixel2 .ensures))
+    (pixel-more (λ x. x) (a .luma .now) (a .cb .now) (a .cr .now) (l .x) (l .x) (3 * l .x) (l .out) _ refl refl (l .inv .2) (c .before .before .put-pixel2 .ensures))
 
 same-length-2 : tie.Need-same-length-2 Inv-loop μ-loop
 same-length-2 c = search needs
