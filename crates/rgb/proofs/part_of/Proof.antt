@@ -2,13 +2,12 @@
 use Prim.Native.Nat.{ℕ, _+_, _-_, _<_}
 use native.Mathlib.Omega.{arith}
 use mathlib.Core.Path.{_≡_, refl, sym, ap, _∙_}
-use mathlib.Core.List.{List}
-use lib.IntN.{ℤ, pos, _+ℤ_}
+use lib.IntN.{ℤ, pos}
 use lib.ListN.{length, getD}
 use mir.Syntax.{w32}
 use Rattle.numeric.proofs.Magnitude.{size}
 use Rattle.numeric.proofs.Known.{Known, k-call, k-lit, k-add, ask-add}
-use Rattle.rgb.specs.Rule.{redCr, greenCb, greenCr, blueCb, entry, contributions}
+use Rattle.rgb.specs.Rule.{redCr, greenCb, greenCr, blueCb, entry}
 use Rattle.rgb.proofs.Tables.{tables-length, Stands, red-at, green-cb-at, green-cr-at, blue-at}
 use Rattle.rgb.proofs.Facts.{part-cb, part-cr}
 use borrow.Author.Needs.{needs}

@@ -1,8 +1,6 @@
 -- `rgb::put_pair` meets its contract. Assumes nothing.
-use Prim.Native.Nat.{ℕ, _+_, _*_, _/_, _%_, _≤_, _<_}
 use native.Mathlib.Omega.{arith}
-use mathlib.Core.Path.{_≡_, refl}
-use lib.ListN.{length}
+use mathlib.Core.Path.{refl}
 use Rattle.rgb.proofs.Facts.{pair-more}
 use borrow.Author.Needs.{needs}
 use Rattle.rgb.proofs.put_pair.Statement.{statement}

@@ -1,9 +1,9 @@
 -- `rgb::put_part` meets its contract. Assumes nothing.
-use Prim.Native.Nat.{ℕ, _+_, _<_}
+use Prim.Native.Nat.{_+_}
 use native.Mathlib.Omega.{arith}
-use mathlib.Core.Path.{_≡_, _∙_}
+use mathlib.Core.Path.{_∙_}
 use mathlib.Core.List.{[], _∷_, _++_}
-use lib.ListN.{length, take, length-set}
+use lib.ListN.{take, length-set}
 use mir.Syntax.{w32}
 use Rattle.numeric.proofs.Known.{k-any}
 use Rattle.rgb.proofs.Facts.{three-more}
