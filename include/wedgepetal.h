@@ -67,29 +67,29 @@ extern "C" {
 /* The numbers of refusals. */
 enum {
     WEDGEPETAL_ACCEPTED = 0,
-    WEDGEPETAL_LENGTH = 1,          /* a lent list has another length than the published one */
-    WEDGEPETAL_NOT_THIS_HEADER = 2, /* the type byte or "theora" is not the wanted one */
-    WEDGEPETAL_VERSION = 3,         /* VMAJ is not 3, or VMIN is not 2 */
-    WEDGEPETAL_PACKET_END = 4,      /* a read passes the end of the packet */
-    WEDGEPETAL_FIELD_RANGE = 5,     /* an identification field breaks its range */
-    WEDGEPETAL_RESERVED = 6,        /* PF is 1, or the 3 last identification bits are not 0 */
-    WEDGEPETAL_SETUP_FAULT = 7,     /* setup: NBMS above 384, a matrix index not below NBMS, a qi sum
-                                       above 63, a code longer than 32, a 33rd leaf */
-    WEDGEPETAL_SESSION = 8,         /* the session's identification fields break 5, 6 or their widths,
-                                       or its others are not below 2 to the power KFGSHIFT */
-    WEDGEPETAL_TABLE = 8,           /* no accepted setup packet leaves this table memory (the same
-                                       number as for a session) */
+    WEDGEPETAL_WRONG_LENGTH = 1,    /* a lent list has another length than the published one */
+    WEDGEPETAL_OTHER_HEADER = 2,    /* the type byte or "theora" is not the wanted one */
+    WEDGEPETAL_OTHER_VERSION = 3,   /* VMAJ is not 3, or VMIN is not 2 */
+    WEDGEPETAL_PACKET_ENDS = 4,     /* a read passes the end of the packet */
+    WEDGEPETAL_OUT_OF_RANGE = 5,    /* an identification field breaks its range */
+    WEDGEPETAL_BAD_FORMAT = 6,      /* PF is 1, or the 3 last identification bits are not 0 */
+    WEDGEPETAL_BAD_SETUP = 7,       /* setup: NBMS above 384, a matrix index not below NBMS, a qi
+                                       sum above 63, a code longer than 32, a 33rd leaf */
+    WEDGEPETAL_NOT_GENUINE = 8,     /* the session's identification fields break 5, 6 or their
+                                       widths, or its others are not below 2 to the power
+                                       KFGSHIFT; or no accepted setup packet leaves this table
+                                       memory */
     WEDGEPETAL_NO_REFERENCES = 9,   /* an inter or empty packet, and no references */
-    WEDGEPETAL_NOT_A_FRAME = 10,    /* the first bit of a frame packet is 1 */
-    WEDGEPETAL_FRAME_RESERVED = 11, /* an intra frame's 3 reserved bits are not 0 */
-    WEDGEPETAL_RUN = 12,            /* a run exceeds the bits still wanted */
-    WEDGEPETAL_TOKEN = 13,          /* a token moves its block past position 64 */
-    WEDGEPETAL_OUTPUT = 14,         /* the lent output is too short */
-    WEDGEPETAL_COUNT_PASSED = 17,   /* key frames would pass 64 bits, or others would not stay below
-                                       2 to the power KFGSHIFT; found after all else */
-    WEDGEPETAL_COLOUR_SPACE = 18,   /* CS is neither 1 nor 2 */
-    WEDGEPETAL_ABSENT = 255         /* the frame has no such block, macro block or sample, or there is
-                                       no such type, plane or qi */
+    WEDGEPETAL_NO_FRAME = 10,       /* the first bit of a frame packet is 1 */
+    WEDGEPETAL_RESERVED_BITS = 11,  /* an intra frame's 3 reserved bits are not 0 */
+    WEDGEPETAL_LONG_RUN = 12,       /* a run exceeds the bits still wanted */
+    WEDGEPETAL_PAST_BLOCK = 13,     /* a token moves its block past position 64 */
+    WEDGEPETAL_SHORT_OUTPUT = 14,   /* the lent output is too short */
+    WEDGEPETAL_UNCOUNTED = 17,      /* key frames would pass 64 bits, or others would not stay
+                                       below 2 to the power KFGSHIFT; found after all else */
+    WEDGEPETAL_UNKNOWN_COLOUR = 18, /* CS is neither 1 nor 2 */
+    WEDGEPETAL_ABSENT = 255         /* the frame has no such block, macro block or sample, or
+                                       there is no such type, plane or qi */
 };
 
 /* A session is a list of 19 numbers: the identification fields, whether
