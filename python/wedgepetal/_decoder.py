@@ -54,17 +54,15 @@ class Decoder:
     """Lends the library a session, table memory, work memory and three plane buffers.
 
     After an accepted intra frame the new buffer is golden and previous, after another accepted frame previous. The next
-    new one is neither, and nobody views it: one that is viewed is left to its views, and another takes its place
-    (``keep``), or it stays and there is no room (``Held``).
+    frame goes into the first buffer that is neither. If that is still viewed it is left to its views and other memory
+    takes its place (``keep``), or there is no room for a frame (`Held`).
     """
 
     def __init__(self, session: Numbers, setup: bytes, keep: bool, max_memory: Optional[int]) -> None:
         self.session = session
         self.sizes: Sizes = sizes(session)
         lengths = np.zeros(lib.LENGTH_NUMBERS, np.uint64)
-        number = library.wedgepetal_work_lengths(
-            session.ctypes.data, lib.SESSION_NUMBERS, lengths.ctypes.data, lib.LENGTH_NUMBERS
-        )
+        number = library.wedgepetal_work_lengths(*_lists(session, lengths))
         if number:
             raise refused(number)
         self.memory = 3 * self.sizes.buffer + int(lengths[lib.WORK_BYTES]) + lib.TABLE_BYTES
@@ -74,14 +72,14 @@ class Decoder:
         self._work = [np.empty(int(n), dtype) for n, dtype in zip(lengths, _SLICES)]
         self._keep = keep
         self._buffers: List[Buffer] = [Buffer(self.sizes.buffer) for _ in range(3)]
-        self._golden = self._previous = self._buffers[0]
+        self._golden = self._previous = 0
         self._answer = np.zeros(lib.ANSWER_NUMBERS, np.uint64)
 
     @staticmethod
     def _read_setup(setup: bytes) -> Bytes:
         table = np.zeros(lib.TABLE_BYTES, np.uint8)
         place = np.zeros(1, np.uint64)
-        number = library.wedgepetal_setup(setup, len(setup), table.ctypes.data, table.size, place.ctypes.data, 1)
+        number = library.wedgepetal_setup(setup, len(setup), *_lists(table, place))
         if number:
             raise refused(number, int(place[0]))
         return table
@@ -90,23 +88,22 @@ class Decoder:
         """Packets are missing here: only an intra frame is accepted next."""
         self.session[lib.REFERENCES] = 0
 
-    def room(self) -> Buffer:
-        """A buffer that is neither golden nor previous, and that nobody views."""
-        free = [b for b in self._buffers if b is not self._golden and b is not self._previous]
-        for buffer in free:
-            if not buffer.is_held:
-                return buffer
-        if not self._keep:
-            raise Held("an earlier frame is still viewed: drop it or copy its planes, or open with held=\"keep\"")
-        new = Buffer(self.sizes.buffer)
-        self._buffers[self._buffers.index(free[0])] = new
-        return new
+    def make_room(self) -> int:
+        """Which buffer the next frame goes into. Nobody views it."""
+        free = min({0, 1, 2} - {self._golden, self._previous})
+        if self._buffers[free].is_held:
+            if not self._keep:
+                raise Held('an earlier frame is still viewed: drop it or copy its planes, or open with held="keep"')
+            self._buffers[free] = Buffer(self.sizes.buffer)
+        return free
 
-    def decode(self, packet: bytes, new: Buffer) -> Answer:
-        """Decodes a packet into a buffer that `room` gave. A refusal changes nothing."""
+    def decode(self, packet: bytes) -> Answer:
+        """Decodes a packet. A refusal changes nothing."""
+        new = self.make_room()
+        golden, previous = self._buffers[self._golden], self._buffers[self._previous]
         number = library.wedgepetal_frame(
             *_lists(self.session), packet, len(packet), *_lists(self._table, *self._work),
-            *_lists(self._golden.memory, self._previous.memory, new.memory, self._answer),
+            *_lists(golden.memory, previous.memory, self._buffers[new].memory, self._answer),
         )
         answer = [int(n) for n in self._answer]
         if number:
@@ -116,4 +113,4 @@ class Decoder:
         if kind is Kind.INTRA:
             self._golden = new
         qi = tuple(answer[lib.QIS : lib.QIS + answer[lib.QI_COUNT]])
-        return Answer(new.lease(), kind, qi, answer[lib.TOKENS])
+        return Answer(self._buffers[new].lease(), kind, qi, answer[lib.TOKENS])

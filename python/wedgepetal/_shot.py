@@ -10,7 +10,7 @@ from typing import BinaryIO, Callable, Iterator, List, Optional, Tuple, Type, Ty
 import numpy as np
 
 from . import _library as lib
-from ._decoder import Answer, Buffer, Decoder
+from ._decoder import Answer, Decoder
 from ._faults import Gap, NoRecording, Refused, SeveralStreams
 from ._frame import Frame
 from ._parts import Begin, End, Foreign, Hole, Packet, Part, Source, parts
@@ -131,19 +131,19 @@ class Shot(Iterator[Frame]):
             if self._waiting is None:
                 raise StopIteration
             # If there is none the packet waits.
-            room = self._decoder.room()
+            self._decoder.make_room()
             packet, self._waiting = self._waiting, None
-            frame = self._decode(packet, room)
+            frame = self._decode(packet)
             if frame is not None:
                 return frame
 
-    def _decode(self, packet: Packet, room: Buffer) -> Optional[Frame]:
+    def _decode(self, packet: Packet) -> Optional[Frame]:
         """The frame of a packet, if it is accepted."""
         number, self._packets = self._packets, self._packets + 1
         position = self._clock.position(packet)
         self._clock.next = position + 1
         try:
-            answer = self._decoder.decode(packet.bytes, room)
+            answer = self._decoder.decode(packet.bytes)
         except Refused as error:
             refused = Refused(error.number, error.text, error.place, number)
         else:
