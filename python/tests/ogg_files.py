@@ -56,15 +56,17 @@ def granules(packets: List[bytes], shift: int = 6) -> List[int]:
     return positions
 
 
-def pages(packets: List[bytes], serial: int = 7, last: bool = True) -> List[bytes]:
-    """The pages of an Ogg stream; each packet ends a page."""
+def pages(packets: List[bytes], serial: int = 7, last: bool = True, single: bool = True) -> List[bytes]:
+    """The pages of an Ogg stream. Each packet ends a page, or, if not single, each header and whatever libogg thinks."""
     ogg = ctypes.CDLL("libogg.so.0")
     state, page, found = (ctypes.c_uint64 * 64)(), Page(), []
     ogg.ogg_stream_init(ctypes.byref(state), serial)
     for i, (packet, granule) in enumerate(zip(packets, granules(packets))):
         raw = Packet(packet, len(packet), 0, last and i + 1 == len(packets), granule, 0)
         ogg.ogg_stream_packetin(ctypes.byref(state), ctypes.byref(raw))
-        while ogg.ogg_stream_flush(ctypes.byref(state), ctypes.byref(page)):
+        ends = single or i < 3 or i + 1 == len(packets)
+        out = ogg.ogg_stream_flush if ends else ogg.ogg_stream_pageout
+        while out(ctypes.byref(state), ctypes.byref(page)):
             found.append(ctypes.string_at(page.header, page.header_len) + ctypes.string_at(page.body, page.body_len))
     ogg.ogg_stream_clear(ctypes.byref(state))
     return found

@@ -93,6 +93,47 @@ def test_no_last_page(sound):
     assert len(frames) == 28 and len(shot.gaps) == 1
 
 
+def test_many_packets_on_a_page(sound):
+    file = pages(sound + sound[3:] * 4, single=False)
+    frames, _ = numbers(b"".join(file))
+    assert len(file) < 20 and frames == [(i, i + 3, i) for i in range(140)]
+    frames, shot = numbers(b"".join([*file[:4], *file[5:]]), on_gap="key-frame")
+    positions = [position for _, _, position in frames]
+    first = shot.gaps[0].packet - 3
+    again = -(-(first + shot.gaps[0].lost) // 14) * 14
+    assert shot.gaps[0].lost > 1 and positions == [*range(first), *range(again, 140)]
+
+
+def test_packets_over_several_pages(sound):
+    """What follows a packet's last bit is ignored, so that a packet can be as long as one likes."""
+    sound[8] += bytes(150_000)
+    file = pages(sound)
+    assert len(file) == 31 + 2
+    assert len(numbers(b"".join(file))[0]) == 28
+    for missing in (8, 9, 10):
+        frames, shot = numbers(b"".join(file[:missing] + file[missing + 1 :]), on_gap="key-frame")
+        assert [position for _, _, position in frames] == [0, 1, 2, 3, 4] + list(range(14, 28))
+        assert [gap.lost for gap in shot.gaps] == [1] and not shot.refused
+
+
+def test_a_packet_that_does_not_go_on(sound):
+    """The first page of a long packet, and behind it a page that begins with another packet."""
+    long = [*sound[:8], sound[8] + bytes(150_000), *sound[9:]]
+    frames, shot = numbers(b"".join(pages(long)[:9] + pages(sound)[9:]), on_gap="key-frame")
+    assert [position for _, _, position in frames] == [0, 1, 2, 3, 4] + list(range(14, 28))
+    assert [gap.what.split(",")[0] for gap in shot.gaps] == ["page 9 does not go on where the one before it ends"]
+    assert shot.gaps[0].lost == 1 and not shot.refused
+
+
+def test_a_page_of_which_only_zeros_are_missing_is_cut_short(sound):
+    whole = b"".join(pages([*sound[:-1], sound[-1] + bytes(9)]))
+    assert len(numbers(whole)[0]) == 28
+    with wedgepetal.open(io.BytesIO(whole[:-5])) as shot:
+        with pytest.raises(wedgepetal.Gap, match="its last page is not there"):
+            list(shot)
+        assert shot.notes == [f"bytes {whole.rindex(b'OggS')} to {len(whole) - 6} are no whole Ogg page: damaged, cut short or foreign"]
+
+
 def test_joined_recordings(sound):
     first, second = b"".join(pages(sound)), b"".join(pages(sound[:17], serial=9))
     with wedgepetal.open(io.BytesIO(first + second)) as shot:
