@@ -11,6 +11,7 @@ from . import _library as lib
 from ._faults import Held
 from ._frame import Kind, Lease
 from ._library import library, refused
+from ._memory import free
 from ._session import Bytes, Numbers, Sizes, sizes
 
 # The element types of the ten slices of work memory.
@@ -66,8 +67,10 @@ class Decoder:
         if number:
             raise refused(number)
         self.memory = 3 * self.sizes.buffer + int(lengths[lib.WORK_BYTES]) + lib.TABLE_BYTES
-        if max_memory is not None and self.memory > max_memory:
-            raise MemoryError(f"decoding needs {self.memory} bytes, more than the {max_memory} that are allowed")
+        limit = free() if max_memory is None else max_memory
+        if limit is not None and self.memory > limit:
+            by = "are free here (max_memory sets another limit)" if max_memory is None else "max_memory allows"
+            raise MemoryError(f"decoding needs {self.memory} bytes, more than the {limit} that {by}")
         self._table = self._read_setup(setup)
         self._work = [np.empty(int(n), dtype) for n, dtype in zip(lengths, _SLICES)]
         self._keep = keep

@@ -281,7 +281,8 @@ def open(recording: Recording, *, region: str = "picture", held: str = "keep", o
     stream
         Which Theora stream is read, from 1. Without it a file with more than one raises `SeveralStreams`.
     max_memory
-        The most bytes that decoding may take, else `MemoryError` is raised before any are asked for.
+        The most bytes that decoding may take; without it, what is free on the machine and in its control group. If it
+        needs more, `MemoryError` is raised before any are asked for.
     """
     return Shot(recording, region, held, on_refusal, on_gap, stream, max_memory)
 
