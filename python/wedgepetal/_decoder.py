@@ -93,12 +93,12 @@ class Decoder:
 
     def make_room(self) -> int:
         """Which buffer the next frame goes into. Nobody views it."""
-        free = min({0, 1, 2} - {self._golden, self._previous})
-        if self._buffers[free].is_held:
+        new = min({0, 1, 2} - {self._golden, self._previous})
+        if self._buffers[new].is_held:
             if not self._keep:
                 raise Held('an earlier frame is still viewed: drop it or copy its planes, or open with held="keep"')
-            self._buffers[free] = Buffer(self.sizes.buffer)
-        return free
+            self._buffers[new] = Buffer(self.sizes.buffer)
+        return new
 
     def decode(self, packet: bytes) -> Answer:
         """Decodes a packet. A refusal changes nothing."""
