@@ -3,7 +3,7 @@ ghost use mathlib.Core.Path.{_≡_};
 ghost use Prim.Native.Nat.{ℕ, _+_, _*_, _/_, _≤_, _^_};
 ghost use lib.ListN.{length};
 ghost use Rattle.bitstream.specs.Reading.{field, twoFields, unary};
-ghost use Rattle.bitstream.specs.Bits.{number};
+ghost use Rattle.bitstream.specs.Bits.{number, longest};
 ghost use Rattle.bitstream.specs.Answer.{asField, saidPlace, asTwo, twoOf, readable};
 
 // A field's value and the bit place behind it, or the number of the refusal and the place of the field at fault.
@@ -29,6 +29,47 @@ pub struct BitReader<'a> {
     pub packet: &'a [u8],
     pub place: usize,
 }
+
+// ---- the numbers of refusals: docs/NUMBERS.md says when each is given
+
+// A lent length differs from the published one.
+pub const WRONG_LENGTH: u32 = 1;
+// A header's type byte or "theora" is not the wanted one.
+pub const OTHER_HEADER: u32 = 2;
+// VMAJ is not 3, or VMIN is not 2.
+pub const OTHER_VERSION: u32 = 3;
+// A read passes the end of the packet.
+pub const PACKET_ENDS: u32 = 4;
+// An identification field breaks its range.
+pub const OUT_OF_RANGE: u32 = 5;
+// PF is 1, or the 3 last identification bits are not 0.
+pub const BAD_FORMAT: u32 = 6;
+// NBMS, a matrix index, a qi sum, a code's length or the number of leaves breaks its bound.
+pub const BAD_SETUP: u32 = 7;
+// No accepted header leaves this session, or this table memory.
+pub const NOT_GENUINE: u32 = 8;
+// An inter or empty packet and no references.
+pub const NO_REFERENCES: u32 = 9;
+// The first bit of a frame packet is 1.
+pub const NO_FRAME: u32 = 10;
+// An intra frame's 3 reserved bits are not 0.
+pub const RESERVED_BITS: u32 = 11;
+// A run exceeds the bits still wanted.
+pub const LONG_RUN: u32 = 12;
+// A token moves its block past position 64.
+pub const PAST_BLOCK: u32 = 13;
+// The lent output is too short.
+pub const SHORT_OUTPUT: u32 = 14;
+// One packet more than the session can count.
+pub const UNCOUNTED: u32 = 17;
+// CS is neither 1 nor 2.
+pub const UNKNOWN_COLOUR: u32 = 18;
+// A reader for version 1 is given a text of version 2.
+pub const LATER_VERSION: u32 = 19;
+// Any other fault of a settings text, or of settings.
+pub const BAD_SETTINGS: u32 = 20;
+// The stream is none that the writer writes.
+pub const OTHER_STREAM: u32 = 21;
 
 // The longest part of a packet that is looked at, in bytes: every bit place in it fits 64 bits, and no reader gets so far.
 const LONGEST: usize = 288230376151711744;
@@ -77,12 +118,12 @@ pub fn window(packet: &[u8], at: usize) -> u64
 
 // The field of `width` bits at the bit place `at`: out of eight bytes at once, near the end of the packet out of its own.
 fn field_at(packet: &[u8], at: usize, width: usize) -> Field
-    requires { ⌜ (length (now packet) ≤ 2 ^ 58) × (width ≤ 32) ⌝ }
+    requires { ⌜ (length (now packet) ≤ longest) × (width ≤ 32) ⌝ }
     ensures { λ r. ⌜ r ≡ asField (field width (now (packet .entry)) at) ⌝ }
 {
     let total = packet.len() * 8;
     if total < at {
-        return Field::Refused(4, at);
+        return Field::Refused(PACKET_ENDS, at);
     }
     let end = at + width;
     let first = at / 8;
@@ -93,7 +134,7 @@ fn field_at(packet: &[u8], at: usize, width: usize) -> Field
         return Field::Got(value, end);
     }
     if total < end {
-        return Field::Refused(4, at);
+        return Field::Refused(PACKET_ENDS, at);
     }
     let last = (end + 7) / 8;
     let own = bytes_from(packet, first, last - first);
@@ -120,7 +161,7 @@ pub fn moved<'a>(reader: BitReader<'a>, place: usize) -> BitReader<'a>
 
 // The field of `width` bits at the reader's place.
 pub fn next_field<'a>(reader: BitReader<'a>, width: usize) -> Field
-    requires { ⌜ (length (now (reader .packet)) ≤ 2 ^ 58) × (width ≤ 32) ⌝ }
+    requires { ⌜ (length (now (reader .packet)) ≤ longest) × (width ≤ 32) ⌝ }
     ensures { λ r. ⌜ r ≡ asField (field width (now (reader .entry .packet)) (reader .entry .place)) ⌝ }
 {
     field_at(reader.packet, reader.place, width)
@@ -128,7 +169,7 @@ pub fn next_field<'a>(reader: BitReader<'a>, width: usize) -> Field
 
 // The field of `width` bits at the bit place `at`, by a reader that stands there.
 pub fn read(packet: &[u8], at: usize, width: usize) -> Field
-    requires { ⌜ (length (now packet) ≤ 2 ^ 58) × (width ≤ 32) ⌝ }
+    requires { ⌜ (length (now packet) ≤ longest) × (width ≤ 32) ⌝ }
     ensures { λ r. ⌜ r ≡ asField (field width (now (packet .entry)) at) ⌝ }
 {
     next_field(reader_at(packet, at), width)
@@ -136,7 +177,7 @@ pub fn read(packet: &[u8], at: usize, width: usize) -> Field
 
 // How many 1s come before a 0, at most `ones`: a number in unary.
 pub fn read_unary(packet: &[u8], at: usize, ones: u32) -> Field
-    requires { ⌜ length (now packet) ≤ 2 ^ 58 ⌝ }
+    requires { ⌜ length (now packet) ≤ longest ⌝ }
     ensures { λ r. ⌜ r ≡ asField (unary ones 0 (now (packet .entry)) at) ⌝ }
 {
     let mut r: u32 = 0;
@@ -184,7 +225,7 @@ fn two_of(first: Field, second: Field) -> Two
 
 // The field of `width` bits at another place: the reader is moved there.
 pub fn field_from<'a>(reader: BitReader<'a>, place: usize, width: usize) -> Field
-    requires { ⌜ (length (now (reader .packet)) ≤ 2 ^ 58) × (width ≤ 32) ⌝ }
+    requires { ⌜ (length (now (reader .packet)) ≤ longest) × (width ≤ 32) ⌝ }
     ensures { λ r. ⌜ r ≡ asField (field width (now (reader .entry .packet)) place) ⌝ }
 {
     next_field(moved(reader, place), width)
@@ -192,7 +233,7 @@ pub fn field_from<'a>(reader: BitReader<'a>, place: usize, width: usize) -> Fiel
 
 // Two fields, of `first` and of `second` bits, from the reader's place on.
 pub fn next_two<'a>(reader: BitReader<'a>, first: usize, second: usize) -> Two
-    requires { ⌜ (length (now (reader .packet)) ≤ 2 ^ 58) × (first ≤ 32) × (second ≤ 32) ⌝ }
+    requires { ⌜ (length (now (reader .packet)) ≤ longest) × (first ≤ 32) × (second ≤ 32) ⌝ }
     ensures { λ r. ⌜ r ≡ asTwo (twoFields first second (now (reader .entry .packet)) (reader .entry .place)) ⌝ }
 {
     let one = next_field(reader, first);
@@ -201,7 +242,7 @@ pub fn next_two<'a>(reader: BitReader<'a>, first: usize, second: usize) -> Two
 
 // Two fields, of `first` and of `second` bits, at the bit place `at`, by a reader that stands there.
 pub fn read_two(packet: &[u8], at: usize, first: usize, second: usize) -> Two
-    requires { ⌜ (length (now packet) ≤ 2 ^ 58) × (first ≤ 32) × (second ≤ 32) ⌝ }
+    requires { ⌜ (length (now packet) ≤ longest) × (first ≤ 32) × (second ≤ 32) ⌝ }
     ensures { λ r. ⌜ r ≡ asTwo (twoFields first second (now (packet .entry)) at) ⌝ }
 {
     next_two(reader_at(packet, at), first, second)

@@ -1,13 +1,13 @@
 -- Before clamping red, green and blue lie within 6/10 of the exact fractions: `red-tenths`, `green-tenths`, `blue-tenths`, for all Y, Cb and Cr.
 -- Clamping brings nothing further apart: `clamped-apart`. Assumes nothing.
-use Prim.Native.Nat.{ℕ, zero, suc, _+_, _*_, _≤_, _<_, min}
+use Prim.Native.Nat.{ℕ, suc, _+_, _*_, _≤_, _<_}
 use native.Mathlib.Nat.{zero-mul}
 use native.Mathlib.Omega.{arith}
-use mathlib.Core.Path.{_≡_, refl, sym, ap, _∙_}
-use lib.IntN.{ℤ, pos, negsuc, negℤ, _+ℤ_, _-ℤ_, _*ℤ_, natAbs, *ℤ-comm}
+use mathlib.Core.Path.{_≡_, sym, ap, _∙_}
+use lib.IntN.{ℤ, pos, negsuc, negℤ, _+ℤ_, _-ℤ_, _*ℤ_, *ℤ-comm}
 use Rattle.numeric.specs.Divide.{floorShift}
 use Rattle.numeric.proofs.Linear.{up, dn, parts-add, up-neg, dn-neg, up-mul, dn-mul}
-use Rattle.rgb.specs.Rule.{Rule, units, luma, redCr, greenCb, greenCr, blueCb, entry}
+use Rattle.rgb.specs.Rule.{Rule, units, luma, greenCb, greenCr, entry}
 use Rattle.rgb.specs.Pixel.{sumOf, stepsOf, redSteps, greenSteps, blueSteps}
 use Rattle.rgb.specs.Exact.{less, redOver, redExact, greenOver, greenExact, blueOver, blueExact, WithinSixTenths}
 use Rattle.rgb.proofs.Nearest.{round-upper, round-lower, apart-by}
@@ -39,7 +39,7 @@ dn-less m (negsuc n) = sym (zero-mul (suc m))
 
 -- ---- red and blue: a colour with one table for chroma, whose factor is m thousandths
 abbrev chromaRule : ℕ → Rule
-chromaRule m = record { offset = 128; times = pos (units * m); over = 224 * 1000 }
+chromaRule m = record { offset = 128; factor = pos (units * m); over = 224 * 1000 }
 
 one-tenths : (m y c : ℕ) → WithinSixTenths (stepsOf (sumOf y (entry (chromaRule m) c))) (less 16 y *ℤ pos (255 * (224 * 1000)) +ℤ less 128 c *ℤ pos (255 * 219 * m)) (219 * (224 * 1000))
 unfolding sumOf entry

@@ -12,12 +12,13 @@ use Rattle.reading.specs.declared.Verdict.{Verdict}
 use Rattle.reading.specs.declared.Verdict.the-variants.{Accepted, Refused}
 use Rattle.reading.specs.Answer.{Asked, answerFor}
 use Rattle.decoding.specs.Answer.{State, Done}
-use Rattle.theora.specs.Call.{Call, said, byRules}
+use Rattle.theora.specs.Call.{Call, outcomeOf, byRules}
 use Rattle.theora.specs.Demand.{turn, turns}
 use Rattle.theora.proofs.KeyFrames.{after-session}
-use Rattle.theora_c.specs.Face.{sessionOf, listsNumber, referenceNumber, verdictReturned, FrameReturned, stateOf, doneReturned, frameCall}
-use Rattle.theora_c.specs.Turns.{FaceCall, AnswersFit, SameTurns, FaceTurns}
-use Rattle.theora_c.proofs.Calls.{session-handed}
+use Rattle.session_list.specs.List.{sessionOf, listsNumber}
+use Rattle.frame_c.specs.Face.{referenceNumber, verdictReturned, FrameReturned, stateOf, doneReturned, frameCall}
+use Rattle.frame_c.specs.Turns.{FaceCall, AnswersFit, SameTurns, FaceTurns}
+use Rattle.frame_c.proofs.Calls.{session-handed}
 
 -- a frame call on lists of the published lengths does what the rules say
 pub frame-rules : (session old golden previous : List ℕ) (c : Call) → length session ≡ 19 → length old ≡ 8 → frameCall session old golden previous c ≡ doneReturned session (byRules firstWay (stateOf session golden previous) c)
@@ -52,7 +53,7 @@ module _ (l golden previous : List ℕ) (h : length l ≡ 19) (c : FaceCall) (k 
   list-says : sessionOf (r .answered .lent) ≡ turn st (c .rules) d .after .session
   unfolding byRules
   list-says =
-      ap (λ (x : FrameReturned). sessionOf (x .answered .lent)) same ∙ answer-handed l h (said st (c .rules))
+      ap (λ (x : FrameReturned). sessionOf (x .answered .lent)) same ∙ answer-handed l h (outcomeOf st (c .rules))
       ∙ sym (after-session st (d .answer .verdict) (d .answer .header .kind) (d .answer .session) (d .new))
 
   list-long : length (r .answered .lent) ≡ 19
