@@ -10,7 +10,7 @@ use Rattle.geometry.specs.declared.Block.{Block}
 use Rattle.geometry.specs.Sizes.{across, up, tiles}
 use Rattle.geometry.specs.Frame.{InFrame, block}
 use Rattle.geometry.specs.Sample.{sampleAt}
-use Rattle.ways.specs.Ways.{Picture}
+use Rattle.ways.specs.Ways.{Picture, AlongCoded}
 use Rattle.tile_map.specs.Tiles.{tileMap}
 
 module _ (f : PixelFormat) (w h p t : ℕ) where
@@ -51,3 +51,9 @@ module _ (f : PixelFormat) (w h p t : ℕ) where
     pub holds-none : (b : Block) → b .plane ≡ p → InFrame f w h b → Within x (b .x) → Within y (b .y) → pic .coded b ≡ false
     pub left-or-right : (b : Block) → b .plane ≡ p → InFrame f w h b → Beside x (b .x) → Within y (b .y) → pic .coded b ≡ false
     pub below-or-above : (b : Block) → b .plane ≡ p → InFrame f w h b → Within x (b .x) → Beside y (b .y) → pic .coded b ≡ false
+
+  -- "by the rules already shown": what demand 3 says of an accepted call, its last sentence
+  abbrev pub Kept : Picture → (previous new : List ℕ) → Type 0
+  Kept pic previous new =
+      (b : Block) (c r : ℕ) → InFrame f w h b → c < 8 → r < 8 → pic .coded b ≡ false
+      → getD new (sampleAt f w h b c r) 0 ≢ getD previous (sampleAt f w h b c r) 0 → AlongCoded f w h pic b c r
