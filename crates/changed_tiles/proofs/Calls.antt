@@ -81,13 +81,17 @@ module _ (set : Settings) (s : Session) where
 
   -- ---- the map after an accepted packet
   module _ (previous new : List ℕ) where
-    pub map-compared : s .references ≡ true → (l : List ℕ) → l ≡ tileMap (format s) (s .fields .fmbw) (s .fields .fmbh) (set .plane) (set .tile) previous new → l ≡ acceptedMap set s previous new
+    pub accepted-compared : s .references ≡ true → acceptedMap set s previous new ≡ tileMap (format s) (s .fields .fmbw) (s .fields .fmbh) (set .plane) (set .tile) previous new
     unfolding acceptedMap
-    map-compared h l e = rw h e
+    accepted-compared h = rw h
 
-    pub map-first : s .references ≡ false → (l : List ℕ) → length l ≡ mapLengthOf set s → take 0 l ++ replicate (length l) 1 ++ drop (0 + length l) l ≡ acceptedMap set s previous new
+    pub accepted-first : s .references ≡ false → acceptedMap set s previous new ≡ replicate (mapLengthOf set s) 1
     unfolding acceptedMap
-    map-first h l e = rw (h, zero-add (length l), drop-length l) (append-nil _ ∙ ap (λ (n : ℕ). replicate n 1) e)
+    accepted-first h = rw h
+
+-- all bytes of a list set
+pub all-filled : (l : List ℕ) (n v : ℕ) → length l ≡ n → take 0 l ++ replicate (length l) v ++ drop (0 + length l) l ≡ replicate n v
+all-filled l n v e = rw (zero-add (length l), drop-length l) (append-nil _ ∙ ap (λ (k : ℕ). replicate k v) e)
 
 -- ---- a call
 passed : (a b : Bool) (o : Outcome Asked) {x : Asked} {e : ℕ} → choose a (choose b o (refused 1 0)) (refused 8 0) ≡ got x e → (a ≡ true) × (b ≡ true)

@@ -7,7 +7,8 @@ use Rattle.geometry.specs.declared.PixelFormat.{PixelFormat}
 use Rattle.geometry.specs.Sizes.{blocksOf}
 use Rattle.headers.proofs.Fitting.{fits-macro-blocks}
 use Rattle.tile_map.specs.Tiles.{mapLength, tileMap}
-use Rattle.changed_tiles.proofs.Calls.{settings-tile, settings-plane, map-compared, map-first}
+use Rattle.changed_tiles.specs.Call.{mapLengthOf}
+use Rattle.changed_tiles.proofs.Calls.{settings-tile, settings-plane, accepted-compared, accepted-first, all-filled}
 use borrow.Author.Needs.{needs}
 use Rattle.changed_tiles.proofs.write_accepted.Statement.{statement}
 use Rattle.changed_tiles.proofs.write_accepted.Tie as tie
@@ -33,8 +34,9 @@ same-length c = search needs
 returns : tie.Need-returns
 returns c =
     let a = c .before .before .before .before .before .before .before .before .before .args in
-    map-compared (a .set) (a .s) (a .previous .now) (a .new .now) (c .before .before .before .before .before .if1 .taken) _
-    (c .before .before .write-map .ensures ∙ ap (λ (f : PixelFormat). tileMap f (a .s .fields .fmbw) (a .s .fields .fmbh) (a .set .plane) (a .set .tile) (a .previous .now) (a .new .now)) (c .before .before .before .before .pixel-format .ensures))
+    c .before .before .write-map .ensures
+    ∙ ap (λ (f : PixelFormat). tileMap f (a .s .fields .fmbw) (a .s .fields .fmbh) (a .set .plane) (a .set .tile) (a .previous .now) (a .new .now)) (c .before .before .before .before .pixel-format .ensures)
+    ∙ sym (accepted-compared (a .set) (a .s) (a .previous .now) (a .new .now) (c .before .before .before .before .before .if1 .taken))
 
 fill-bytes-requires : tie.Need-fill-bytes-requires
 fill-bytes-requires c κs = search needs
@@ -45,7 +47,7 @@ same-length-2 c = search needs
 returns-2 : tie.Need-returns-2
 returns-2 c =
     let a = c .before .before .before .before .before .before .before .before .args in
-    c .before .before .fill-bytes .ensures ∙ map-first (a .set) (a .s) (a .previous .now) (a .new .now) (c .before .before .before .before .if1 .left) (a .map .now) (c .before .before .before .before .before .before .before .before .pre .1 .3)
+    c .before .before .fill-bytes .ensures ∙ all-filled (a .map .now) (mapLengthOf (a .set) (a .s)) 1 (c .before .before .before .before .before .before .before .before .pre .1 .3) ∙ sym (accepted-first (a .set) (a .s) (a .previous .now) (a .new .now) (c .before .before .before .before .if1 .left))
 
 pub write-accepted-spec : {M : Type 1} → statement M
 write-accepted-spec =
