@@ -13,7 +13,8 @@ use Rattle.bitstream.specs.Reading.{Outcome, got, refused, choose}
 use Rattle.headers.specs.declared.Session.{Session}
 use Rattle.headers.specs.Fits.{all, sessionFits}
 use Rattle.headers.specs.Sizes.{format}
-use Rattle.headers.proofs.Fitting.{and-both, all-at}
+use Rattle.bitstream.proofs.ListLaws.{and-both}
+use Rattle.headers.proofs.Fitting.{all-at}
 use Rattle.settings.specs.declared.Settings.{Settings}
 use Rattle.settings.specs.Settings.{settingsFit}
 use Rattle.ways.specs.Ways.{firstWay}
@@ -23,7 +24,7 @@ use Rattle.reading.specs.declared.FrameAnswer.{FrameAnswer}
 use Rattle.reading.specs.Answer.{Asked, read, answerFor}
 use Rattle.decoding.specs.Answer.{State, Done, state, done}
 use Rattle.theora.specs.Lengths.{buffersFit}
-use Rattle.theora.specs.Call.{Call, call, lengthsHold, said, byRules}
+use Rattle.theora.specs.Call.{Call, call, lengthsHold, outcomeOf, byRules}
 use Rattle.tile_map.specs.Tiles.{IsTile, tileMap}
 use Rattle.changed_tiles.specs.declared.MapLength.{MapLength}
 use Rattle.changed_tiles.specs.declared.MapLength.the-variants as length
@@ -100,9 +101,9 @@ passed true false o h = let z : _≡_ {A = ℕ} 0 1 = cc in absurd (omega arith)
 passed false b o h = let z : _≡_ {A = ℕ} 0 1 = cc in absurd (omega arith)
 
 -- an accepted call is lent what is published
-pub said-passed : (st : State) (c : Call) {a : Asked} {e : ℕ} → said st c ≡ got a e → (sessionFits (st .session) ≡ true) × (lengthsHold st c ≡ true)
-unfolding said
-said-passed st c h = passed (sessionFits (st .session)) (lengthsHold st c) (read (st .session) (c .table) (c .packet)) h
+pub outcome-passed : (st : State) (c : Call) {a : Asked} {e : ℕ} → outcomeOf st c ≡ got a e → (sessionFits (st .session) ≡ true) × (lengthsHold st c ≡ true)
+unfolding outcomeOf
+outcome-passed st c h = passed (sessionFits (st .session)) (lengthsHold st c) (read (st .session) (c .table) (c .packet)) h
 
 pub lent-both : (st : State) (c : Call) → lengthsHold st c ≡ true → (length (st .previous) ≡ 64 * blocks (st .session)) × (length (c .new) ≡ 64 * blocks (st .session))
 unfolding buffersFit
@@ -133,11 +134,11 @@ module _ (set : Settings) (s : Session) (golden previous packet table new : List
 
       pub call-lent : length (d .new) ≡ length new → IfAccepted (d .answer .verdict) (Lent set s previous (d .new) map)
       unfolding byRules
-      call-lent size = subst (λ (x : Done). IfAccepted (x .answer .verdict) (Lent set s previous (d .new) map)) (sym e) (by (said st c) refl)
+      call-lent size = subst (λ (x : Done). IfAccepted (x .answer .verdict) (Lent set s previous (d .new) map)) (sym e) (by (outcomeOf st c) refl)
         where
-          by : (o : Outcome Asked) → said st c ≡ o → IfAccepted (answerFor s o .verdict) (Lent set s previous (d .new) map)
+          by : (o : Outcome Asked) → outcomeOf st c ≡ o → IfAccepted (answerFor s o .verdict) (Lent set s previous (d .new) map)
           by (refused k i) q = tt
           by (got a i) q =
-              let p = said-passed st c q in
+              let p = outcome-passed st c q in
               let b = lent-both st c (p .1) in
               (p .0, b .0, size ∙ b .1, map-long set s map (p .0) h)

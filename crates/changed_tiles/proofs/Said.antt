@@ -9,9 +9,9 @@ use lib.ListN.{length, getD, replicate, length-replicate, getD-replicate}
 use lib.Seq.{ext-getD}
 use Rattle.bitstream.specs.Reading.{Outcome, got, refused, choose}
 use Rattle.geometry.specs.declared.Block.{Block}
-use Rattle.geometry.specs.Sizes.{across, up, tiles}
+use Rattle.geometry.specs.Sizes.{across, up, squares}
 use Rattle.geometry.specs.Frame.{InFrame, block}
-use Rattle.geometry.proofs.Products.{tiles-begin}
+use Rattle.geometry.proofs.Products.{squares-begin}
 use Rattle.geometry.proofs.Raster.{raster-back}
 use Rattle.headers.specs.Sizes.{format}
 use Rattle.settings.specs.declared.Settings.{Settings}
@@ -19,7 +19,7 @@ use Rattle.settings.specs.Settings.{settingsFit}
 use Rattle.ways.specs.Ways.{firstWay}
 use Rattle.reading.specs.Answer.{Asked, answerFor}
 use Rattle.decoding.specs.Answer.{State, Done, picture}
-use Rattle.theora.specs.Call.{Call, said, byRules}
+use Rattle.theora.specs.Call.{Call, outcomeOf, byRules}
 use Rattle.theora.specs.Demand.{Turn, turn, turns, UncodedKept}
 use Rattle.theora.proofs.Demand.{demand3}
 use Rattle.theora.proofs.First.{first-codes-all, empty-codes-none}
@@ -160,7 +160,7 @@ pub zero-or-one : ZeroOrOne
 zero-or-one set st c map a h = two-by set st c map a h (st .session .references) refl
 
 -- ---- a refusal leaves the map
-packet-left : (set : Settings) (st : State) (c : Call) (map : List ℕ) (k e : ℕ) → said st c ≡ refused k e → (a b : Bool)
+packet-left : (set : Settings) (st : State) (c : Call) (map : List ℕ) (k e : ℕ) → outcomeOf st c ≡ refused k e → (a b : Bool)
     → let d = choose a (choose b (byRules firstWay st c) (refusedBy 1 st c)) (refusedBy 20 st c) in mapAfter set (st .session) (d .answer .verdict) (st .previous) (d .new) map ≡ map
 unfolding byRules
 packet-left set st c map k e r true true = rw r

@@ -6,13 +6,13 @@ use mathlib.Core.List.{List, []}
 use mathlib.Core.Logic.{_⊎_}
 use lib.ListN.{length, getD, replicate}
 use Rattle.bitstream.specs.Reading.{got, refused}
-use Rattle.geometry.specs.Sizes.{across, tiles}
+use Rattle.geometry.specs.Sizes.{across, squares}
 use Rattle.headers.specs.Sizes.{format}
 use Rattle.settings.specs.declared.Settings.{Settings}
 use Rattle.settings.specs.Settings.{settingsFit}
 use Rattle.reading.specs.Answer.{Asked}
 use Rattle.decoding.specs.Answer.{State, picture}
-use Rattle.theora.specs.Call.{Call, said}
+use Rattle.theora.specs.Call.{Call, outcomeOf}
 use Rattle.tile_map.specs.Quiet.{IsOne, InTile, InPlane, Differs, Quiet}
 use Rattle.changed_tiles.specs.Call.{mapLengthOf, mapFits, tilesCall}
 
@@ -22,7 +22,7 @@ module _ (set : Settings) (st : State) (c : Call) (map : List ℕ) where
     pub settings : settingsFit set ≡ true
     pub map-fits : mapFits set (st .session) map ≡ true
     pub place : ℕ
-    pub asked : said st c ≡ got a place
+    pub asked : outcomeOf st c ≡ got a place
 
   -- the bytes of the map afterwards: tile (x, y)
   abbrev pub byteAt : ℕ → ℕ → ℕ
@@ -74,7 +74,7 @@ ZeroOrOne = (set : Settings) (st : State) (c : Call) (map : List ℕ) (a : Asked
 pub record RefusalLeaves (set : Settings) (st : State) (c : Call) (map : List ℕ) : Type 0 where
   pub range : settingsFit set ≡ false → tilesCall set st c map .map ≡ map
   pub length : mapFits set (st .session) map ≡ false → tilesCall set st c map .map ≡ map
-  pub packet : (k e : ℕ) → said st c ≡ refused k e → tilesCall set st c map .map ≡ map
+  pub packet : (k e : ℕ) → outcomeOf st c ≡ refused k e → tilesCall set st c map .map ≡ map
 
 abbrev pub MapIsLeft : Type 0
 MapIsLeft = (set : Settings) (st : State) (c : Call) (map : List ℕ) → RefusalLeaves set st c map

@@ -37,10 +37,10 @@ pub fn map_length(set: Settings, s: Session) -> MapLength
     ensures { λ r. ⌜ r ≡ lengthFor set s ⌝ }
 {
     if !settings::settings_fit(set) {
-        return MapLength::Refused(20, 0);
+        return MapLength::Refused(bitstream::BAD_SETTINGS, 0);
     }
     if !headers::session_fits(s) {
-        return MapLength::Refused(8, 0);
+        return MapLength::Refused(bitstream::NOT_GENUINE, 0);
     }
     MapLength::Is(length_of(set, s))
 }

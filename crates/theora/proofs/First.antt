@@ -28,16 +28,16 @@ use Rattle.coded_flags.proofs.Listing.{order-at}
 use Rattle.coded_flags.proofs.CodedLaws.{record-of, coded-in-range}
 use Rattle.block_qi.specs.BlockQi.{blockQi}
 use Rattle.block_qi.proofs.Laws.{qi-but}
-use Rattle.frame_packet.specs.Frame.{Body, Frame, isIntra, flagsOf, predictions, body, frame, repeated, framePacket}
+use Rattle.frame_packet.specs.Frame.{Body, Frame, isIntra, flagsOf, predictions, body, frame, repeatFrame, framePacket}
 use Rattle.frame_packet.proofs.Laws.{tokensThen, indexThen, made, packet-some}
 use Rattle.frame_packet.proofs.Fits.{predictions-keep, packet-fits, packet-kind, packet-repeat}
 use Rattle.reconstruct.specs.Picture.{pictureOf, recordOf}
 use Rattle.reading.specs.Answer.{Asked}
 use Rattle.decoding.specs.Answer.{State, picture, blocksAsked}
 use Rattle.tokens.specs.Tokens.{readTokens}
-use Rattle.theora.specs.Call.{Call, said}
+use Rattle.theora.specs.Call.{Call, outcomeOf}
 use Rattle.theora.specs.First.{FirstCodesAll, EmptyCodesNone}
-use Rattle.theora.proofs.Tokens.{said-got}
+use Rattle.theora.proofs.Tokens.{outcome-got}
 
 module _ (f : PixelFormat) (w h : ℕ) where
   -- the flags of an intra frame are all 1
@@ -120,7 +120,7 @@ pub first-codes-all : FirstCodesAll
 unfolding picture pictureOf recordOf
 first-codes-all st c a e none r =
     let s = st .session in
-    packet-first (format s) (s .fields .fmbw) (s .fields .fmbh) (a .setup .trees) (s .references) (c .packet) none (said-got st c r .0)
+    packet-first (format s) (s .fields .fmbw) (s .fields .fmbh) (a .setup .trees) (s .references) (c .packet) none (outcome-got st c r .0)
 
 pub empty-codes-none : EmptyCodesNone
 unfolding picture pictureOf recordOf
@@ -129,4 +129,4 @@ empty-codes-none st c a e empty r b =
     let f = format s in
     let w = s .fields .fmbw in
     let h = s .fields .fmbh in
-    packet-empty f w h (a .setup .trees) (s .references) (ap (framePacket f w h (a .setup .trees) (s .references)) (sym empty) ∙ said-got st c r .0) (rasterNumber f w h b)
+    packet-empty f w h (a .setup .trees) (s .references) (ap (framePacket f w h (a .setup .trees) (s .references)) (sym empty) ∙ outcome-got st c r .0) (rasterNumber f w h b)

@@ -10,14 +10,14 @@ use Rattle.headers.specs.Sizes.{format}
 use Rattle.frame_header.specs.declared.Kind.the-variants.{Intra}
 use Rattle.reading.specs.Answer.{Asked}
 use Rattle.decoding.specs.Answer.{State, picture}
-use Rattle.theora.specs.Call.{Call, said}
+use Rattle.theora.specs.Call.{Call, outcomeOf}
 
 -- "9: an inter or empty packet and no references"; "Intra: all coded": what is accepted without references is intra and codes every block
 abbrev pub FirstCodesAll : Type 0
 FirstCodesAll = (st : State) (c : Call) (a : Asked) (e : ℕ) → let s = st .session in
-    s .references ≡ false → said st c ≡ got a e
+    s .references ≡ false → outcomeOf st c ≡ got a e
     → (a .frame .header .kind ≡ Intra) × ((b : Block) → InFrame (format s) (s .fields .fmbw) (s .fields .fmbh) b → picture s a (st .golden) (st .previous) .coded b ≡ true)
 
 -- "An empty packet codes no block"
 abbrev pub EmptyCodesNone : Type 0
-EmptyCodesNone = (st : State) (c : Call) (a : Asked) (e : ℕ) → c .packet ≡ [] → said st c ≡ got a e → (b : Block) → picture (st .session) a (st .golden) (st .previous) .coded b ≡ false
+EmptyCodesNone = (st : State) (c : Call) (a : Asked) (e : ℕ) → c .packet ≡ [] → outcomeOf st c ≡ got a e → (b : Block) → picture (st .session) a (st .golden) (st .previous) .coded b ≡ false

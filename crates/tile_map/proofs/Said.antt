@@ -10,12 +10,12 @@ use borrow.Author.Tests.{eq-eqb, ne-eqb}
 use lib.Dec.{eqb}
 use lib.ListN.{length, getD}
 use Rattle.geometry.specs.declared.PixelFormat.{PixelFormat}
-use Rattle.geometry.specs.Sizes.{across, up, blocksBefore, tiles}
+use Rattle.geometry.specs.Sizes.{across, up, blocksBefore, squares}
 use Rattle.geometry.specs.Tile.{reach}
 use Rattle.geometry.specs.Frame.{block}
 use Rattle.geometry.specs.Sample.{sampleAt, sampleIn}
 use Rattle.geometry.proofs.Grids.{even-length, even-at}
-use Rattle.geometry.proofs.Products.{tiles-reach}
+use Rattle.geometry.proofs.Products.{squares-reach}
 use Rattle.geometry.proofs.Raster.{raster-back}
 use Rattle.tile_map.specs.Tiles.{some, differ, flag, changedIn, planeMap, mapLength, tileMap}
 use Rattle.tile_map.specs.Quiet.{IsOne, byteOf, InTile, InPlane, Differs}

@@ -11,9 +11,9 @@ use lib.Seq.{getD-set-same, getD-set-other, ext-getD}
 use Rattle.bitstream.specs.Lists.{tabulated}
 use Rattle.bitstream.specs.Reading.{choose}
 use Rattle.bitstream.proofs.Lists.{tabulated-length, tabulated-at, tabulated-same, tabulated-is}
-use Rattle.geometry.specs.Sizes.{tiles}
+use Rattle.geometry.specs.Sizes.{squares}
 use Rattle.geometry.specs.Tile.{reach}
-use Rattle.geometry.proofs.Products.{tiles-begin}
+use Rattle.geometry.proofs.Products.{squares-begin}
 use Rattle.tile_map.specs.Tiles.{some, differ, flag, changedIn, stripMap, IsTile, Flags, marked}
 use Rattle.tile_map.proofs.Some.{some-more, differ-part}
 

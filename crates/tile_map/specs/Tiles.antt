@@ -8,7 +8,7 @@ use lib.ListN.{length, getD}
 use Rattle.bitstream.specs.Lists.{tabulated}
 use Rattle.bitstream.specs.Reading.{choose}
 use Rattle.geometry.specs.declared.PixelFormat.{PixelFormat}
-use Rattle.geometry.specs.Sizes.{across, up, blocksBefore, tiles}
+use Rattle.geometry.specs.Sizes.{across, up, blocksBefore, squares}
 use Rattle.geometry.specs.Order.{inTurn}
 use Rattle.geometry.specs.Tile.{reach}
 

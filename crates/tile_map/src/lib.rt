@@ -4,7 +4,7 @@ ghost use mathlib.Core.Path.{_≡_};
 ghost use Prim.Native.Nat.{_+_, _*_, _%_, _≤_, _<_, min};
 ghost use lib.ListN.{length};
 ghost use Rattle.bitstream.specs.Reading.{choose};
-ghost use Rattle.geometry.specs.Sizes.{tiles, blocksOf};
+ghost use Rattle.geometry.specs.Sizes.{squares, blocksOf, largest};
 ghost use Rattle.tile_map.specs.Tiles.{differ, stripMap, planeMap, mapLength, tileMap, IsTile, Both, Flags, marked};
 
 // Whether some of the n samples from `at` on differs. The loop looks at all of them, so that the compiler takes sixteen at a time.
@@ -154,7 +154,7 @@ fn write_tiles(
 
 // How many tiles a plane has.
 pub fn map_length(format: PixelFormat, w: u64, h: u64, p: u64, tile: u64) -> u64
-    requires { ⌜ (w ≤ 65535) × (h ≤ 65535) × (p < 3) × IsTile tile ⌝ }
+    requires { ⌜ (w ≤ largest) × (h ≤ largest) × (p < 3) × IsTile tile ⌝ }
     ensures { λ r. ⌜ r ≡ mapLength format w h p tile ⌝ }
 {
     let q = geometry::plane_of(format, w, h, p);
@@ -174,7 +174,7 @@ pub fn write_map(
     new: &[u8],
     map: &mut [u8],
 )
-    requires { ⌜ (w ≤ 65535) × (h ≤ 65535) × (p < 3) × IsTile tile ⌝ }
+    requires { ⌜ (w ≤ largest) × (h ≤ largest) × (p < 3) × IsTile tile ⌝ }
     requires { ⌜ (length (now previous) ≡ 64 * blocksOf format w h) × (length (now new) ≡ 64 * blocksOf format w h) × (length (now map) ≡ mapLength format w h p tile) ⌝ }
     ensures { λ _. ⌜ now (map .exit) ≡ tileMap format w h p tile (now (previous .entry)) (now (new .entry)) ⌝ }
 {

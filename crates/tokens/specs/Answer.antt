@@ -11,7 +11,7 @@ use Rattle.bitstream.specs.Answer.{IfGot}
 use Rattle.huffman.specs.Tree.{Tree, Proper, leaf, nodesOf}
 use Rattle.huffman.specs.Code.{treeOf}
 use Rattle.huffman.specs.Lookup.{Lookup}
-use Rattle.tokens.specs.Tokens.{State, Choices, Tokens, group}
+use Rattle.tokens.specs.Tokens.{TokenState, Choices, Tokens, group}
 use Rattle.tokens.specs.declared.Visit.{Visit}
 use Rattle.tokens.specs.declared.Visit.the-variants as visit
 use Rattle.tokens.specs.declared.Chosen.{Chosen}
@@ -19,16 +19,16 @@ use Rattle.tokens.specs.declared.Chosen.the-variants as chosen
 use Rattle.tokens.specs.declared.Counted.{Counted}
 use Rattle.tokens.specs.declared.Counted.the-variants as counted
 
-abbrev pub asVisit : Outcome State → Visit
+abbrev pub asVisit : Outcome TokenState → Visit
 asVisit (got s e) = visit.Done e (s .run) (s .tokens)
 asVisit (refused k e) = visit.Refused k e
 
 -- what stands in the slices after an outcome; after a refusal that is open
-abbrev pub Kept : List ℕ → List ℕ → List ℤ → Outcome State → Type 0
+abbrev pub Kept : List ℕ → List ℕ → List ℤ → Outcome TokenState → Type 0
 Kept ps ls cs o = IfGot (λ s. (ps ≡ s .positions) × (ls ≡ s .lasts) × (cs ≡ s .coefs)) o
 
 -- the answer and the slices together
-abbrev pub Visited : Visit → List ℕ → List ℕ → List ℤ → Outcome State → Type 0
+abbrev pub Visited : Visit → List ℕ → List ℕ → List ℤ → Outcome TokenState → Type 0
 Visited r ps ls cs o = (r ≡ asVisit o) × Kept ps ls cs o
 
 abbrev pub asChosen : Outcome Choices → Chosen

@@ -6,7 +6,7 @@ use mathlib.Core.List.{List}
 use lib.ListN.{length, getD, length-set}
 use Rattle.bitstream.specs.Reading.{choose}
 use Rattle.geometry.specs.Tile.{reach}
-use Rattle.geometry.specs.Sizes.{tiles}
+use Rattle.geometry.specs.Sizes.{squares}
 use Rattle.tile_map.specs.Tiles.{differ}
 use Rattle.tile_map.proofs.Strips.{set-front, set-rest, column-inside, reach-inside, reach-eights, marked-is}
 use borrow.Author.Needs.{needs}

@@ -6,7 +6,7 @@ use mathlib.Core.Path.{_≡_, refl, sym, ap, _∙_, subst}
 use mathlib.Core.List.{List}
 use lib.ListN.{length, take, drop}
 use lib.Seq.{take-all}
-use Rattle.geometry.specs.Sizes.{tiles}
+use Rattle.geometry.specs.Sizes.{squares}
 use Rattle.geometry.specs.Order.{inTurn}
 use Rattle.geometry.specs.Tile.{reach}
 use Rattle.output.proofs.Splices.{part-length}

@@ -11,13 +11,13 @@ use Rattle.bitstream.specs.Reading.{Outcome, got}
 use Rattle.huffman.specs.Tree.{Tree}
 use Rattle.huffman.specs.Code.{treeOf}
 use Rattle.token.specs.Token.{Meaning}
-use Rattle.tokens.specs.Tokens.{State, stateOf, token, act, readFor}
+use Rattle.tokens.specs.Tokens.{TokenState, stateOf, token, act, readFor}
 use Rattle.tokens.proofs.Ways.{is-end, is-zeros, is-value, is-refused, run-pos, unfinished-some, read-refused, read-got, act-end, act-zeros, zeros-past, act-value, value-past, on-refusal, on-state}
 use Rattle.tokens.proofs.read_for.Statement.{statement}
 use Rattle.tokens.proofs.read_for.Tie as tie
 
 module _ (c : tie.Start) where
-  abbrev s : State
+  abbrev s : TokenState
   s = stateOf (c .args .positions .now) (c .args .lasts .now) (c .args .coefs .now) (c .args .run) (c .args .tokens)
 
   abbrev tree : Tree
@@ -26,7 +26,7 @@ module _ (c : tie.Start) where
   abbrev read : Outcome Meaning
   read = token tree (c .args .packet .now) (c .args .at)
 
-  abbrev all : Outcome State
+  abbrev all : Outcome TokenState
   all = readFor tree (c .args .k) (c .args .b) s (c .args .packet .now) (c .args .at)
 
   acts : {m : Meaning} {e : ℕ} → read ≡ got m e → all ≡ act (c .args .k) (c .args .b) (c .args .at) m s (c .args .packet .now) e
