@@ -5,6 +5,7 @@ use mathlib.Core.Bool.{Bool, true}
 use mathlib.Core.List.{List}
 use lib.Dec.{eqb}
 use lib.ListN.{length, replicate}
+use Rattle.bitstream.specs.Numbers.{wrongLength, notGenuine, badSettings}
 use Rattle.bitstream.specs.Reading.{refused, choose}
 use Rattle.headers.specs.declared.Session.{Session}
 use Rattle.headers.specs.Fits.{sessionFits}
@@ -29,7 +30,7 @@ mapLengthOf set s = mapLength (format s) (s .fields .fmbw) (s .fields .fmbh) (se
 
 -- 20, then the identification part of 8
 unfoldable pub lengthFor : Settings → Session → MapLength
-lengthFor set s = choose (settingsFit set) (choose (sessionFits s) (answer.Is (mapLengthOf set s)) (answer.Refused 8 0)) (answer.Refused 20 0)
+lengthFor set s = choose (settingsFit set) (choose (sessionFits s) (answer.Is (mapLengthOf set s)) (answer.Refused notGenuine 0)) (answer.Refused badSettings 0)
 
 -- ---- the map after a packet
 -- "An intra frame accepted without references gives all 1"
@@ -55,7 +56,7 @@ mapFits set s map = choose (sessionFits s) (eqb (length map) (mapLengthOf set s)
 
 -- "settings outside Ask 10's ranges, 20 before all other checks"; else a frame call
 unfoldable pub frameFor : Settings → State → Call → List ℕ → Done
-frameFor set st c map = choose (settingsFit set) (choose (mapFits set (st .session) map) (byRules firstWay st c) (refusedBy 1 st c)) (refusedBy 20 st c)
+frameFor set st c map = choose (settingsFit set) (choose (mapFits set (st .session) map) (byRules firstWay st c) (refusedBy wrongLength st c)) (refusedBy badSettings st c)
 
 -- what a call leaves: all that a frame call leaves, and the map
 pub record TilesDone : Type 0 where

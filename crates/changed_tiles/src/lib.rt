@@ -23,13 +23,7 @@ fn length_of(set: Settings, s: Session) -> u64
     ensures { λ r. ⌜ r ≡ mapLengthOf set s ⌝ }
 {
     let format = headers::pixel_format(s.fields.pf);
-    tile_map::map_length(
-        format,
-        s.fields.fmbw,
-        s.fields.fmbh,
-        set.plane,
-        set.tile,
-    )
+    tile_map::map_length(format, s.fields.fmbw, s.fields.fmbh, set.plane, set.tile)
 }
 
 // The length of the map of a session's frames.
@@ -125,14 +119,28 @@ pub fn frame(
         (now (map .entry)) ⌝ }
 {
     if !settings::settings_fit(set) {
-        return reading::refusal(20, 0, s);
+        return reading::refusal(bitstream::BAD_SETTINGS, 0, s);
     }
     if !map_fits(set, s, map) {
-        return reading::refusal(1, 0, s);
+        return reading::refusal(bitstream::WRONG_LENGTH, 0, s);
     }
     let answer = theora::frame(
-        s, packet, table, records, coded, coefs, dc, lasts, flags, bits, supers, modes, active,
-        golden, previous, new,
+        s,
+        packet,
+        table,
+        records,
+        coded,
+        coefs,
+        dc,
+        lasts,
+        flags,
+        bits,
+        supers,
+        modes,
+        active,
+        golden,
+        previous,
+        new,
     );
     let verdict = answer.verdict;
     update_map(set, s, verdict, previous, new, map);

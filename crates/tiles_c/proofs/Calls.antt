@@ -14,8 +14,9 @@ use Rattle.settings.specs.Settings.{settingsFit}
 use Rattle.settings_list.specs.List.{settingsOf}
 use Rattle.decoding.specs.Answer.{Done, state}
 use Rattle.theora.specs.Call.{Call}
-use Rattle.theora_c.specs.Face.{Returned, gives, sessionOf, listsNumber, Answered, answers, frameGives, verdictReturned}
-use Rattle.theora_c.proofs.Calls.{lengths}
+use Rattle.session_list.specs.List.{Returned, gives, sessionOf, listsNumber, Answered, answers}
+use Rattle.frame_c.specs.Face.{frameGives, verdictReturned}
+use Rattle.session_list.proofs.Lists.{lengths}
 use Rattle.changed_tiles.specs.declared.MapLength.{MapLength}
 use Rattle.changed_tiles.specs.Call.{lengthFor, TilesDone, tilesCall}
 use Rattle.tiles_c.specs.Face.{tilesNumber, lengthReturned, lengthCall, tilesGives, tilesFrameCall}

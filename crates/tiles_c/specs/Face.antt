@@ -1,20 +1,22 @@
--- The face for C: what each call returns and leaves. Sessions and answers are lists of numbers, as in `theora_c`; settings are 4 numbers.
+-- The face for C: what each call returns and leaves. Sessions and answers are lists of numbers, as `session_list` has them; settings are 4 numbers.
 use Prim.Native.Nat.{ℕ}
 use mathlib.Core.List.{List, [], _∷_}
 use lib.Dec.{eqb}
 use lib.ListN.{length}
 use Rattle.bitstream.specs.Reading.{choose}
+use Rattle.bitstream.specs.Numbers.{wrongLength, badSettings}
 use Rattle.settings.specs.Settings.{settingsFit}
 use Rattle.settings_list.specs.List.{settingsOf}
 use Rattle.theora.specs.Call.{Call}
-use Rattle.theora_c.specs.Face.{Returned, gives, sessionOf, listsNumber, answers, FrameReturned, frameGives, stateOf, doneReturned}
+use Rattle.session_list.specs.List.{Returned, gives, sessionOf, listsNumber, answers}
+use Rattle.frame_c.specs.Face.{FrameReturned, frameGives, stateOf, doneReturned}
 use Rattle.changed_tiles.specs.declared.MapLength.{MapLength}
 use Rattle.changed_tiles.specs.declared.MapLength.the-variants.{Is, Refused}
 use Rattle.changed_tiles.specs.Call.{lengthFor, tilesCall}
 
 -- by what the lists are refused, 0 if by nothing: "20 before all other checks" that can be made on a list of 4 numbers
 unfoldable pub tilesNumber : (wanted : ℕ) (settings session : List ℕ) (room : ℕ) → ℕ
-tilesNumber wanted settings session room = choose (eqb (length settings) 4) (choose (settingsFit (settingsOf settings)) (listsNumber wanted session room) 20) 1
+tilesNumber wanted settings session room = choose (eqb (length settings) 4) (choose (settingsFit (settingsOf settings)) (listsNumber wanted session room) badSettings) wrongLength
 
 -- 0 and the length; or the number of the refusal, and the list as it was
 abbrev pub lengthReturned : List ℕ → MapLength → Returned

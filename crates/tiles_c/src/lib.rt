@@ -4,7 +4,8 @@ ghost use mathlib.Core.Path.{_≡_};
 ghost use lib.ListN.{length};
 ghost use Rattle.work_memory.specs.Memory.{memory};
 ghost use Rattle.theora.specs.Call.{call};
-ghost use Rattle.theora_c.specs.Face.{gives, answers, frameGives};
+ghost use Rattle.session_list.specs.List.{gives, answers};
+ghost use Rattle.frame_c.specs.Face.{frameGives};
 ghost use Rattle.tiles_c.specs.Face.{tilesNumber, lengthReturned, lengthCall, tilesGives, tilesFrameCall};
 
 // By what the lists of a call are refused before it is made, 0 if by nothing: 1 for a settings' list of another length, 20 for the settings, then as
@@ -13,13 +14,13 @@ fn lists_refusal(settings: &[u64], session: &[u64], room: usize, wanted: usize) 
     ensures { λ r. ⌜ r ≡ tilesNumber wanted (now (settings .entry)) (now (session .entry)) room ⌝ }
 {
     if settings.len() != 4 {
-        return 1;
+        return bitstream::WRONG_LENGTH;
     }
     let set = settings_list::settings_of(settings);
     if settings::settings_fit(set) {
-        return theora_c::lists_refusal(session, room, wanted);
+        return session_list::lists_refusal(session, room, wanted);
     }
-    20
+    bitstream::BAD_SETTINGS
 }
 
 fn return_length(answer: MapLength, list: &mut [u64]) -> u32
@@ -37,13 +38,17 @@ fn return_length(answer: MapLength, list: &mut [u64]) -> u32
 
 // How many bytes a map of changed tiles has.
 #[no_mangle]
-pub extern "C" fn wedgepetal_tiles_length(settings: &[u64], session: &[u64], length: &mut [u64]) -> u32
+pub extern "C" fn wedgepetal_tiles_length(
+    settings: &[u64],
+    session: &[u64],
+    length: &mut [u64],
+) -> u32
     ensures { λ r. ⌜ gives r (now (length .exit)) ≡ lengthCall (now (settings .entry)) (now (session .entry)) (now (length .entry)) ⌝ }
 {
     let k = lists_refusal(settings, session, length.len(), 1);
     if k == 0 {
         let set = settings_list::settings_of(settings);
-        let s = theora_c::session_of(session);
+        let s = session_list::session_of(session);
         return return_length(changed_tiles::map_length(set, s), length);
     }
     k
@@ -80,12 +85,28 @@ pub extern "C" fn wedgepetal_tiles_frame(
     let k = lists_refusal(settings, session, answer.len(), 8);
     if k == 0 {
         let set = settings_list::settings_of(settings);
-        let s = theora_c::session_of(session);
+        let s = session_list::session_of(session);
         let done = changed_tiles::frame(
-            set, s, packet, table, records, coded, coefs, dc, lasts, flags, bits, supers, modes, active,
-            golden, previous, new, map,
+            set,
+            s,
+            packet,
+            table,
+            records,
+            coded,
+            coefs,
+            dc,
+            lasts,
+            flags,
+            bits,
+            supers,
+            modes,
+            active,
+            golden,
+            previous,
+            new,
+            map,
         );
-        return theora_c::return_frame(done, session, answer);
+        return frame_c::return_frame(done, session, answer);
     }
     k
 }

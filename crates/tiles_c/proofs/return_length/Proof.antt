@@ -3,8 +3,8 @@ use Prim.Native.Nat.{ℕ}
 use native.Mathlib.Omega.{arith}
 use mathlib.Core.Path.{sym, ap, _∙_}
 use mathlib.Core.List.{List}
-use Rattle.theora_c.specs.Face.{gives}
-use Rattle.theora_c.proofs.Calls.{only}
+use Rattle.session_list.specs.List.{gives}
+use Rattle.session_list.proofs.Lists.{only}
 use Rattle.tiles_c.specs.Face.{lengthReturned}
 use borrow.Author.Needs.{needs}
 use Rattle.tiles_c.proofs.return_length.Statement.{statement}
