@@ -1,9 +1,9 @@
--- `scoring_c::settings_of` meets its contract. Assumes nothing.
-use mathlib.Core.Path.{refl}
-use Rattle.scoring_c.specs.Face.{settingsOf}
+-- `settings_list::settings_of` meets its contract. Assumes nothing.
+use mathlib.Core.Path.{_≡_, refl, sym, ap, _∙_}
+use Rattle.settings_list.specs.List.{settingsOf}
 use borrow.Author.Needs.{needs}
-use Rattle.scoring_c.proofs.settings_of.Statement.{statement}
-use Rattle.scoring_c.proofs.settings_of.Tie as tie
+use Rattle.settings_list.proofs.settings_of.Statement.{statement}
+use Rattle.settings_list.proofs.settings_of.Tie as tie
 
 shared-slice-read-t3 : tie.Need-shared-slice-read-t3
 shared-slice-read-t3 c = search needs
