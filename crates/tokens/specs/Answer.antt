@@ -59,6 +59,14 @@ unfoldable pub unfinishedOf : List ℕ → List ℕ → List ℕ
 unfinishedOf ps [] = []
 unfinishedOf ps (b ∷ bs) = choose (ltb (getD ps b 0) 64) (b ∷ unfinishedOf ps bs) (unfinishedOf ps bs)
 
+-- 1 where a block that stands at p stands at the position k; those of the blocks bs that do
+abbrev pub oneIfDue : ℕ → ℕ → ℕ
+oneIfDue k p = choose (eqb p k) 1 0
+
+unfoldable pub dueOf : ℕ → List ℕ → List ℕ → List ℕ
+dueOf k ps [] = []
+dueOf k ps (b ∷ bs) = choose (eqb (getD ps b 0) k) (b ∷ dueOf k ps bs) (dueOf k ps bs)
+
 -- a step of moving the unfinished blocks to the front: what is kept and what is still to be seen
 pub record KeptOne (ps bs : List ℕ) (j kept : ℕ) (bs′ : List ℕ) (kept′ : ℕ) : Type 0 where
   pub most : kept′ ≤ j + 1

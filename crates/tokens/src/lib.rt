@@ -11,7 +11,7 @@ ghost use Rattle.token.specs.Answer.{asToken, packedRows};
 ghost use Rattle.huffman.specs.Code.{treeOf, Formed};
 ghost use Rattle.huffman.specs.Lookup.{Lookup};
 ghost use Rattle.tokens.specs.Tokens.{token, stateOf, unfinished, runOf, readFor, visit, pass, group, choices, choicesOf, ranks, atPosition, positionsFrom, readTokens};
-ghost use Rattle.tokens.specs.Answer.{Visited, Shape, room, Below, unfinishedOf, KeptOne, KeptActive, asChosen, Tables, nodesAt, beginsGroup, Ready, Current, treeAt, treesOf, AllOpen, asCounted, Cleared, Stored, Untouched};
+ghost use Rattle.tokens.specs.Answer.{Visited, Shape, room, Below, unfinishedOf, dueOf, oneIfDue, KeptOne, KeptActive, asChosen, Tables, nodesAt, beginsGroup, Ready, Current, treeAt, treesOf, AllOpen, asCounted, Cleared, Stored, Untouched};
 
 // The place behind what was read, what is left of the end-of-block run, and how many tokens were read so far. Or the number of the refusal and its place.
 enum Visit {
@@ -176,7 +176,7 @@ fn visit_block(
 }
 
 // The blocks of a list in turn, at the position k.
-fn pass_blocks(
+fn visit_blocks(
     packet: &[u8],
     at: usize,
     nodes: &[u8],
@@ -221,6 +221,95 @@ fn pass_blocks(
         left = r;
         count = t;
         j += 1;
+    }
+    Visit::Done(place, left, count)
+}
+
+// 1 for a block that stands at the position k, by its own.
+fn one_if_due(p: u8, k: usize) -> usize
+    ensures { λ r. ⌜ r ≡ oneIfDue k p ⌝ }
+{
+    if p as usize == k {
+        return 1;
+    }
+    0
+}
+
+// Writes the blocks of a list that stand at the position k to the front of `due`: how many they are.
+// No branch depends on where a block stands: half of them are elsewhere, and a visit's test for it was mispredicted so often that it took a tenth of the decoding time.
+fn gather(positions: &[u8], blocks: &[u64], k: usize, due: &mut [u64]) -> usize
+    requires { ⌜ (length (now blocks) ≤ length (now due)) × Below (length (now positions)) (now blocks) ⌝ }
+    ensures { λ r. ⌜ (take r (now (due .exit)) ≡ dueOf k (now (positions .entry)) (now (blocks .entry))) × (r ≤ length (now (blocks .entry))) ⌝ }
+{
+    let mut n = 0;
+    let mut j = 0;
+    while j < blocks.len() {
+        let b = blocks[j];
+        let p = positions[b as usize];
+        due[n] = b;
+        n += one_if_due(p, k);
+        j += 1;
+    }
+    n
+}
+
+// Where the part of a list ends that begins at the index j: it has at most 64 blocks.
+fn part_end(j: usize, count: usize) -> usize
+    requires { ⌜ j < count ⌝ }
+    ensures { λ r. ⌜ (j < r) × (r ≤ count) × (r ≤ j + 64) ⌝ }
+{
+    if count - j < 64 {
+        return count;
+    }
+    j + 64
+}
+
+// The blocks of a list in turn, at the position k: of 64 at a time those that stand there are gathered in `due`, and visited.
+fn pass_blocks(
+    packet: &[u8],
+    at: usize,
+    nodes: &[u8],
+    lookup: &[u16],
+    k: usize,
+    blocks: &[u64],
+    due: &mut [u64],
+    run: usize,
+    tokens: usize,
+    positions: &mut [u8],
+    lasts: &mut [u8],
+    coefs: &mut [i16],
+) -> Visit
+    requires { ⌜ (length (now packet) ≤ longest) × Formed (now nodes) × Lookup (now nodes) (now lookup) × (length (now due) ≡ 64) ⌝ }
+    requires { ⌜ Shape (now positions) (now lasts) (now coefs) × (k < 64) × Below (length (now positions)) (now blocks) × (tokens + room (now positions) < 2 ^ 60) ⌝ }
+    ensures { λ r. ⌜ Visited r (now (positions .exit)) (now (lasts .exit)) (now (coefs .exit)) (pass (treeOf (now (nodes .entry))) k (now (blocks .entry)) (stateOf (now (positions .entry)) (now (lasts .entry)) (now (coefs .entry)) run tokens) (now (packet .entry)) at) ⌝ }
+{
+    let mut j = 0;
+    let mut place = at;
+    let mut left = run;
+    let mut count = tokens;
+    while j < blocks.len() {
+        let end = part_end(j, blocks.len());
+        let n = gather(positions, &blocks[j..end], k, due);
+        let one = visit_blocks(
+            packet,
+            place,
+            nodes,
+            lookup,
+            k,
+            &due[..n],
+            left,
+            count,
+            positions,
+            lasts,
+            coefs,
+        );
+        let Visit::Done(next, r, t) = one else {
+            return one;
+        };
+        place = next;
+        left = r;
+        count = t;
+        j = end;
     }
     Visit::Done(place, left, count)
 }
@@ -340,6 +429,7 @@ fn pass_table(
 {
     let from = 64 * j;
     let to = from + 64;
+    let mut due = [0u64; 64];
     pass_blocks(
         packet,
         at,
@@ -347,6 +437,7 @@ fn pass_table(
         lookup,
         k,
         blocks,
+        &mut due,
         run,
         tokens,
         positions,
