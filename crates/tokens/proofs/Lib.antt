@@ -2,6 +2,7 @@
 pub mod Ways
 pub mod Goes
 pub mod Due
+pub mod Entries
 pub mod Unfinished
 pub mod Tables
 pub mod Positions
