@@ -5,6 +5,7 @@ use mathlib.Core.List.{List, [], _∷_, _++_}
 use mathlib.Core.Bool.{Bool, cond}
 use lib.Dec.{leb, eqb}
 use Rattle.bitstream.specs.Bits.{bits, number}
+use Rattle.bitstream.specs.Numbers.{packetEnds}
 
 -- what a reading comes to: a value and the place behind it, or the number of a refusal and the place of the field at fault
 pub data Outcome (A : Type 0) : Type 0 where
@@ -59,7 +60,7 @@ pick b m n = choose b m n
 
 -- n bits as an unsigned number. Number 4, "a read passes the end of the packet", stands at the field's first bit. "A zero-bit read gives 0, even at the very end."
 unfoldable pub field : ℕ → Parse ℕ
-field n p i = choose (leb (i + n) (bits p)) (got (number p i n) (i + n)) (refused 4 i)
+field n p i = choose (leb (i + n) (bits p)) (got (number p i n) (i + n)) (refused packetEnds i)
 
 -- two fields, one behind the other
 abbrev pub twoFields : ℕ → ℕ → Parse (ℕ × ℕ)

@@ -3,7 +3,7 @@ ghost use mathlib.Core.Path.{_≡_};
 ghost use Prim.Native.Nat.{ℕ, _+_, _*_, _/_, _≤_, _^_};
 ghost use lib.ListN.{length};
 ghost use Rattle.bitstream.specs.Reading.{field, twoFields, unary};
-ghost use Rattle.bitstream.specs.Bits.{number};
+ghost use Rattle.bitstream.specs.Bits.{number, longest};
 ghost use Rattle.bitstream.specs.Answer.{asField, saidPlace, asTwo, twoOf, readable};
 
 // A field's value and the bit place behind it, or the number of the refusal and the place of the field at fault.
@@ -77,12 +77,12 @@ pub fn window(packet: &[u8], at: usize) -> u64
 
 // The field of `width` bits at the bit place `at`: out of eight bytes at once, near the end of the packet out of its own.
 fn field_at(packet: &[u8], at: usize, width: usize) -> Field
-    requires { ⌜ (length (now packet) ≤ 2 ^ 58) × (width ≤ 32) ⌝ }
+    requires { ⌜ (length (now packet) ≤ longest) × (width ≤ 32) ⌝ }
     ensures { λ r. ⌜ r ≡ asField (field width (now (packet .entry)) at) ⌝ }
 {
     let total = packet.len() * 8;
     if total < at {
-        return Field::Refused(4, at);
+        return Field::Refused(PACKET_ENDS, at);
     }
     let end = at + width;
     let first = at / 8;
@@ -93,7 +93,7 @@ fn field_at(packet: &[u8], at: usize, width: usize) -> Field
         return Field::Got(value, end);
     }
     if total < end {
-        return Field::Refused(4, at);
+        return Field::Refused(PACKET_ENDS, at);
     }
     let last = (end + 7) / 8;
     let own = bytes_from(packet, first, last - first);
@@ -120,7 +120,7 @@ pub fn moved<'a>(reader: BitReader<'a>, place: usize) -> BitReader<'a>
 
 // The field of `width` bits at the reader's place.
 pub fn next_field<'a>(reader: BitReader<'a>, width: usize) -> Field
-    requires { ⌜ (length (now (reader .packet)) ≤ 2 ^ 58) × (width ≤ 32) ⌝ }
+    requires { ⌜ (length (now (reader .packet)) ≤ longest) × (width ≤ 32) ⌝ }
     ensures { λ r. ⌜ r ≡ asField (field width (now (reader .entry .packet)) (reader .entry .place)) ⌝ }
 {
     field_at(reader.packet, reader.place, width)
@@ -128,7 +128,7 @@ pub fn next_field<'a>(reader: BitReader<'a>, width: usize) -> Field
 
 // The field of `width` bits at the bit place `at`, by a reader that stands there.
 pub fn read(packet: &[u8], at: usize, width: usize) -> Field
-    requires { ⌜ (length (now packet) ≤ 2 ^ 58) × (width ≤ 32) ⌝ }
+    requires { ⌜ (length (now packet) ≤ longest) × (width ≤ 32) ⌝ }
     ensures { λ r. ⌜ r ≡ asField (field width (now (packet .entry)) at) ⌝ }
 {
     next_field(reader_at(packet, at), width)
@@ -136,7 +136,7 @@ pub fn read(packet: &[u8], at: usize, width: usize) -> Field
 
 // How many 1s come before a 0, at most `ones`: a number in unary.
 pub fn read_unary(packet: &[u8], at: usize, ones: u32) -> Field
-    requires { ⌜ length (now packet) ≤ 2 ^ 58 ⌝ }
+    requires { ⌜ length (now packet) ≤ longest ⌝ }
     ensures { λ r. ⌜ r ≡ asField (unary ones 0 (now (packet .entry)) at) ⌝ }
 {
     let mut r: u32 = 0;
@@ -184,7 +184,7 @@ fn two_of(first: Field, second: Field) -> Two
 
 // The field of `width` bits at another place: the reader is moved there.
 pub fn field_from<'a>(reader: BitReader<'a>, place: usize, width: usize) -> Field
-    requires { ⌜ (length (now (reader .packet)) ≤ 2 ^ 58) × (width ≤ 32) ⌝ }
+    requires { ⌜ (length (now (reader .packet)) ≤ longest) × (width ≤ 32) ⌝ }
     ensures { λ r. ⌜ r ≡ asField (field width (now (reader .entry .packet)) place) ⌝ }
 {
     next_field(moved(reader, place), width)
@@ -192,7 +192,7 @@ pub fn field_from<'a>(reader: BitReader<'a>, place: usize, width: usize) -> Fiel
 
 // Two fields, of `first` and of `second` bits, from the reader's place on.
 pub fn next_two<'a>(reader: BitReader<'a>, first: usize, second: usize) -> Two
-    requires { ⌜ (length (now (reader .packet)) ≤ 2 ^ 58) × (first ≤ 32) × (second ≤ 32) ⌝ }
+    requires { ⌜ (length (now (reader .packet)) ≤ longest) × (first ≤ 32) × (second ≤ 32) ⌝ }
     ensures { λ r. ⌜ r ≡ asTwo (twoFields first second (now (reader .entry .packet)) (reader .entry .place)) ⌝ }
 {
     let one = next_field(reader, first);
@@ -201,7 +201,7 @@ pub fn next_two<'a>(reader: BitReader<'a>, first: usize, second: usize) -> Two
 
 // Two fields, of `first` and of `second` bits, at the bit place `at`, by a reader that stands there.
 pub fn read_two(packet: &[u8], at: usize, first: usize, second: usize) -> Two
-    requires { ⌜ (length (now packet) ≤ 2 ^ 58) × (first ≤ 32) × (second ≤ 32) ⌝ }
+    requires { ⌜ (length (now packet) ≤ longest) × (first ≤ 32) × (second ≤ 32) ⌝ }
     ensures { λ r. ⌜ r ≡ asTwo (twoFields first second (now (packet .entry)) at) ⌝ }
 {
     next_two(reader_at(packet, at), first, second)

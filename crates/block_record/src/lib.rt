@@ -56,12 +56,12 @@ fn prediction_number(p: Prediction) -> u32
 fn prediction_at(n: u32) -> Prediction
     ensures { λ r. ⌜ r ≡ predictionAt n ⌝ }
 {
-    let kind = n % 4;
-    if kind == 0 {
+    let code = n % 4;
+    if code == 0 {
         return Prediction::None;
     }
     let v = vector_at(n / 4);
-    if kind == 1 {
+    if code == 1 {
         return Prediction::Previous(v);
     }
     Prediction::Golden(v)
@@ -116,9 +116,9 @@ pub fn now_coded() -> u32
 pub fn reference(n: u32) -> usize
     ensures { λ r. ⌜ (r ≡ referenceOf (unpacked n .prediction)) × (r ≤ 2) ⌝ }
 {
-    let kind = (n / 8 % 4) as usize;
-    if kind < 2 {
-        return kind;
+    let code = (n / 8 % 4) as usize;
+    if code < 2 {
+        return code;
     }
     2
 }

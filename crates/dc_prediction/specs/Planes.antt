@@ -14,11 +14,11 @@ use Rattle.dc_prediction.specs.declared.LastDc.{LastDc}
 use Rattle.dc_prediction.specs.Neighbours.{recordAt, neighbourBack, predicted}
 
 -- the DC of every block, by raster number, and the last DC of each reference
-pub record State : Type 0 where
+pub record DcState : Type 0 where
   pub dc : List ℤ
   pub last : LastDc
 
-abbrev pub stateOf : List ℤ → LastDc → State
+abbrev pub stateOf : List ℤ → LastDc → DcState
 stateOf dc last = record { dc = dc; last = last }
 
 -- "at first 0"
@@ -27,7 +27,7 @@ atFirst = record { values = pos 0 ∷ pos 0 ∷ pos 0 ∷ [] }
 
 module _ (records : List BlockRecord) where
   -- the prediction of block b, which is number x of its row, for the reference r; the row has `across` blocks, and `below` says whether a row lies below it
-  unfoldable pub prediction : ℕ → Bool → ℕ → ℕ → ℕ → State → ℤ
+  unfoldable pub prediction : ℕ → Bool → ℕ → ℕ → ℕ → DcState → ℤ
   prediction across below b x r s =
       predicted
       (neighbourBack records (s .dc) r (ltb 0 x) b 1)
@@ -37,18 +37,18 @@ module _ (records : List BlockRecord) where
       (getD (s .last .values) r (pos 0))
 
   -- a coded block: "The sum is cut to 16 bits", and is the last DC of its reference r
-  unfoldable pub codedStep : ℕ → Bool → ℕ → ℕ → ℕ → State → State
+  unfoldable pub codedStep : ℕ → Bool → ℕ → ℕ → ℕ → DcState → DcState
   codedStep across below b x r s =
       let v = cut (getD (s .dc) b (pos 0) +ℤ prediction across below b x r s) in
       stateOf (set (s .dc) b v) (record { values = set (s .last .values) r v })
 
   -- block x of the row that starts with block number `start`
-  unfoldable pub blockStep : ℕ → ℕ → Bool → ℕ → State → State
+  unfoldable pub blockStep : ℕ → ℕ → Bool → ℕ → DcState → DcState
   blockStep start across below x s =
       let k = recordAt records (start + x) in
       cond (k .coded) (codedStep across below (start + x) x (referenceOf (k .prediction)) s) s
 
-  unfoldable pub row : ℕ → ℕ → Bool → State → State
+  unfoldable pub row : ℕ → ℕ → Bool → DcState → DcState
   row start across below s = upTo across (blockStep start across below) s
 
   -- "raster order per plane": the plane whose first block has the number `first`

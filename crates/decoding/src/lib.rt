@@ -1,5 +1,5 @@
 // A frame packet, decoded by a session and a table memory: what is answered, the frame, and work memory, which is all zero before and after.
-use bitstream::End as Place;
+use bitstream::End;
 use frame_header::Header;
 use frame_header::Kind;
 use frame_packet::Read;
@@ -9,12 +9,13 @@ use quantization::LoadedParameters;
 use reading::FrameAnswer;
 use reading::Verdict;
 use setup::LoadedSetup;
+ghost use Rattle.bitstream.specs.Bits.{longest};
 ghost use mathlib.Core.Path.{_≡_};
 ghost use mathlib.Core.Bool.{true};
 ghost use Prim.Native.Nat.{_*_, _≤_, _^_};
 ghost use lib.IntN.{pos};
 ghost use lib.ListN.{length, replicate};
-ghost use Rattle.geometry.specs.Sizes.{blocksOf};
+ghost use Rattle.geometry.specs.Sizes.{blocksOf, largest};
 ghost use Rattle.quantization.specs.Sound.{Held as HeldParameters};
 ghost use Rattle.setup.specs.Header.{Setup};
 ghost use Rattle.setup.specs.Loaded.{Holds, Held};
@@ -36,7 +37,7 @@ fn load_matrices(
     count: usize,
     matrices: &mut [u16],
 )
-    requires { ⌜ (length (now table) ≤ 2 ^ 58) × HeldParameters (now table) parameters × AllQi qis count × (count ≤ 3) × (length (now matrices) ≡ 1152) ⌝ }
+    requires { ⌜ (length (now table) ≤ longest) × HeldParameters (now table) parameters × AllQi qis count × (count ≤ 3) × (length (now matrices) ≡ 1152) ⌝ }
     ensures { λ _. ⌜ MatricesAre (now (table .entry)) parameters qis count (now (matrices .exit)) ⌝ }
 {
     let mut j: usize = 0;
@@ -76,7 +77,7 @@ fn make(
     previous: &[u8],
     new: &mut [u8],
 )
-    requires { ⌜ (length (now table) ≤ 2 ^ 58) × Held (now table) loaded × AllQi (header .qis) 3 × (header .count ≤ 3) × (w ≤ 65535) × (h ≤ 65535) ⌝ }
+    requires { ⌜ (length (now table) ≤ longest) × Held (now table) loaded × AllQi (header .qis) 3 × (header .count ≤ 3) × (w ≤ largest) × (h ≤ largest) ⌝ }
     requires { ⌜ BlocksLent format w h (now records) (now coded) count (now coefs) (now lasts) (header .count) × (now dc ≡ replicate (blocksOf format w h) (pos 0))
         × (length (now new) ≡ 64 * blocksOf format w h) × (length (now golden) ≡ 64 * blocksOf format w h) × (length (now previous) ≡ 64 * blocksOf format w h) ⌝ }
     ensures { λ _. ⌜ FrameIs (now (table .entry)) loaded (header .qis) format w h (blocksIn (now (records .entry)) (now (coded .entry)) count (now (coefs .entry)) (now (lasts .entry))) (now (golden .entry)) (now (previous .entry)) (now (new .exit)) ⌝ }
@@ -127,7 +128,7 @@ fn decode_packet(
     previous: &[u8],
     new: &mut [u8],
 ) -> FrameAnswer
-    requires { ⌜ (sessionFits s ≡ true) × (length (now packet) ≤ 2 ^ 58) × (length (now table) ≤ 2 ^ 58) × Held (now table) loaded ⌝ }
+    requires { ⌜ (sessionFits s ≡ true) × (length (now packet) ≤ longest) × (length (now table) ≤ longest) × Held (now table) loaded ⌝ }
     requires { ⌜ (memory (now records) (now coded) (now coefs) (now dc) (now lasts) (now flags) (now bits) (now supers) (now modes) (now active) ≡ cleared (lengthsOf s))
         × (length (now new) ≡ 64 * blocks s) × (length (now golden) ≡ 64 * blocks s) × (length (now previous) ≡ 64 * blocks s) ⌝ }
     ensures { λ r. ⌜ ((setup : Setup) → Holds (now (table .entry)) loaded setup
@@ -210,7 +211,7 @@ pub fn decode(
     previous: &[u8],
     new: &mut [u8],
 ) -> FrameAnswer
-    requires { ⌜ (sessionFits s ≡ true) × (length (now packet) ≤ 2 ^ 58) × (length (now table) ≡ tableBytes)
+    requires { ⌜ (sessionFits s ≡ true) × (length (now packet) ≤ longest) × (length (now table) ≡ tableBytes)
         × (memory (now records) (now coded) (now coefs) (now dc) (now lasts) (now flags) (now bits) (now supers) (now modes) (now active) ≡ cleared (lengthsOf s))
         × (length (now new) ≡ 64 * blocks s) × (length (now golden) ≡ 64 * blocks s) × (length (now previous) ≡ 64 * blocks s) ⌝ }
     ensures { λ r. ⌜ done r (now (new .exit)) (memory (now (records .exit)) (now (coded .exit)) (now (coefs .exit)) (now (dc .exit)) (now (lasts .exit)) (now (flags .exit)) (now (bits .exit)) (now (supers .exit)) (now (modes .exit)) (now (active .exit)))
@@ -219,8 +220,8 @@ pub fn decode(
     let held = setup::load_table(table);
     let place = held.place;
     match place {
-        Place::Refused(_, _) => reading::refusal(8, 0, s),
-        Place::At(_) => decode_packet(
+        End::Refused(_, _) => reading::refusal(8, 0, s),
+        End::At(_) => decode_packet(
             s,
             packet,
             table,

@@ -18,8 +18,8 @@ abbrev pub asHeader : FrameHeader → Header
 asHeader h = record { kind = h .kind; qis = three (h .qis); count = length (h .qis) }
 
 -- the header of a repeat: "the qi list (empty for repeat)"
-abbrev pub repeated : Header
-repeated = asHeader (record { kind = Repeat; qis = [] })
+abbrev pub repeatHeader : Header
+repeatHeader = asHeader (record { kind = Repeat; qis = [] })
 
 -- the qi that were read, or the refusal
 abbrev pub asQis : Outcome (List ℕ) → QisRead
@@ -29,4 +29,4 @@ asQis (refused k e) = record { done = Refused k e; qis = three []; count = 0 }
 -- a header that was read, or the refusal
 abbrev pub asRead : Outcome FrameHeader → HeaderRead
 asRead (got h e) = record { done = At e; header = asHeader h }
-asRead (refused k e) = record { done = Refused k e; header = repeated }
+asRead (refused k e) = record { done = Refused k e; header = repeatHeader }

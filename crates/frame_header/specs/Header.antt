@@ -4,6 +4,7 @@ use mathlib.Core.List.{List, [], _∷_, _++_}
 use mathlib.Core.Bool.{Bool, true}
 use lib.Dec.{eqb}
 use Rattle.bitstream.specs.Reading.{Parse, pure, bind, pick, choose, field, judged, _>>=_, _>>_}
+use Rattle.bitstream.specs.Numbers.{noReferences, noFrame, reservedBits}
 use Rattle.frame_header.specs.declared.Kind.{Kind}
 use Rattle.frame_header.specs.declared.Kind.the-variants.{Intra, Inter}
 
@@ -18,8 +19,8 @@ allowed references t = choose (eqb t 0) true references
 -- "Else bit 0; type": 10, "first bit of a frame packet is 1"
 unfoldable pub frameType : Bool → Parse ℕ
 frameType references = do
-  judged 1 isZero 10
-  judged 1 (allowed references) 9
+  judged 1 isZero noFrame
+  judged 1 (allowed references) noReferences
 
 -- the qi so far, and "up to two more each announced by a 1 bit, the third qi needing no closing bit"
 unfoldable pub moreQis : ℕ → List ℕ → Parse (List ℕ)
@@ -36,7 +37,7 @@ qiList = do
 
 -- "intra: 3 zero bits": 11, "intra frame's 3 reserved bits are not 0"
 unfoldable pub reserved : ℕ → Parse ℕ
-reserved t = pick (eqb t 0) (judged 3 isZero 11) (pure 0)
+reserved t = pick (eqb t 0) (judged 3 isZero reservedBits) (pure 0)
 
 -- "type (0 intra)": 1 is inter
 unfoldable pub kindOf : ℕ → Kind

@@ -47,7 +47,7 @@ fn read_type(packet: &[u8], at: usize, references: bool) -> Field
         Field::Refused(k, e) => Field::Refused(k, e),
         Field::Got(b, next) => {
             if b != 0 {
-                return Field::Refused(10, at);
+                return Field::Refused(bitstream::NO_FRAME, at);
             }
             let bit = bitstream::read(packet, next, 1);
             match bit {
@@ -59,7 +59,7 @@ fn read_type(packet: &[u8], at: usize, references: bool) -> Field
                     if references {
                         return Field::Got(t, end);
                     }
-                    Field::Refused(9, next)
+                    Field::Refused(bitstream::NO_REFERENCES, next)
                 }
             }
         }
@@ -146,7 +146,7 @@ fn read_reserved(packet: &[u8], at: usize, kind: u32) -> Field
             if v == 0 {
                 return Field::Got(v, end);
             }
-            Field::Refused(11, at)
+            Field::Refused(bitstream::RESERVED_BITS, at)
         }
     }
 }

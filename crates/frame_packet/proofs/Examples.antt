@@ -10,7 +10,7 @@ use Rattle.bitstream.specs.Reading.{got, refused, field, judged, until, whole, 
 use Rattle.runs.specs.Runs.{most, start as leastRun, extra as runExtra, runLength, run, nextBit, oneRun, sent, bitString}
 use Rattle.geometry.specs.declared.PixelFormat.the-variants.{Chroma420}
 use Rattle.geometry.specs.Sizes.{total, blocksOf, superBlocksOf, blocksBefore}
-use Rattle.geometry.specs.Order.{inTurn, present, moved, tile, row as rowOfTiles, ordered}
+use Rattle.geometry.specs.Order.{inTurn, present, shifted, square, row as rowOfSquares, ordered}
 use Rattle.geometry.specs.Frame.{inPlane, planeOrder, frameOrder, superBlocksBefore, superBlockIn, superBlockOf}
 use Rattle.geometry.specs.Macro.{fourOf, chromaOf, blocksOfMacro}
 use Rattle.geometry.specs.Raster.{rasterNumber}
@@ -28,7 +28,7 @@ use Rattle.block_record.specs.declared.Prediction.the-variants.{Previous}
 use Rattle.vectors.specs.Component.{added, shortest, width, least, variable, byCode, component, vector}
 use Rattle.vectors.specs.Motion.{still, ifCoded, row, lastRead, movingFour, motion, lumaVector, fourVector, predictionOf}
 use Rattle.vectors.specs.Vectors.{numberIn, codedIn, predictedAt, predictedFrom, macroBlock, macroBlocks, vectors}
-use Rattle.block_qi.specs.BlockQi.{steps, blockQi}
+use Rattle.block_qi.specs.BlockQi.{qiSteps, blockQi}
 use Rattle.numeric.specs.Sign.{withSign}
 use Rattle.token.specs.Token.{rowOf, meaning, extra}
 use Rattle.tokens.specs.Tokens.{token, unfinished, runOf, act, readFor, visit, pass, group, table, choices, atPosition, positionsFrom, ranks, start, readTokens}
@@ -61,17 +61,17 @@ reserved-set = refl
 nothing : framePacket Chroma420 1 1 [] true (0x41 ∷ 0x2A ∷ 0xF0 ∷ 0x00 ∷ 0x00 ∷ []) ≡ got (given Inter (1 ∷ []) [] (replicate 6 uncoded) [] [] 0) 37
 unfolding framePacket frame frameHeader frameType moreQis qiList reserved kindOf judged body flagsOf predictions
     interFlags superFlags sizesFrom partlyBlocks spread ones superBlockOf superBlockIn superBlocksBefore superBlocksOf bitString sent until oneRun nextBit run runLength unary most runExtra leastRun
-    order flagged codedBlocks codedLuma setAt codedRecords rasterNumber frameOrder planeOrder inPlane inTurn ordered rowOfTiles tile present moved blocksOf blocksBefore total
+    order flagged codedBlocks codedLuma setAt codedRecords rasterNumber frameOrder planeOrder inPlane inTurn ordered rowOfSquares square present shifted blocksOf blocksBefore total
     macroModes sentAlphabet modesFrom modeOf lumaCoded
     vectors macroBlocks macroBlock motion still predictedFrom predictedAt codedIn numberIn predictionOf blocksOfMacro fourOf chromaOf
-    blockQi steps readTokens positionsFrom atPosition choices table group ranks start pass whole field number bitAt
+    blockQi qiSteps readTokens positionsFrom atPosition choices table group ranks start pass whole field number bitAt
 nothing = refl
 
 -- four bytes of an intra frame with the qi 16, and lone leaves of the token 9: 64 times the value 1 in each block, for no bit but the four choices
 pub ones-all : framePacket Chroma420 1 1 (replicate 80 (leaf 9)) false (0x10 ∷ 0x00 ∷ 0x00 ∷ 0x00 ∷ []) ≡ got (given Intra (16 ∷ []) (0 ∷ 1 ∷ 3 ∷ 2 ∷ 4 ∷ 5 ∷ []) (replicate 6 nowCoded) (replicate 384 (pos 1)) (replicate 6 63) 384) 28
 unfolding framePacket frame frameHeader frameType moreQis qiList reserved kindOf judged body flagsOf predictions
-    intraFlags ones order flagged codedBlocks codedLuma setAt codedRecords rasterNumber frameOrder planeOrder inPlane inTurn ordered rowOfTiles tile present moved blocksOf blocksBefore total
-    blockQi steps readTokens positionsFrom atPosition choices table group ranks start pass visit readFor act runOf unfinished token tokenCode code extra meaning withSign rowOf whole field number bitAt
+    intraFlags ones order flagged codedBlocks codedLuma setAt codedRecords rasterNumber frameOrder planeOrder inPlane inTurn ordered rowOfSquares square present shifted blocksOf blocksBefore total
+    blockQi qiSteps readTokens positionsFrom atPosition choices table group ranks start pass visit readFor act runOf unfinished token tokenCode code extra meaning withSign rowOf whole field number bitAt
 ones-all = refl
 
 -- places of refusals inside a packet. 12: a run of 4 where 3 bits are wanted, at its prefix, behind the explicit bit
@@ -83,8 +83,8 @@ run-past = refl
 -- 13: lone leaves of the token 8 (a run of zeros, 6 extra bits), each block with one zero at position 0; then 64 zeros from position 1 on, at that token's code, which is empty
 token-past : framePacket Chroma420 1 1 (replicate 80 (leaf 8)) false (0x10 ∷ 0x00 ∷ 0x00 ∷ 0x00 ∷ 0x00 ∷ 0x00 ∷ 0x00 ∷ 0x00 ∷ 0xFC ∷ []) ≡ refused 13 64
 unfolding framePacket frame frameHeader frameType moreQis qiList reserved kindOf judged body flagsOf predictions
-    intraFlags ones order flagged codedBlocks codedLuma setAt codedRecords rasterNumber frameOrder planeOrder inPlane inTurn ordered rowOfTiles tile present moved blocksOf blocksBefore total
-    blockQi steps readTokens positionsFrom atPosition choices table group ranks start pass visit readFor act runOf unfinished token tokenCode code extra meaning withSign rowOf whole field number bitAt
+    intraFlags ones order flagged codedBlocks codedLuma setAt codedRecords rasterNumber frameOrder planeOrder inPlane inTurn ordered rowOfSquares square present shifted blocksOf blocksBefore total
+    blockQi qiSteps readTokens positionsFrom atPosition choices table group ranks start pass visit readFor act runOf unfinished token tokenCode code extra meaning withSign rowOf whole field number bitAt
 token-past = refl
 
 -- a block that is coded and predicted from previous by the vector (x, y)
@@ -99,18 +99,18 @@ four-then-last : framePacket Chroma420 2 1 (replicate 80 (leaf 0)) true (0x41 �
     (replicate 256 (pos 0)) (replicate 4 0) 4) 76
 unfolding framePacket frame frameHeader frameType moreQis qiList reserved kindOf judged body flagsOf predictions
     interFlags superFlags sizesFrom partlyBlocks spread ones superBlockOf superBlockIn superBlocksBefore superBlocksOf bitString sent until oneRun nextBit run runLength unary most runExtra leastRun
-    order flagged codedBlocks codedLuma setAt codedRecords rasterNumber frameOrder planeOrder inPlane inTurn ordered rowOfTiles tile present moved blocksOf blocksBefore total
+    order flagged codedBlocks codedLuma setAt codedRecords rasterNumber frameOrder planeOrder inPlane inTurn ordered rowOfSquares square present shifted blocksOf blocksBefore total
     macroModes sentAlphabet modesFrom modeOf mode lumaCoded
     vectors macroBlocks macroBlock motion still movingFour lastRead row ifCoded vector component byCode variable added shortest width least predictedFrom predictedAt codedIn numberIn predictionOf fourVector lumaVector blocksOfMacro fourOf chromaOf
-    blockQi steps readTokens positionsFrom atPosition choices table group ranks start pass visit readFor act runOf unfinished token tokenCode code extra meaning withSign rowOf whole field number bitAt
+    blockQi qiSteps readTokens positionsFrom atPosition choices table group ranks start pass visit readFor act runOf unfinished token tokenCode code extra meaning withSign rowOf whole field number bitAt
 four-then-last = refl
 
 -- 4 within a vector: the same packet cut behind its sixth byte, in the first component of B, which is refused at its first bit
 component-cut : framePacket Chroma420 2 1 (replicate 80 (leaf 0)) true (0x41 ∷ 0x51 ∷ 0x28 ∷ 0x21 ∷ 0xFB ∷ 0x10 ∷ []) ≡ refused 4 47
 unfolding framePacket frame frameHeader frameType moreQis qiList reserved kindOf judged body flagsOf predictions
     interFlags superFlags sizesFrom partlyBlocks spread ones superBlockOf superBlockIn superBlocksBefore superBlocksOf bitString sent until oneRun nextBit run runLength unary most runExtra leastRun
-    order flagged codedBlocks codedLuma setAt codedRecords rasterNumber frameOrder planeOrder inPlane inTurn ordered rowOfTiles tile present moved blocksOf blocksBefore total
+    order flagged codedBlocks codedLuma setAt codedRecords rasterNumber frameOrder planeOrder inPlane inTurn ordered rowOfSquares square present shifted blocksOf blocksBefore total
     macroModes sentAlphabet modesFrom modeOf mode lumaCoded
     vectors macroBlocks macroBlock motion still movingFour lastRead row ifCoded vector component byCode variable added shortest width least predictedFrom predictedAt codedIn numberIn predictionOf fourVector lumaVector blocksOfMacro fourOf chromaOf
-    blockQi steps readTokens positionsFrom atPosition choices table group ranks start pass visit readFor act runOf unfinished token tokenCode code extra meaning withSign rowOf whole field number bitAt
+    blockQi qiSteps readTokens positionsFrom atPosition choices table group ranks start pass visit readFor act runOf unfinished token tokenCode code extra meaning withSign rowOf whole field number bitAt
 component-cut = refl

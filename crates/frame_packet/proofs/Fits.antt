@@ -32,7 +32,7 @@ use Rattle.block_qi.proofs.Laws.{qi-length, qi-in-range, qi-but, qi-most}
 use Rattle.tokens.specs.Tokens.{Tokens, readTokens}
 use Rattle.tokens.proofs.Laws.{Given, tokens-given}
 use Rattle.tokens.proofs.Fronts.{same-at}
-use Rattle.frame_packet.specs.Frame.{Body, Frame, isIntra, flagsOf, predictions, body, frame, repeated, framePacket}
+use Rattle.frame_packet.specs.Frame.{Body, Frame, isIntra, flagsOf, predictions, body, frame, repeatFrame, framePacket}
 use Rattle.frame_packet.proofs.Laws.{made, tokensThen, indexThen, flags-of-length, packet-some}
 
 -- the blocks of a frame of w by h macro blocks, of a kind and with so many qi
@@ -124,8 +124,8 @@ module _ (f : PixelFormat) (w h : ℕ) where
         (predictions-intra kind flags (codedRecords f w h flags) p (u .1) (v .2)) (v .1) (q .1) (q .2) (t .0) (tokens-given trees (codedLuma f w h flags) (length (codedBlocks f w h flags)) p (q .1) (luma-most f w h flags full) (t .2)))
 
   -- the frame of an empty packet
-  pub repeated-fits : Fits f w h (repeated f w h)
-  repeated-fits = record {
+  pub repeatFrame-fits : Fits f w h (repeatFrame f w h)
+  repeatFrame-fits = record {
     most = omega arith;
     small = none;
     body = record {
@@ -170,11 +170,11 @@ module _ (f : PixelFormat) (w h : ℕ) where
         record { most = q .most; small = q .small; body = body-fits trees (fr .header .kind) (length (fr .header .qis)) (q .some) (q .most) p (t .0) (t .2) }
 
     -- "Empty: repeat previous"
-    pub packet-repeat : {fr : Frame} {e : ℕ} → framePacket f w h trees references [] ≡ got fr e → (fr ≡ repeated f w h) × (e ≡ 0) × (references ≡ true)
+    pub packet-repeat : {fr : Frame} {e : ℕ} → framePacket f w h trees references [] ≡ got fr e → (fr ≡ repeatFrame f w h) × (e ≡ 0) × (references ≡ true)
     unfolding framePacket
     packet-repeat {fr} {e} g = go references g
       where
-        go : (t : Bool) → choose t (got (repeated f w h) 0) (refused 9 0) ≡ got fr e → (fr ≡ repeated f w h) × (e ≡ 0) × (t ≡ true)
+        go : (t : Bool) → choose t (got (repeatFrame f w h) 0) (refused 9 0) ≡ got fr e → (fr ≡ repeatFrame f w h) × (e ≡ 0) × (t ≡ true)
         go true g = (cc, cc, refl)
         go false g = no-mix (sym g)
 
@@ -192,5 +192,5 @@ module _ (f : PixelFormat) (w h : ℕ) where
         no-repeat false z = let z : _≡_ {A = ℕ} 0 1 = cc in absurd (omega arith)
 
     pub packet-fits : (p : List ℕ) {fr : Frame} {e : ℕ} → framePacket f w h trees references p ≡ got fr e → Fits f w h fr
-    packet-fits [] g = subst (Fits f w h) (sym (packet-repeat g .0)) repeated-fits
+    packet-fits [] g = subst (Fits f w h) (sym (packet-repeat g .0)) repeatFrame-fits
     packet-fits (b ∷ p) g = frame-fits (b ∷ p) 0 (sym (packet-some f w h trees references (b ∷ p) (omega arith)) ∙ g)

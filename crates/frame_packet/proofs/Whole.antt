@@ -23,7 +23,7 @@ use Rattle.coded_flags.proofs.Listing.{map-replicate}
 use Rattle.frame_packet.specs.declared.Read.{Read}
 use Rattle.frame_packet.specs.declared.Read.the-variants as read
 use Rattle.frame_packet.specs.declared.FrameRead.{FrameRead}
-use Rattle.frame_packet.specs.Frame.{Body, Frame, body, frame, repeated, framePacket}
+use Rattle.frame_packet.specs.Frame.{Body, Frame, body, frame, repeatFrame, framePacket}
 use Rattle.work_memory.specs.Memory.{Work}
 use Rattle.work_memory.specs.Lengths.{published, cleared}
 use Rattle.frame_packet.specs.Work.{padded, holding, LeftBy, Left, workAfter, asRead, asFrame}
@@ -69,15 +69,15 @@ module _ (f : PixelFormat) (w h : ℕ) (trees : List Tree) (references : Bool) (
 
 -- ---- an empty packet leaves work memory as it was
 module _ (f : PixelFormat) (w h : ℕ) (trees : List Tree) (references : Bool) (p : List ℕ) (none : length p ≡ 0) where
-  packet-empty : framePacket f w h trees references p ≡ choose references (got (repeated f w h) 0) (refused 9 0)
+  packet-empty : framePacket f w h trees references p ≡ choose references (got (repeatFrame f w h) 0) (refused 9 0)
   unfolding framePacket
   packet-empty = go p none
     where
-      go : (p : List ℕ) → length p ≡ 0 → framePacket f w h trees references p ≡ choose references (got (repeated f w h) 0) (refused 9 0)
+      go : (p : List ℕ) → length p ≡ 0 → framePacket f w h trees references p ≡ choose references (got (repeatFrame f w h) 0) (refused 9 0)
       go [] e = refl
       go (b ∷ p) e = absurd (omega arith)
 
-  nothing-held : holding f w h (repeated f w h .body) ≡ cleared (published f w h) .work
+  nothing-held : holding f w h (repeatFrame f w h .body) ≡ cleared (published f w h) .work
   nothing-held =
       let r : map packed (replicate (blocksOf f w h) uncoded) ≡ replicate (blocksOf f w h) 0 = map-replicate packed (blocksOf f w h) uncoded ∙ ap (replicate (blocksOf f w h)) packed-uncoded in
       let n : blocksOf f w h - 0 ≡ blocksOf f w h = sub-zero (blocksOf f w h) in
@@ -94,11 +94,11 @@ module _ (f : PixelFormat) (w h : ℕ) (trees : List Tree) (references : Bool) (
         active = cleared (published f w h) .work .active;
       }
 
-  pub on-empty : (r : FrameRead) (m : Work) → r ≡ asFrame (choose references (got (repeated f w h) 0) (refused 9 0)) → m ≡ cleared (published f w h) .work
+  pub on-empty : (r : FrameRead) (m : Work) → r ≡ asFrame (choose references (got (repeatFrame f w h) 0) (refused 9 0)) → m ≡ cleared (published f w h) .work
       → (r ≡ asFrame (framePacket f w h trees references p)) × (m ≡ workAfter f w h (framePacket f w h trees references p))
   on-empty r m a b = rw packet-empty (a, b ∙ go references)
     where
-      go : (t : Bool) → cleared (published f w h) .work ≡ workAfter f w h (choose t (got (repeated f w h) 0) (refused 9 0))
+      go : (t : Bool) → cleared (published f w h) .work ≡ workAfter f w h (choose t (got (repeatFrame f w h) 0) (refused 9 0))
       go true = sym nothing-held
       go false = refl
 

@@ -4,6 +4,7 @@ use mathlib.Core.List.{List, [], _∷_}
 use mathlib.Core.Bool.{Bool, true, false}
 use lib.ListN.{length, replicate}
 use Rattle.bitstream.specs.Reading.{Outcome, got, refused, Parse, pure, bind, pick, choose, _>>=_}
+use Rattle.bitstream.specs.Numbers.{noReferences}
 use Rattle.geometry.specs.declared.PixelFormat.{PixelFormat}
 use Rattle.geometry.specs.Sizes.{blocksOf, macroBlocksOf}
 use Rattle.huffman.specs.Tree.{Tree}
@@ -65,13 +66,13 @@ module _ (f : PixelFormat) (w h : ℕ) where
     pure (record { header = head; body = b })
 
   -- "Empty: repeat previous"; "the qi list (empty for repeat)"; "An empty packet codes no block"
-  abbrev pub repeated : Frame
-  repeated = record {
+  abbrev pub repeatFrame : Frame
+  repeatFrame = record {
     header = record { kind = Repeat; qis = [] };
     body = record { coded = []; records = replicate (blocksOf f w h) uncoded; tokens = record { coefs = []; lasts = []; tokens = 0 } };
   }
 
   -- a whole packet. "9 comes at the frame type bit (at once if empty)"
   unfoldable pub framePacket : List Tree → Bool → List ℕ → Outcome Frame
-  framePacket trees references [] = choose references (got repeated 0) (refused 9 0)
+  framePacket trees references [] = choose references (got repeatFrame 0) (refused noReferences 0)
   framePacket trees references (b ∷ p) = frame trees references (b ∷ p) 0

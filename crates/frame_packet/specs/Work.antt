@@ -53,7 +53,7 @@ asRead (refused k e) = Refused k e
 -- the same with the header beside it; after a refusal that of a repeat
 abbrev pub asFrame : Outcome Frame → FrameRead
 asFrame (got fr e) = record { read = asRead (got (fr .body) e); header = header.asHeader (fr .header) }
-asFrame (refused k e) = record { read = Refused k e; header = header.repeated }
+asFrame (refused k e) = record { read = Refused k e; header = header.repeatHeader }
 
 -- ---- what the inner functions answer and leave; after a refusal the slices are open
 -- behind the tokens, where there are n blocks, of which `count` are coded: what was read stands in front, and zeros behind it and behind the first `count` of bits and active

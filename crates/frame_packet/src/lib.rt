@@ -21,7 +21,7 @@ ghost use Rattle.tokens.specs.Tokens.{readTokens};
 ghost use Rattle.tokens.specs.Answer.{Tables, treesOf, asCounted};
 ghost use Rattle.work_memory.specs.Memory.{work};
 ghost use Rattle.work_memory.specs.Lengths.{published, cleared};
-ghost use Rattle.frame_packet.specs.Frame.{flagsOf, predictions, body, repeated, framePacket};
+ghost use Rattle.frame_packet.specs.Frame.{flagsOf, predictions, body, repeatFrame, framePacket};
 ghost use Rattle.frame_packet.specs.Work.{asCoded, StoredCoded, StoredTokens, Left, asRead, asFrame, workAfter};
 
 // The numbers of coded blocks and of tokens, and the place behind the packet; or the refusal.
@@ -267,7 +267,7 @@ fn refusal(k: u32, e: usize) -> FrameRead
 
 // An empty packet.
 fn read_empty(references: bool, format: PixelFormat, w: u64, h: u64) -> FrameRead
-    ensures { λ r. ⌜ r ≡ asFrame (choose references (got (repeated format w h) 0) (refused 9 0)) ⌝ }
+    ensures { λ r. ⌜ r ≡ asFrame (choose references (got (repeatFrame format w h) 0) (refused 9 0)) ⌝ }
 {
     if references {
         return FrameRead {

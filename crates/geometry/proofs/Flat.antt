@@ -1,4 +1,4 @@
--- Super blocks by number: the order is tile 0, tile 1, and so on, in raster order; and the numbers of a tile's places follow on.
+-- Super blocks by number: the order is square 0, square 1, and so on, in raster order; and the numbers of a square's places follow on.
 use mathlib.Core.Path.{_≡_, sym, ap, _∙_}
 use mathlib.Core.List.{List, _++_}
 use Prim.Native.Nat.{ℕ, zero, suc, _+_, _*_, _/_, _%_, _≤_, _<_, min}
@@ -6,12 +6,12 @@ use native.Mathlib.Nat.{suc-mul, zero-mul, mul-add-div-right, mul-add-mod-self-r
 use native.Mathlib.Omega.{arith}
 use lib.ListN.{length, length-append}
 use Rattle.geometry.specs.declared.Place.{Place}
-use Rattle.geometry.specs.Sizes.{tiles}
-use Rattle.geometry.specs.Order.{inTurn, tile, row, ordered, tileNo}
-use Rattle.geometry.specs.Tile.{reach}
-use Rattle.geometry.proofs.Products.{tiles-begin, some-factor}
+use Rattle.geometry.specs.Sizes.{squares}
+use Rattle.geometry.specs.Order.{inTurn, square, row, ordered, squareNo}
+use Rattle.geometry.specs.Square.{reach}
+use Rattle.geometry.proofs.Products.{squares-begin, some-factor}
 use Rattle.geometry.proofs.Lists.{turn-same, turn-add}
-use Rattle.geometry.proofs.Orders.{Walk, tiles-before, rows-before, tile-length}
+use Rattle.geometry.proofs.Orders.{Walk, squares-before, rows-before, square-length}
 
 module _ (f : ℕ → ℕ → List Place) (n : ℕ) where
   abbrev by-number : ℕ → List Place
@@ -40,36 +40,36 @@ module _ (f : ℕ → ℕ → List Place) (n : ℕ) where
   turn-part m a h = part m a h (turn-rows m)
 
 module _ (s : ℕ) (walk : List Place) (rank : ℕ → ℕ → ℕ → ℕ → ℕ) (ok : Walk s walk rank) (w h : ℕ) where
-  -- the order is one tile after the other
-  pub ordered-flat : ordered s walk w h ≡ inTurn (tileNo s walk w h) (tiles s h * tiles s w)
+  -- the order is one square after the other
+  pub ordered-flat : ordered s walk w h ≡ inTurn (squareNo s walk w h) (squares s h * squares s w)
   unfolding ordered row
-  ordered-flat = sym (turn-rows (tile s walk w h) (tiles s w) (tiles s h))
+  ordered-flat = sym (turn-rows (square s walk w h) (squares s w) (squares s h))
 
-  -- the number of the first place of tile k, and how many it has
-  pub first-is : (k : ℕ) → k < tiles s h * tiles s w
-      → (s * (k % tiles s w) < w) × (s * (k / tiles s w) < h)
-      × (length (inTurn (tileNo s walk w h) k) ≡ s * (k / tiles s w) * w + s * (k % tiles s w) * reach s h (k / tiles s w))
-      × (length (tileNo s walk w h k) ≡ reach s w (k % tiles s w) * reach s h (k / tiles s w))
+  -- the number of the first place of square k, and how many it has
+  pub first-is : (k : ℕ) → k < squares s h * squares s w
+      → (s * (k % squares s w) < w) × (s * (k / squares s w) < h)
+      × (length (inTurn (squareNo s walk w h) k) ≡ s * (k / squares s w) * w + s * (k % squares s w) * reach s h (k / squares s w))
+      × (length (squareNo s walk w h k) ≡ reach s w (k % squares s w) * reach s h (k / squares s w))
   unfolding row
   first-is k hk =
-      let n = tiles s w in
-      let p : 0 < tiles s w = some-factor k (tiles s h) (tiles s w) hk in
-      let la = tiles-begin s w (k % tiles s w) (ok .side) (mod-lt k p) in
-      let lb = tiles-begin s h (k / tiles s w) (ok .side) (div-lt-iff-lt-mul p .1 hk) in
-      let m : min (s * (k % tiles s w)) w ≡ s * (k % tiles s w) = omega arith in
-      let o : min (s * (k / tiles s w)) h ≡ s * (k / tiles s w) = omega arith in (
+      let n = squares s w in
+      let p : 0 < squares s w = some-factor k (squares s h) (squares s w) hk in
+      let la = squares-begin s w (k % squares s w) (ok .side) (mod-lt k p) in
+      let lb = squares-begin s h (k / squares s w) (ok .side) (div-lt-iff-lt-mul p .1 hk) in
+      let m : min (s * (k % squares s w)) w ≡ s * (k % squares s w) = omega arith in
+      let o : min (s * (k / squares s w)) h ≡ s * (k / squares s w) = omega arith in (
         la,
         lb,
-        ap (λ (j : ℕ). length (inTurn (tileNo s walk w h) j)) (sym (div-add-mod' k (tiles s w)))
-            ∙ ap length (turn-part (tile s walk w h) (tiles s w) (k / tiles s w) (k % tiles s w) (omega (arith, mod-lt k p)))
-            ∙ length-append (inTurn (row s walk w h) (k / tiles s w)) (inTurn (tile s walk w h (k / tiles s w)) (k % tiles s w))
-            ∙ ap (λ (j : ℕ). j + length (inTurn (tile s walk w h (k / tiles s w)) (k % tiles s w))) (rows-before s walk rank ok w h (k / tiles s w) ∙ ap (λ (j : ℕ). j * w) o)
-            ∙ ap (λ (j : ℕ). s * (k / tiles s w) * w + j) (tiles-before s walk rank ok w h (k / tiles s w) (k % tiles s w) ∙ ap (λ (j : ℕ). j * reach s h (k / tiles s w)) m),
-        tile-length s walk rank ok w h (k / tiles s w) (k % tiles s w),
+        ap (λ (j : ℕ). length (inTurn (squareNo s walk w h) j)) (sym (div-add-mod' k (squares s w)))
+            ∙ ap length (turn-part (square s walk w h) (squares s w) (k / squares s w) (k % squares s w) (omega (arith, mod-lt k p)))
+            ∙ length-append (inTurn (row s walk w h) (k / squares s w)) (inTurn (square s walk w h (k / squares s w)) (k % squares s w))
+            ∙ ap (λ (j : ℕ). j + length (inTurn (square s walk w h (k / squares s w)) (k % squares s w))) (rows-before s walk rank ok w h (k / squares s w) ∙ ap (λ (j : ℕ). j * w) o)
+            ∙ ap (λ (j : ℕ). s * (k / squares s w) * w + j) (squares-before s walk rank ok w h (k / squares s w) (k % squares s w) ∙ ap (λ (j : ℕ). j * reach s h (k / squares s w)) m),
+        square-length s walk rank ok w h (k / squares s w) (k % squares s w),
       )
 
   -- as a program comes to it
-  pub super-by : (k u v f a b : ℕ) → k < tiles s h * tiles s w → a ≡ k % tiles s w → b ≡ k / tiles s w
+  pub super-by : (k u v f a b : ℕ) → k < squares s h * squares s w → a ≡ k % squares s w → b ≡ k / squares s w
       → u ≡ reach s w a → v ≡ reach s h b → f ≡ s * b * w + s * a * v
-      → (f ≡ length (inTurn (tileNo s walk w h) k)) × (u * v ≡ length (tileNo s walk w h k))
+      → (f ≡ length (inTurn (squareNo s walk w h) k)) × (u * v ≡ length (squareNo s walk w h k))
   super-by k u v f a b hk ea eb eu ev ef = let r = first-is k hk in rw (ef, eu, ev, ea, eb) (sym (r .2), sym (r .3))

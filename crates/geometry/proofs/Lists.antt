@@ -1,4 +1,4 @@
--- Lists in turn, and what is present of a tile that is moved.
+-- Lists in turn, and what is present of a square that is shifted.
 use mathlib.Core.Path.{_≡_, refl, sym, ap, _∙_}
 use mathlib.Core.Logic.{⊎-elim}
 use mathlib.Core.Bool.{Bool, true, false}
@@ -11,7 +11,7 @@ use lib.Dec.{ltb, eqb}
 use lib.ListN.{length, getD, length-append, List·getD-append}
 use lib.Seq.{getD-append-add}
 use Rattle.geometry.specs.declared.Place.{Place}
-use Rattle.geometry.specs.Order.{at, inTurn, keep, present, moved, here, find}
+use Rattle.geometry.specs.Order.{at, inTurn, keep, present, shifted, here, find}
 use Rattle.geometry.proofs.Tests.{both, both-left, both-right}
 use Rattle.geometry.proofs.Products.{sum-step}
 
@@ -39,7 +39,7 @@ module _ {A : Type 0} (f : ℕ → List A) where
       (λ (b : k < n). List·getD-append (inTurn f n) (f n) d (length (inTurn f k) + i) (turn-below n k i b l) ∙ turn-at n k i d b l)
       (eq-or-lt-of-le (le-of-suc-le-suc h))
 
-  -- tiles of side s along N, each c for every step of its side that lies in N
+  -- squares of side s along N, each c for every step of its side that lies in N
   pub turn-length : (s N c : ℕ) → ((k : ℕ) → length (f k) ≡ min s (N - s * k) * c) → (n : ℕ) → length (inTurn f n) ≡ min (s * n) N * c
   unfolding inTurn
   turn-length s N c h zero = let m : min (s * 0) N ≡ 0 = omega arith in rw m (sym (zero-mul c))
@@ -63,45 +63,45 @@ turn-add {A} f m (suc n) =
     ∙ ap (λ (l : List A). l ++ f (m + n)) (turn-add f m n)
     ∙ append-assoc (inTurn f m) (inTurn (λ j. f (m + j)) n) (f (m + n))
 
-pub moved-length : (dx dy : ℕ) (l : List Place) → length (moved dx dy l) ≡ length l
-unfolding moved
-moved-length dx dy [] = refl
-moved-length dx dy (p ∷ ps) = ap suc (moved-length dx dy ps)
+pub shifted-length : (dx dy : ℕ) (l : List Place) → length (shifted dx dy l) ≡ length l
+unfolding shifted
+shifted-length dx dy [] = refl
+shifted-length dx dy (p ∷ ps) = ap suc (shifted-length dx dy ps)
 
-pub moved-at : (dx dy i : ℕ) (l : List Place) (d : Place) → i < length l → getD (moved dx dy l) i d ≡ at (dx + getD l i d .x) (dy + getD l i d .y)
-unfolding moved
-moved-at dx dy i [] d h = absurd (not-suc-le-zero h)
-moved-at dx dy zero (p ∷ ps) d h = refl
-moved-at dx dy (suc i) (p ∷ ps) d h = moved-at dx dy i ps d (le-of-suc-le-suc h)
+pub shifted-at : (dx dy i : ℕ) (l : List Place) (d : Place) → i < length l → getD (shifted dx dy l) i d ≡ at (dx + getD l i d .x) (dy + getD l i d .y)
+unfolding shifted
+shifted-at dx dy i [] d h = absurd (not-suc-le-zero h)
+shifted-at dx dy zero (p ∷ ps) d h = refl
+shifted-at dx dy (suc i) (p ∷ ps) d h = shifted-at dx dy i ps d (le-of-suc-le-suc h)
 
--- all of the places lie in the tile of side s at the origin
+-- all of the places lie in the square of side s at the origin
 abbrev pub small : ℕ → List Place → Bool
 small s [] = true
 small s (p ∷ ps) = both (both (ltb (p .x) s) (ltb (p .y) s)) (small s ps)
 
--- a test in the plane is a test in the tile
-moved-test : (s N d x : ℕ) → x < s → ltb (d + x) N ≡ ltb x (min s (N - d))
-moved-test s N d x h = go (ltb (d + x) N) refl
+-- a test in the plane is a test in the square
+shifted-test : (s N d x : ℕ) → x < s → ltb (d + x) N ≡ ltb x (min s (N - d))
+shifted-test s N d x h = go (ltb (d + x) N) refl
   where
     go : (t : Bool) → ltb (d + x) N ≡ t → t ≡ ltb x (min s (N - d))
     go true e = let l = ltb-true (d + x) N e in sym (lt-ltb x (min s (N - d)) (omega arith))
     go false e = let l = ltb-false (d + x) N e in sym (le-ltb x (min s (N - d)) (omega arith))
 
-moved-keep : (a b : Bool) (dx dy : ℕ) (p : Place) (ps : List Place) → keep a b (at (dx + p .x) (dy + p .y)) (moved dx dy ps) ≡ moved dx dy (keep a b p ps)
-unfolding moved
-moved-keep true true dx dy p ps = refl
-moved-keep true false dx dy p ps = refl
-moved-keep false b dx dy p ps = refl
+shifted-keep : (a b : Bool) (dx dy : ℕ) (p : Place) (ps : List Place) → keep a b (at (dx + p .x) (dy + p .y)) (shifted dx dy ps) ≡ shifted dx dy (keep a b p ps)
+unfolding shifted
+shifted-keep true true dx dy p ps = refl
+shifted-keep true false dx dy p ps = refl
+shifted-keep false b dx dy p ps = refl
 
-pub moved-present : (s w h dx dy : ℕ) (l : List Place) → small s l ≡ true → present w h (moved dx dy l) ≡ moved dx dy (present (min s (w - dx)) (min s (h - dy)) l)
-unfolding moved present
-moved-present s w h dx dy [] t = refl
-moved-present s w h dx dy (p ∷ ps) t =
+pub shifted-present : (s w h dx dy : ℕ) (l : List Place) → small s l ≡ true → present w h (shifted dx dy l) ≡ shifted dx dy (present (min s (w - dx)) (min s (h - dy)) l)
+unfolding shifted present
+shifted-present s w h dx dy [] t = refl
+shifted-present s w h dx dy (p ∷ ps) t =
     let hx = ltb-true (p .x) s (both-left _ _ (both-left _ _ t)) in
     let hy = ltb-true (p .y) s (both-right _ _ (both-left _ _ t)) in
     let r = both-right _ _ t in
-    rw (moved-test s w dx (p .x) hx, moved-test s h dy (p .y) hy, moved-present s w h dx dy ps r)
-    (moved-keep (ltb (p .x) (min s (w - dx))) (ltb (p .y) (min s (h - dy))) dx dy p (present (min s (w - dx)) (min s (h - dy)) ps))
+    rw (shifted-test s w dx (p .x) hx, shifted-test s h dy (p .y) hy, shifted-present s w h dx dy ps r)
+    (shifted-keep (ltb (p .x) (min s (w - dx))) (ltb (p .y) (min s (h - dy))) dx dy p (present (min s (w - dx)) (min s (h - dy)) ps))
 
 -- what stands in a list is found there
 module _ (x y : ℕ) where

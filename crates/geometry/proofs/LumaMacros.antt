@@ -10,7 +10,7 @@ use lib.ListN.{getD}
 use Rattle.geometry.specs.declared.Place.{Place}
 use Rattle.geometry.specs.Order.{at, present, find, blockWalk, macroWalk, blockOrder, codedMacros}
 use Rattle.geometry.specs.Rank.{rankIn}
-use Rattle.geometry.specs.Tile.{reach}
+use Rattle.geometry.specs.Square.{reach}
 use Rattle.geometry.proofs.Tests.{both, upto, upto-at}
 use Rattle.geometry.proofs.Orders.{indexOf}
 use Rattle.geometry.proofs.PlaneOrders.{block-order, macro-order}

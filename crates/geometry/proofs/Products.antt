@@ -7,21 +7,21 @@ use lib.Dec.{leb}
 use mathlib.Core.Bool.{Bool, true, false}
 use native.Mathlib.Omega.{arith}
 
--- n tiles of side s cover min (s n) N of N; each holds c to the column
+-- n squares of side s cover min (s n) N of N; each holds c to the column
 pub sum-step : (s N c n : ℕ) → min (s * n) N * c + min s (N - s * n) * c ≡ min (s * suc n) N * c
 sum-step s N c n =
     let e : min (s * n) N + min s (N - s * n) ≡ min (s * suc n) N = omega (arith, mul-suc s n) in
     sym (add-mul (min (s * n) N) (min s (N - s * n)) c) ∙ ap (λ (k : ℕ). k * c) e
 
--- the number of tiles: they cover n, and the last begins below n
-pub tiles-cover : (s n : ℕ) → 0 < s → n ≤ s * ((n + (s - 1)) / s)
-tiles-cover s n h = omega (arith, lt-div-mul-add {a = n + (s - 1)} h, mul-comm s ((n + (s - 1)) / s))
+-- the number of squares: they cover n, and the last begins below n
+pub squares-cover : (s n : ℕ) → 0 < s → n ≤ s * ((n + (s - 1)) / s)
+squares-cover s n h = omega (arith, lt-div-mul-add {a = n + (s - 1)} h, mul-comm s ((n + (s - 1)) / s))
 
-pub tiles-reach : (s n k : ℕ) → 0 < s → s * k < n → k < (n + (s - 1)) / s
-tiles-reach s n k h l = le-div-iff-mul-le h .1 (omega (arith, mul-comm (suc k) s, mul-suc s k))
+pub squares-reach : (s n k : ℕ) → 0 < s → s * k < n → k < (n + (s - 1)) / s
+squares-reach s n k h l = le-div-iff-mul-le h .1 (omega (arith, mul-comm (suc k) s, mul-suc s k))
 
-pub tiles-begin : (s n k : ℕ) → 0 < s → k < (n + (s - 1)) / s → s * k < n
-tiles-begin s n k h l = omega (arith, le-div-iff-mul-le {x = suc k} h .0 l, mul-comm (suc k) s, mul-suc s k)
+pub squares-begin : (s n k : ℕ) → 0 < s → k < (n + (s - 1)) / s → s * k < n
+squares-begin s n k h l = omega (arith, le-div-iff-mul-le {x = suc k} h .0 l, mul-comm (suc k) s, mul-suc s k)
 
 -- a product with a number below it has no factor 0
 pub some-factor : (i m n : ℕ) → i < m * n → 0 < n
@@ -36,7 +36,7 @@ min-rest a b c q h k = go (leb a b) refl
     go true e = let l = leb-true a b e in let m : min a b ≡ a = omega arith in rw m h
     go false e = let l = leb-false a b e in let m : min a b ≡ b = omega arith in rw m k
 
--- cut off whole tiles of side s from i, each of s c places, out of N c places: the tile begins in N, and the rest is in it
+-- cut off whole squares of side s from i, each of s c places, out of N c places: the square begins in N, and the rest is in it
 module _ (s N c i : ℕ) (hs : 0 < s) (hc : 0 < c) (hi : i < N * c) where
   pub split-sum : s * (i / (s * c)) * c + i % (s * c) ≡ i
   split-sum = omega (arith, div-add-mod' i (s * c), mul-assoc s (i / (s * c)) c, mul-left-comm s (i / (s * c)) c)

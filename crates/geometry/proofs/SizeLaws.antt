@@ -7,7 +7,7 @@ use Rattle.geometry.specs.declared.PixelFormat.{PixelFormat}
 use Rattle.geometry.specs.declared.PixelFormat.the-variants.{Chroma420, Chroma422, Chroma444}
 use Rattle.geometry.specs.declared.Plane.{Plane}
 use Rattle.geometry.specs.declared.FrameSizes.{FrameSizes}
-use Rattle.geometry.specs.Sizes.{chromaAcross, chromaUp, across, up, tiles, total, planeBlocks, planeSuperBlocks, macroBlocksOf, blocksOf, superBlocksOf, blocksBefore, planeOf, sizesOf, blocksEach}
+use Rattle.geometry.specs.Sizes.{chromaAcross, chromaUp, across, up, squares, total, planeBlocks, planeSuperBlocks, macroBlocksOf, blocksOf, superBlocksOf, blocksBefore, planeOf, sizesOf, blocksEach}
 
 -- the blocks before each plane
 module _ (f : PixelFormat) (w h : ℕ) where
@@ -57,7 +57,7 @@ up-small Chroma420 h (suc p) hh = omega arith
 up-small Chroma422 h (suc p) hh = omega arith
 up-small Chroma444 h (suc p) hh = omega arith
 
-pub super-blocks-small : (a b : ℕ) → a ≤ 131070 → b ≤ 131070 → tiles 4 b * tiles 4 a ≤ 1073741824
+pub super-blocks-small : (a b : ℕ) → a ≤ 131070 → b ≤ 131070 → squares 4 b * squares 4 a ≤ 1073741824
 super-blocks-small a b ha hb = mul-le-mul {n₂ = 32768} {m₂ = 32768} (omega arith) (omega arith)
 
 each-small : (f : PixelFormat) → blocksEach f ≤ 12
@@ -146,14 +146,14 @@ module _ (f : PixelFormat) (w h : ℕ) (l b r : Plane) (n m : ℕ) (el : l ≡ p
   buffer-by : r .offset + r .length ≡ 64 * blocksOf f w h
   buffer-by = ap (λ (p : Plane). p .offset + p .length) er ∙ omega (arith, before-next f w h 2, before-all f w h)
 
-  super-blocks-by : n ≡ tiles 4 (l .up) * tiles 4 (l .across) → m ≡ tiles 4 (b .up) * tiles 4 (b .across) → n + m + m ≡ superBlocksOf f w h
+  super-blocks-by : n ≡ squares 4 (l .up) * squares 4 (l .across) → m ≡ squares 4 (b .up) * squares 4 (b .across) → n + m + m ≡ superBlocksOf f w h
   unfolding superBlocksOf total
   super-blocks-by en em =
-      let x = en ∙ ap (λ (p : Plane). tiles 4 (p .up) * tiles 4 (p .across)) el in
-      let y = em ∙ ap (λ (p : Plane). tiles 4 (p .up) * tiles 4 (p .across)) eb in
+      let x = en ∙ ap (λ (p : Plane). squares 4 (p .up) * squares 4 (p .across)) el in
+      let y = em ∙ ap (λ (p : Plane). squares 4 (p .up) * squares 4 (p .across)) eb in
       omega arith
 
-  pub sizes-by : n ≡ tiles 4 (l .up) * tiles 4 (l .across) → m ≡ tiles 4 (b .up) * tiles 4 (b .across)
+  pub sizes-by : n ≡ squares 4 (l .up) * squares 4 (l .across) → m ≡ squares 4 (b .up) * squares 4 (b .across)
       → _≡_ {A = FrameSizes} (record {
         «macro_blocks» = h * w;
         blocks = (r .offset + r .length) / 64;

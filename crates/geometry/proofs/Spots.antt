@@ -1,9 +1,9 @@
--- Number i of h w numbers: its row and column of tiles, and what is left in the tile. No walk is needed for these.
+-- Number i of h w numbers: its row and column of squares, and what is left in the square. No walk is needed for these.
 use mathlib.Core.Path.{_≡_}
 use Prim.Native.Nat.{ℕ, _+_, _*_, _/_, _%_, _<_}
 use native.Mathlib.Nat.{mul-comm}
 use native.Mathlib.Omega.{arith}
-use Rattle.geometry.specs.Tile.{reach}
+use Rattle.geometry.specs.Square.{reach}
 use Rattle.geometry.proofs.Products.{some-factor, split-sum, split-begins, split-rest}
 
 abbrev pub rowOf : ℕ → ℕ → ℕ → ℕ

@@ -9,8 +9,8 @@ use Rattle.geometry.specs.declared.PixelFormat.{PixelFormat}
 use Rattle.geometry.specs.declared.Place.{Place}
 use Rattle.geometry.specs.declared.Block.{Block}
 use Rattle.geometry.specs.declared.Plane.{Plane}
-use Rattle.geometry.specs.Sizes.{across, up, tiles, total, planeSuperBlocks, blocksBefore, blocksOf, superBlocksOf, planeOf}
-use Rattle.geometry.specs.Order.{inTurn, blockWalk, tileNo}
+use Rattle.geometry.specs.Sizes.{across, up, squares, total, planeSuperBlocks, blocksBefore, blocksOf, superBlocksOf, planeOf}
+use Rattle.geometry.specs.Order.{inTurn, blockWalk, squareNo}
 use Rattle.geometry.specs.Rank.{rankIn}
 use Rattle.geometry.specs.Frame.{block, inPlane, planeOrder, frameOrder, superBlocksBefore, superBlockIn, superBlockOf}
 use Rattle.geometry.proofs.Lists.{turn-end, turn-same, turn-add}
@@ -60,7 +60,7 @@ module _ (f : PixelFormat) (w h : ℕ) where
   unfolding planeOrder superBlockIn
   plane-flat p hp =
       turn-same (λ j. superBlockOf f w h (superBlocksBefore f w h p + j)) (superBlockIn f w h p) (planeSuperBlocks f w h p) (λ j. super-in p j hp)
-      ∙ sym (in-plane-turn p (tileNo 4 blockWalk (across f w p) (up f h p)) (planeSuperBlocks f w h p))
+      ∙ sym (in-plane-turn p (squareNo 4 blockWalk (across f w p) (up f h p)) (planeSuperBlocks f w h p))
       ∙ ap (inPlane p) (sym (ordered-flat 4 blockWalk (rankIn blockWalk) block-walk (across f w p) (up f h p)))
 
   -- the super blocks before a plane are the planes before it
@@ -81,14 +81,14 @@ module _ (f : PixelFormat) (w h : ℕ) where
 
   -- the number of the first block of super block j of plane p, and how many blocks it has
   module _ (p j : ℕ) (hp : p < 3) (hj : j < planeSuperBlocks f w h p) where
-    pub super-count : length (superBlockOf f w h (superBlocksBefore f w h p + j)) ≡ length (tileNo 4 blockWalk (across f w p) (up f h p) j)
+    pub super-count : length (superBlockOf f w h (superBlocksBefore f w h p + j)) ≡ length (squareNo 4 blockWalk (across f w p) (up f h p) j)
     unfolding superBlockIn
-    super-count = ap length (super-in p j hp hj) ∙ in-plane-length p (tileNo 4 blockWalk (across f w p) (up f h p) j)
+    super-count = ap length (super-in p j hp hj) ∙ in-plane-length p (squareNo 4 blockWalk (across f w p) (up f h p) j)
 
-    pub super-first : length (inTurn (superBlockOf f w h) (superBlocksBefore f w h p + j)) ≡ blocksBefore f w h p + length (inTurn (tileNo 4 blockWalk (across f w p) (up f h p)) j)
+    pub super-first : length (inTurn (superBlockOf f w h) (superBlocksBefore f w h p + j)) ≡ blocksBefore f w h p + length (inTurn (squareNo 4 blockWalk (across f w p) (up f h p)) j)
     unfolding superBlockIn
     super-first =
-        let t = tileNo 4 blockWalk (across f w p) (up f h p) in
+        let t = squareNo 4 blockWalk (across f w p) (up f h p) in
         let a : length (inTurn (superBlockOf f w h) (superBlocksBefore f w h p)) ≡ blocksBefore f w h p = ap length (planes-flat p (omega arith)) ∙ before-length f w h p in
         let b : length (inTurn (λ i. superBlockOf f w h (superBlocksBefore f w h p + i)) j) ≡ length (inTurn t j) =
         ap length (turn-same (λ i. superBlockOf f w h (superBlocksBefore f w h p + i)) (superBlockIn f w h p) j (λ i l. super-in p i hp (omega arith)))
@@ -100,15 +100,15 @@ module _ (f : PixelFormat) (w h : ℕ) where
 
   -- over the numbers that a program has in its variables: it is super block j of plane p, which is q
   module _ (k p j : ℕ) (q : Plane) (hk : k < superBlocksOf f w h) (hp : p < 3) (hj : j < planeSuperBlocks f w h p) (ek : superBlocksBefore f w h p + j ≡ k) (e : q ≡ planeOf f w h p) where
-    pub super-fits : j < tiles 4 (q .up) * tiles 4 (q .across)
+    pub super-fits : j < squares 4 (q .up) * squares 4 (q .across)
     super-fits = rw e hj
 
-    pub super-by-plane : (m n : ℕ) → m ≡ length (inTurn (tileNo 4 blockWalk (q .across) (q .up)) j) → n ≡ length (tileNo 4 blockWalk (q .across) (q .up) j)
+    pub super-by-plane : (m n : ℕ) → m ≡ length (inTurn (squareNo 4 blockWalk (q .across) (q .up)) j) → n ≡ length (squareNo 4 blockWalk (q .across) (q .up) j)
         → (q .offset / 64 + m ≡ length (inTurn (superBlockOf f w h) k)) × (n ≡ length (superBlockOf f w h k)) × (q .offset / 64 + m + n ≤ blocksOf f w h)
     super-by-plane m n em en =
         let o : q .offset ≡ 64 * blocksBefore f w h p = ap (λ (r : Plane). r .offset) e in
-        let a = em ∙ ap (λ (r : Plane). length (inTurn (tileNo 4 blockWalk (r .across) (r .up)) j)) e in
-        let b = en ∙ ap (λ (r : Plane). length (tileNo 4 blockWalk (r .across) (r .up) j)) e in
+        let a = em ∙ ap (λ (r : Plane). length (inTurn (squareNo 4 blockWalk (r .across) (r .up)) j)) e in
+        let b = en ∙ ap (λ (r : Plane). length (squareNo 4 blockWalk (r .across) (r .up) j)) e in
         let first : q .offset / 64 + m ≡ length (inTurn (superBlockOf f w h) k) = omega (arith, super-first p j hp hj) ∙ ap (λ (i : ℕ). length (inTurn (superBlockOf f w h) i)) ek in
         let count : n ≡ length (superBlockOf f w h k) = b ∙ sym (super-count p j hp hj) ∙ ap (λ (i : ℕ). length (superBlockOf f w h i)) ek in
         (first, count, omega (arith, super-end k hk))

@@ -15,7 +15,7 @@ use Rattle.geometry.proofs.Tests.{both, upto, upto-at}
 use Rattle.geometry.proofs.Walks.{same, same-is}
 use Rattle.geometry.proofs.Tables.{blockRank, blockCorner}
 
--- what a table for tiles of side s has at place k of the corner of u by v
+-- what a table for squares of side s has at place k of the corner of u by v
 abbrev pub slot : ℕ → List ℕ → ℕ → ℕ → ℕ → ℕ
 slot s t u v k = getD t (u * s + v - suc s) 0 / 2 ^ (4 * k) % 16
 

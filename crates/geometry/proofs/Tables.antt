@@ -1,4 +1,4 @@
--- The tables of src/tiles.rt.
+-- The tables of src/squares.rt.
 use mathlib.Core.List.{List, [], _∷_}
 use Prim.Native.Nat.{ℕ}
 

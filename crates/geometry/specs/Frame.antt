@@ -7,7 +7,7 @@ use Rattle.geometry.specs.declared.PixelFormat.{PixelFormat}
 use Rattle.geometry.specs.declared.Place.{Place}
 use Rattle.geometry.specs.declared.Block.{Block}
 use Rattle.geometry.specs.Sizes.{across, up, total, planeSuperBlocks}
-use Rattle.geometry.specs.Order.{inTurn, blockWalk, blockOrder, tileNo}
+use Rattle.geometry.specs.Order.{inTurn, blockWalk, blockOrder, squareNo}
 
 -- block (x, y) of plane p
 abbrev pub block : ℕ → ℕ → ℕ → Block
@@ -38,7 +38,7 @@ superBlocksBefore f w h p = total (planeSuperBlocks f w h) p
 
 -- the blocks of super block k of plane p
 unfoldable pub superBlockIn : PixelFormat → ℕ → ℕ → ℕ → ℕ → List Block
-superBlockIn f w h p k = inPlane p (tileNo 4 blockWalk (across f w p) (up f h p) k)
+superBlockIn f w h p k = inPlane p (squareNo 4 blockWalk (across f w p) (up f h p) k)
 
 -- the blocks of super block k of the frame: the planes' super blocks follow on
 unfoldable pub superBlockOf : PixelFormat → ℕ → ℕ → ℕ → List Block

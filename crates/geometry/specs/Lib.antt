@@ -1,7 +1,7 @@
 pub mod Sizes
 pub mod Order
 pub mod Rank
-pub mod Tile
+pub mod Square
 pub mod Frame
 pub mod Raster
 pub mod Macro

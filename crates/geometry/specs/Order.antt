@@ -4,7 +4,7 @@ use mathlib.Core.List.{List, [], _∷_, _++_}
 use Prim.Native.Nat.{ℕ, zero, suc, _+_, _*_, _/_, _%_}
 use lib.Dec.{ltb, eqb}
 use Rattle.geometry.specs.declared.Place.{Place}
-use Rattle.geometry.specs.Sizes.{tiles}
+use Rattle.geometry.specs.Sizes.{squares}
 
 -- the place in column x and row y
 abbrev pub at : ℕ → ℕ → Place
@@ -36,20 +36,20 @@ present w h [] = []
 present w h (p ∷ ps) = keep (ltb (p .x) w) (ltb (p .y) h) p (present w h ps)
 
 -- the places, dx further right and dy further up
-unfoldable pub moved : ℕ → ℕ → List Place → List Place
-moved dx dy [] = []
-moved dx dy (p ∷ ps) = at (dx + p .x) (dy + p .y) ∷ moved dx dy ps
+unfoldable pub shifted : ℕ → ℕ → List Place → List Place
+shifted dx dy [] = []
+shifted dx dy (p ∷ ps) = at (dx + p .x) (dy + p .y) ∷ shifted dx dy ps
 
--- tiles (super blocks) of side s: the one in column a and row b
-unfoldable pub tile : ℕ → List Place → ℕ → ℕ → ℕ → ℕ → List Place
-tile s walk w h b a = present w h (moved (s * a) (s * b) walk)
+-- squares (super blocks) of side s: the one in column a and row b
+unfoldable pub square : ℕ → List Place → ℕ → ℕ → ℕ → ℕ → List Place
+square s walk w h b a = present w h (shifted (s * a) (s * b) walk)
 
 -- "Super blocks in raster order": a row of them; all rows, from the lowest
 unfoldable pub row : ℕ → List Place → ℕ → ℕ → ℕ → List Place
-row s walk w h b = inTurn (tile s walk w h b) (tiles s w)
+row s walk w h b = inTurn (square s walk w h b) (squares s w)
 
 unfoldable pub ordered : ℕ → List Place → ℕ → ℕ → List Place
-ordered s walk w h = inTurn (row s walk w h) (tiles s h)
+ordered s walk w h = inTurn (row s walk w h) (squares s h)
 
 -- a plane of w by h blocks; a frame of w by h macro blocks
 abbrev pub blockOrder : ℕ → ℕ → List Place
@@ -58,9 +58,9 @@ blockOrder w h = ordered 4 blockWalk w h
 abbrev pub codedMacros : ℕ → ℕ → List Place
 codedMacros w h = ordered 2 macroWalk w h
 
--- tile number k, in raster order
-abbrev pub tileNo : ℕ → List Place → ℕ → ℕ → ℕ → List Place
-tileNo s walk w h k = tile s walk w h (k / tiles s w) (k % tiles s w)
+-- square number k, in raster order
+abbrev pub squareNo : ℕ → List Place → ℕ → ℕ → ℕ → List Place
+squareNo s walk w h k = square s walk w h (k / squares s w) (k % squares s w)
 
 abbrev pub here : Bool → Bool → ℕ → ℕ
 here true true n = 0

@@ -1,4 +1,4 @@
--- A walk in the corner of u by v of its tile: when it comes to (x, y), and what it comes to as number i.
+-- A walk in the corner of u by v of its square: when it comes to (x, y), and what it comes to as number i.
 use mathlib.Core.List.{List}
 use Prim.Native.Nat.{ℕ}
 use lib.ListN.{getD}

@@ -29,16 +29,16 @@ abbrev pub up : PixelFormat → ℕ → ℕ → ℕ
 up f h zero = 2 * h
 up f h (suc p) = chromaUp f h
 
--- how many tiles of side s it takes to cover n: ceil (n / s)
-abbrev pub tiles : ℕ → ℕ → ℕ
-tiles s n = (n + (s - 1)) / s
+-- how many squares of side s it takes to cover n: ceil (n / s)
+abbrev pub squares : ℕ → ℕ → ℕ
+squares s n = (n + (s - 1)) / s
 
 -- the blocks and the super blocks of plane p: "ceil(blocks across/4)·ceil(blocks up/4)"
 abbrev pub planeBlocks : PixelFormat → ℕ → ℕ → ℕ → ℕ
 planeBlocks f w h p = up f h p * across f w p
 
 abbrev pub planeSuperBlocks : PixelFormat → ℕ → ℕ → ℕ → ℕ
-planeSuperBlocks f w h p = tiles 4 (up f h p) * tiles 4 (across f w p)
+planeSuperBlocks f w h p = squares 4 (up f h p) * squares 4 (across f w p)
 
 -- g 0 + g 1 + .. + g (n - 1)
 unfoldable pub total : (ℕ → ℕ) → ℕ → ℕ

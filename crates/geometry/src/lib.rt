@@ -1,11 +1,11 @@
 // Sizes of a frame, the coded order of its blocks and macro blocks, and where samples lie.
-mod tiles;
+mod squares;
 
 ghost use mathlib.Core.Path.{_≡_};
 ghost use Prim.Native.Nat.{ℕ, suc, _+_, _-_, _*_, _/_, _%_, _≤_, _<_};
 ghost use lib.ListN.{length, getD};
-ghost use Rattle.geometry.specs.Sizes.{chromaAcross, chromaUp, tiles, planeSuperBlocks, macroBlocksOf, blocksOf, superBlocksOf, blocksBefore, blocksEach, planeOf, sizesOf, largest};
-ghost use Rattle.geometry.specs.Order.{at, inTurn, tileNo, blockWalk, blockOrder, codedMacros};
+ghost use Rattle.geometry.specs.Sizes.{chromaAcross, chromaUp, squares, planeSuperBlocks, macroBlocksOf, blocksOf, superBlocksOf, blocksBefore, blocksEach, planeOf, sizesOf, largest};
+ghost use Rattle.geometry.specs.Order.{at, inTurn, squareNo, blockWalk, blockOrder, codedMacros};
 ghost use Rattle.geometry.specs.Frame.{block, frameOrder, InFrame, superBlocksBefore, superBlockOf};
 ghost use Rattle.geometry.specs.Raster.{rasterNumber, blockNo};
 ghost use Rattle.geometry.specs.Macro.{fourOf, blocksOfMacro, macroOf};
@@ -108,7 +108,7 @@ pub fn plane_of(format: PixelFormat, w: u64, h: u64, p: u64) -> Plane
 // The super blocks of a plane of a by b blocks.
 fn super_blocks_in(a: u64, b: u64) -> u64
     requires { ⌜ (a ≤ 131070) × (b ≤ 131070) ⌝ }
-    ensures { λ r. ⌜ (r ≡ tiles 4 b * tiles 4 a) × (r ≤ 1073741824) ⌝ }
+    ensures { λ r. ⌜ (r ≡ squares 4 b * squares 4 a) × (r ≤ 1073741824) ⌝ }
 {
     (b + 3) / 4 * ((a + 3) / 4)
 }
@@ -140,8 +140,8 @@ fn place_number(w: u64, h: u64, x: u64, y: u64) -> u64
     requires { ⌜ (x < w) × (y < h) × (w ≤ 131070) × (h ≤ 131070) ⌝ }
     ensures { λ r. ⌜ (r < h * w) × (getD (blockOrder w h) r (at 0 0) ≡ at x y) ⌝ }
 {
-    let t = tiles::tile_of(w, h, x, y);
-    t.first + tiles::block_rank(t.u, t.v, x % 4, y % 4)
+    let t = squares::square_of(w, h, x, y);
+    t.first + squares::block_rank(t.u, t.v, x % 4, y % 4)
 }
 
 // The block that is number i there.
@@ -149,8 +149,8 @@ fn place_at(w: u64, h: u64, i: u64) -> Place
     requires { ⌜ (i < h * w) × (w ≤ 131070) × (h ≤ 131070) ⌝ }
     ensures { λ r. ⌜ r ≡ getD (blockOrder w h) i (at 0 0) ⌝ }
 {
-    let t = tiles::tile_at(w, h, i);
-    let p = tiles::block_in_corner(t.u, t.v, t.rest);
+    let t = squares::square_at(w, h, i);
+    let p = squares::block_in_corner(t.u, t.v, t.rest);
     Place {
         x: t.a + p.x,
         y: t.b + p.y,
@@ -186,11 +186,11 @@ pub struct SuperBlock {
 
 // Super block k of a plane of w by h blocks, in the plane's coded order.
 fn plane_super_block(w: u64, h: u64, k: u64) -> SuperBlock
-    requires { ⌜ (k < tiles 4 h * tiles 4 w) × (w ≤ 131070) × (h ≤ 131070) ⌝ }
-    ensures { λ r. ⌜ (r .first ≡ length (inTurn (tileNo 4 blockWalk w h) k)) × (r .count ≡ length (tileNo 4 blockWalk w h k)) × (r .count ≤ 16) ⌝ }
+    requires { ⌜ (k < squares 4 h * squares 4 w) × (w ≤ 131070) × (h ≤ 131070) ⌝ }
+    ensures { λ r. ⌜ (r .first ≡ length (inTurn (squareNo 4 blockWalk w h) k)) × (r .count ≡ length (squareNo 4 blockWalk w h k)) × (r .count ≤ 16) ⌝ }
 {
     let n = (w + 3) / 4;
-    let t = tiles::tile_of(w, h, 4 * (k % n), 4 * (k / n));
+    let t = squares::square_of(w, h, 4 * (k % n), 4 * (k / n));
     SuperBlock {
         first: t.first,
         count: t.u * t.v,

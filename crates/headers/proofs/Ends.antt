@@ -51,9 +51,9 @@ spelled-takes [] = pure-takes tt
 spelled-takes (b ∷ bs) = takes-as (omega arith) (bind-takes (judged-takes 8 (isExactly b) 2) (λ _. spelled-takes bs))
 
 -- ---- the groups
-header-takes : (kind : ℕ) → Takes 56 (commonHeader kind)
+header-takes : (mark : ℕ) → Takes 56 (commonHeader mark)
 unfolding commonHeader
-header-takes kind = spelled-takes (kind ∷ theora)
+header-takes mark = spelled-takes (mark ∷ theora)
 
 version-takes : Takes 24 version
 unfolding version

@@ -56,18 +56,18 @@ unfolding spelled
 spelled-lawful [] = pure-lawful tt
 spelled-lawful (b ∷ bs) = bind-lawful (judged-lawful 8 (isExactly b) 2) (λ _. spelled-lawful bs)
 
-pub commonHeader-lawful : (kind : ℕ) → Lawful (commonHeader kind)
+pub commonHeader-lawful : (mark : ℕ) → Lawful (commonHeader mark)
 unfolding commonHeader
-commonHeader-lawful kind = spelled-lawful (kind ∷ theora)
+commonHeader-lawful mark = spelled-lawful (mark ∷ theora)
 
 pub spelled-inside : {d : ℕ} (bs : List ℕ) → Inside d (spelled bs)
 unfolding spelled
 spelled-inside [] = pure-inside tt
 spelled-inside (b ∷ bs) = bind-inside (judged-inside 8 (isExactly b) 2) (λ _. spelled-inside bs)
 
-pub commonHeader-inside : {d : ℕ} (kind : ℕ) → Inside d (commonHeader kind)
+pub commonHeader-inside : {d : ℕ} (mark : ℕ) → Inside d (commonHeader mark)
 unfolding commonHeader
-commonHeader-inside kind = spelled-inside (kind ∷ theora)
+commonHeader-inside mark = spelled-inside (mark ∷ theora)
 
 module _ {ks : List ℕ} (two : among ks 2 ≡ true) (four : among ks 4 ≡ true) where
   pub spelled-refuses : (bs : List ℕ) → Refuses ks (spelled bs)
@@ -75,15 +75,15 @@ module _ {ks : List ℕ} (two : among ks 2 ≡ true) (four : among ks 4 ≡ true
   spelled-refuses [] = pure-refuses tt
   spelled-refuses (b ∷ bs) = bind-refuses (judged-refuses 8 (isExactly b) 2 four two) (λ _. spelled-refuses bs)
 
-  pub commonHeader-refuses : (kind : ℕ) → Refuses ks (commonHeader kind)
+  pub commonHeader-refuses : (mark : ℕ) → Refuses ks (commonHeader mark)
   unfolding commonHeader
-  commonHeader-refuses kind = spelled-refuses (kind ∷ theora)
+  commonHeader-refuses mark = spelled-refuses (mark ∷ theora)
 
 pub spelled-spends : (bs : List ℕ) → Spends (length bs * 8) (spelled bs)
 unfolding spelled
 spelled-spends [] = pure-spends tt
 spelled-spends (b ∷ bs) = spends-more (rw suc-mul (omega arith)) (bind-spends (judged-spends 8 (isExactly b) 2 (λ e. omega arith)) (λ _. spelled-spends bs))
 
-pub commonHeader-spends : (kind : ℕ) → Spends 56 (commonHeader kind)
+pub commonHeader-spends : (mark : ℕ) → Spends 56 (commonHeader mark)
 unfolding commonHeader
-commonHeader-spends kind = spelled-spends (kind ∷ theora)
+commonHeader-spends mark = spelled-spends (mark ∷ theora)

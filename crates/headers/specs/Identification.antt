@@ -2,6 +2,7 @@
 use Prim.Native.Nat.{ℕ, _-_, _*_}
 use mathlib.Core.Bool.{false}
 use Rattle.bitstream.specs.Reading.{Outcome, got, refused, Parse, pure, bind, field, _>>=_, _>>_}
+use Rattle.bitstream.specs.Numbers.{otherVersion, badFormat}
 use Rattle.headers.specs.declared.Session.{Session}
 use Rattle.headers.specs.declared.FrameSize.{FrameSize}
 use Rattle.headers.specs.declared.FrameSizeAnswer.{FrameSizeAnswer}
@@ -15,8 +16,8 @@ use Rattle.headers.specs.Judgement.{exactly, positive, atMost, formatCod
 -- "VMAJ 8, VMIN 8, VREV 8 (any)"; "VMAJ is not 3, or VMIN is not 2" is number 3
 unfoldable pub version : Parse ℕ
 version = do
-  vmaj ← exactly 8 3 3
-  vmin ← exactly 8 2 3
+  vmaj ← exactly 8 3 otherVersion
+  vmin ← exactly 8 2 otherVersion
   field 8
 
 -- "FMBW 16, FMBH 16 (both > 0), PICW 24 ≤ 16·FMBW, PICH 24 ≤ 16·FMBH, PICX 8 ≤ 16·FMBW−PICW, PICY 8 ≤ 16·FMBH−PICH"
@@ -47,7 +48,7 @@ coding = do
   qual ← field 6
   kfgshift ← field 5
   pf ← formatCode 2
-  zero-bits ← exactly 3 0 6
+  zero-bits ← exactly 3 0 badFormat
   pure (record { nombr = nombr; qual = qual; kfgshift = kfgshift; pf = pf })
 
 -- "The session record holds the identification fields and whether references exist (at first not)"

@@ -4,6 +4,7 @@ use mathlib.Core.Bool.{Bool, not}
 use mathlib.Core.List.{List, [], _∷_}
 use lib.Dec.{leb, ltb, eqb}
 use Rattle.bitstream.specs.Reading.{Parse, pure, judged, _>>_}
+use Rattle.bitstream.specs.Numbers.{otherHeader, outOfRange, badFormat}
 
 -- the tests
 abbrev pub isExactly : ℕ → ℕ → Bool
@@ -25,19 +26,19 @@ exactly n want k = judged n (isExactly want) k
 
 -- n bits that must be above 0, or at most `most`: "an identification field breaks its range" is number 5
 abbrev pub positive : ℕ → Parse ℕ
-positive n = judged n isPositive 5
+positive n = judged n isPositive outOfRange
 
 abbrev pub atMost : ℕ → ℕ → Parse ℕ
-atMost n most = judged n (isAtMost most) 5
+atMost n most = judged n (isAtMost most) outOfRange
 
 -- "PF is 1" is number 6
 abbrev pub formatCode : ℕ → Parse ℕ
-formatCode n = judged n isFormat 6
+formatCode n = judged n isFormat badFormat
 
 -- "a header's type byte or "theora" is not the wanted one" is number 2: bytes that must stand there, each a field of its own
 unfoldable pub spelled : List ℕ → Parse (Unit {0})
 spelled [] = pure tt
-spelled (b ∷ bs) = exactly 8 b 2 >> spelled bs
+spelled (b ∷ bs) = exactly 8 b otherHeader >> spelled bs
 
 -- "theora" in ASCII
 abbrev pub theora : List ℕ
@@ -45,4 +46,4 @@ theora = 0x74 ∷ 0x68 ∷ 0x65 ∷ 0x6F ∷ 0x72 ∷ 0x61 ∷ []
 
 -- what every header begins with: its type byte, and "theora"
 unfoldable pub commonHeader : ℕ → Parse (Unit {0})
-commonHeader kind = spelled (kind ∷ theora)
+commonHeader mark = spelled (mark ∷ theora)

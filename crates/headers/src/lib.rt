@@ -3,6 +3,7 @@ use bitstream::End;
 use bitstream::Field;
 use geometry::FrameSizes;
 use geometry::PixelFormat;
+ghost use Rattle.bitstream.specs.Bits.{longest};
 ghost use mathlib.Core.Path.{_≡_};
 ghost use Prim.Native.Nat.{ℕ, _≤_, _<_, _^_};
 ghost use lib.ListN.{length};
@@ -54,7 +55,7 @@ struct Value {
 
 // `width` bits that must be `want`, else number k.
 fn read_exactly(packet: &[u8], at: usize, width: usize, want: u32, k: u32) -> Field
-    requires { ⌜ (length (now packet) ≤ 2 ^ 58) × (width ≤ 32) ⌝ }
+    requires { ⌜ (length (now packet) ≤ longest) × (width ≤ 32) ⌝ }
     ensures { λ r. ⌜ r ≡ asField (exactly width want k (now (packet .entry)) at) ⌝ }
 {
     let field = bitstream::read(packet, at, width);
@@ -69,7 +70,7 @@ fn read_exactly(packet: &[u8], at: usize, width: usize, want: u32, k: u32) -> Fi
 
 // `width` bits that must be above 0, else number 5.
 fn read_positive(packet: &[u8], at: usize, width: usize) -> Field
-    requires { ⌜ (length (now packet) ≤ 2 ^ 58) × (width ≤ 32) ⌝ }
+    requires { ⌜ (length (now packet) ≤ longest) × (width ≤ 32) ⌝ }
     ensures { λ r. ⌜ r ≡ asField (positive width (now (packet .entry)) at) ⌝ }
 {
     let field = bitstream::read(packet, at, width);
@@ -77,14 +78,14 @@ fn read_positive(packet: &[u8], at: usize, width: usize) -> Field
         return field;
     };
     if value <= 0 {
-        return Field::Refused(5, at);
+        return Field::Refused(bitstream::OUT_OF_RANGE, at);
     }
     field
 }
 
 // `width` bits that must be at most `most`, else number 5.
 fn read_at_most(packet: &[u8], at: usize, width: usize, most: u32) -> Field
-    requires { ⌜ (length (now packet) ≤ 2 ^ 58) × (width ≤ 32) ⌝ }
+    requires { ⌜ (length (now packet) ≤ longest) × (width ≤ 32) ⌝ }
     ensures { λ r. ⌜ r ≡ asField (atMost width most (now (packet .entry)) at) ⌝ }
 {
     let field = bitstream::read(packet, at, width);
@@ -92,14 +93,14 @@ fn read_at_most(packet: &[u8], at: usize, width: usize, most: u32) -> Field
         return field;
     };
     if most < value {
-        return Field::Refused(5, at);
+        return Field::Refused(bitstream::OUT_OF_RANGE, at);
     }
     field
 }
 
 // `width` bits that must not be 1, else number 6.
 fn read_format_code(packet: &[u8], at: usize, width: usize) -> Field
-    requires { ⌜ (length (now packet) ≤ 2 ^ 58) × (width ≤ 32) ⌝ }
+    requires { ⌜ (length (now packet) ≤ longest) × (width ≤ 32) ⌝ }
     ensures { λ r. ⌜ r ≡ asField (formatCode width (now (packet .entry)) at) ⌝ }
 {
     let field = bitstream::read(packet, at, width);
@@ -107,17 +108,17 @@ fn read_format_code(packet: &[u8], at: usize, width: usize) -> Field
         return field;
     };
     if value == 1 {
-        return Field::Refused(6, at);
+        return Field::Refused(bitstream::BAD_FORMAT, at);
     }
     field
 }
 
 // What every header begins with: its type byte, and "theora".
-pub fn read_common_header(packet: &[u8], at: usize, kind: u32) -> End
-    requires { ⌜ length (now packet) ≤ 2 ^ 58 ⌝ }
-    ensures { λ r. ⌜ r ≡ asEnd (commonHeader kind (now (packet .entry)) at) ⌝ }
+pub fn read_common_header(packet: &[u8], at: usize, mark: u32) -> End
+    requires { ⌜ length (now packet) ≤ longest ⌝ }
+    ensures { λ r. ⌜ r ≡ asEnd (commonHeader mark (now (packet .entry)) at) ⌝ }
 {
-    let wanted = [kind, 0x74, 0x68, 0x65, 0x6F, 0x72, 0x61];
+    let wanted = [mark, 0x74, 0x68, 0x65, 0x6F, 0x72, 0x61];
     let mut place = at;
     let mut i = 0;
     while i < 7 {
@@ -131,7 +132,7 @@ pub fn read_common_header(packet: &[u8], at: usize, kind: u32) -> End
 }
 
 fn read_version(packet: &[u8], at: usize) -> Field
-    requires { ⌜ length (now packet) ≤ 2 ^ 58 ⌝ }
+    requires { ⌜ length (now packet) ≤ longest ⌝ }
     ensures { λ r. ⌜ r ≡ asField (version (now (packet .entry)) at) ⌝ }
 {
     let vmaj = match read_exactly(packet, at, 8, 3, 3) {
@@ -160,7 +161,7 @@ enum FrameSizeAnswer {
 }
 
 fn read_frame_size(packet: &[u8], at: usize) -> FrameSizeAnswer
-    requires { ⌜ length (now packet) ≤ 2 ^ 58 ⌝ }
+    requires { ⌜ length (now packet) ≤ longest ⌝ }
     ensures { λ r. ⌜ r ≡ asFrameSize (frameSize (now (packet .entry)) at) ⌝ }
 {
     let fmbw = match read_positive(packet, at, 16) {
@@ -216,7 +217,7 @@ enum RatesAnswer {
 }
 
 fn read_rates(packet: &[u8], at: usize) -> RatesAnswer
-    requires { ⌜ length (now packet) ≤ 2 ^ 58 ⌝ }
+    requires { ⌜ length (now packet) ≤ longest ⌝ }
     ensures { λ r. ⌜ r ≡ asRates (rates (now (packet .entry)) at) ⌝ }
 {
     let frn = match read_positive(packet, at, 32) {
@@ -264,7 +265,7 @@ enum CodingAnswer {
 }
 
 fn read_coding(packet: &[u8], at: usize) -> CodingAnswer
-    requires { ⌜ length (now packet) ≤ 2 ^ 58 ⌝ }
+    requires { ⌜ length (now packet) ≤ longest ⌝ }
     ensures { λ r. ⌜ r ≡ asCoding (coding (now (packet .entry)) at) ⌝ }
 {
     let nombr = match bitstream::read(packet, at, 24) {
@@ -300,7 +301,7 @@ fn read_coding(packet: &[u8], at: usize) -> CodingAnswer
 
 // The fresh session of a packet that is short enough for its bit places.
 fn read_session(packet: &[u8]) -> IdentificationAnswer
-    requires { ⌜ length (now packet) ≤ 2 ^ 58 ⌝ }
+    requires { ⌜ length (now packet) ≤ longest ⌝ }
     ensures { λ r. ⌜ r ≡ asIdentification (identification (now (packet .entry)) 0) ⌝ }
 {
     let start = match read_common_header(packet, 0, 0x80) {
@@ -446,5 +447,5 @@ pub fn sizes(s: Session) -> SizesAnswer
         let format = pixel_format(s.fields.pf);
         return SizesAnswer::Is(geometry::sizes(format, s.fields.fmbw, s.fields.fmbh));
     }
-    SizesAnswer::Refused(8)
+    SizesAnswer::Refused(bitstream::NOT_GENUINE)
 }

@@ -5,6 +5,7 @@ use mathlib.Core.List.{List, [], _∷_, _++_}
 use lib.Dec.{eqb, ltb}
 use lib.ListN.{replicate}
 use Rattle.bitstream.specs.Reading.{Parse, pure, bind, pick, choose, field, judged, _>>=_, _>>_}
+use Rattle.bitstream.specs.Numbers.{badSetup}
 
 -- a leaf with its token, or the 0 branch and the 1 branch
 pub data Tree : Type 0 where
@@ -27,7 +28,7 @@ allowed depth seen b = choose (eqb b 1) (ltb seen 32) (ltb 0 depth)
 
 -- "1 bit leaf": a 1 is a leaf
 unfoldable pub leafBit : ℕ → ℕ → Parse ℕ
-leafBit depth seen = judged 1 (allowed depth seen) 7
+leafBit depth seen = judged 1 (allowed depth seen) badSetup
 
 -- "a leaf then 5-bit token"
 unfoldable pub leafToken : Parse Tree

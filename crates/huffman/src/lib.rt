@@ -4,7 +4,7 @@ use bitstream::Field;
 ghost use mathlib.Core.Path.{_≡_};
 ghost use Prim.Native.Nat.{ℕ, _+_, _-_, _*_, _/_, _%_, _<_, _≤_, _^_};
 ghost use lib.ListN.{length, getD, take, replicate};
-ghost use Rattle.bitstream.specs.Bits.{bits, number};
+ghost use Rattle.bitstream.specs.Bits.{bits, number, longest};
 ghost use Rattle.bitstream.specs.Answer.{asField, asEnd};
 ghost use Rattle.huffman.specs.Tree.{tree, huffmanTree};
 ghost use Rattle.huffman.specs.Code.{tokenCode, treeOf, Formed};
@@ -37,7 +37,7 @@ fn seven_bits(packet: &[u8], at: usize) -> usize
 // The answer is one number, since every frame call reads 80 trees, and an enum would go through memory at each return: 4 times the place behind the part,
 // whose n leaves took 7 n - 1 bits; or for a refusal 4 times the place at fault, and 1 for number 4 or 2 for number 7.
 fn grow(packet: &[u8], at: usize, depth: usize, seen: usize, out: &mut [u8], base: usize) -> usize
-    requires { ⌜ (length (now packet) ≤ 2 ^ 58) × (at ≤ bits (now packet)) × (97 ≤ length (now out)) × (depth ≤ 32) × (seen ≤ 32) × (base ≤ 2 * seen + (32 - depth)) ⌝ }
+    requires { ⌜ (length (now packet) ≤ longest) × (at ≤ bits (now packet)) × (97 ≤ length (now out)) × (depth ≤ 32) × (seen ≤ 32) × (base ≤ 2 * seen + (32 - depth)) ⌝ }
     ensures { λ r. ⌜ Told r (tree depth seen (now (packet .entry)) at) ⌝ }
     ensures { λ r. ⌜ Stored base (now (out .entry)) (now (out .exit)) (tree depth seen (now (packet .entry)) at) ⌝ }
 {
@@ -90,22 +90,22 @@ fn fill_from(nodes: &mut [u8], from: &[u8])
 
 // The tree at the bit place `at`, into a table of nodes, which a refusal leaves as it was.
 pub fn read_tree(packet: &[u8], at: usize, nodes: &mut [u8]) -> End
-    requires { ⌜ (length (now packet) ≤ 2 ^ 58) × (length (now nodes) ≡ 64) ⌝ }
+    requires { ⌜ (length (now packet) ≤ longest) × (length (now nodes) ≡ 64) ⌝ }
     ensures { λ r. ⌜ r ≡ asEnd (huffmanTree (now (packet .entry)) at) ⌝ }
     ensures { λ r. ⌜ now (nodes .exit) ≡ nodesAfter (now (nodes .entry)) (huffmanTree (now (packet .entry)) at) ⌝ }
 {
     if packet.len() * 8 < at {
-        return End::Refused(4, at);
+        return End::Refused(bitstream::PACKET_ENDS, at);
     }
     // A tree that is refused in the end may come to 97 nodes; an accepted one has at most 63.
     let mut scratch = [0u8; 97];
     let grown = grow(packet, at, 32, 0, &mut scratch, 0);
     let place = grown / 4;
     if grown % 4 == 1 {
-        return End::Refused(4, place);
+        return End::Refused(bitstream::PACKET_ENDS, place);
     }
     if grown % 4 == 2 {
-        return End::Refused(7, place);
+        return End::Refused(bitstream::BAD_SETUP, place);
     }
     fill_from(nodes, &scratch);
     End::At(place)
@@ -133,7 +133,7 @@ fn next_node(node: usize, value: u8, b: u8) -> usize
 // The token whose code stands at the bit place `at`, by the table of nodes; a code that is cut is refused by 4 at its first bit.
 // One window holds the whole code, which has at most 31 bits.
 pub fn read_code(packet: &[u8], at: usize, nodes: &[u8]) -> Field
-    requires { ⌜ (length (now packet) ≤ 2 ^ 58) × Formed (now nodes) ⌝ }
+    requires { ⌜ (length (now packet) ≤ longest) × Formed (now nodes) ⌝ }
     ensures { λ r. ⌜ r ≡ asField (tokenCode (treeOf (now (nodes .entry))) (now (packet .entry)) at) ⌝ }
 {
     let total = packet.len() * 8;
@@ -144,7 +144,7 @@ pub fn read_code(packet: &[u8], at: usize, nodes: &[u8]) -> Field
     let mut value = nodes[node];
     while 128 <= value {
         if total <= place {
-            return Field::Refused(4, at);
+            return Field::Refused(bitstream::PACKET_ENDS, at);
         }
         node = next_node(node, value, bit_of(window, place - first));
         place += 1;

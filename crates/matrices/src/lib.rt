@@ -67,16 +67,16 @@ fn interpolate(range: Range, qi: usize, left: usize, right: usize) -> usize
 }
 
 // The least value of a type at the coefficient c.
-fn least(kind: usize, c: usize) -> usize
-    ensures { λ r. ⌜ (r ≡ minimum kind c) × (r ≤ 32) ⌝ }
+fn least(qti: usize, c: usize) -> usize
+    ensures { λ r. ⌜ (r ≡ minimum qti c) × (r ≤ 32) ⌝ }
 {
     if c == 0 {
-        if kind == 0 {
+        if qti == 0 {
             return 16;
         }
         return 32;
     }
-    if kind == 0 {
+    if qti == 0 {
         return 8;
     }
     16
@@ -103,18 +103,18 @@ fn value_at(
     first: usize,
     second: usize,
     range: Range,
-    kind: usize,
+    qti: usize,
     qi: usize,
     scale: u16,
     c: usize,
 ) -> u16
     requires { ⌜ (length (now packet) ≤ longest) × (first + 512 ≤ bits (now packet)) × (second + 512 ≤ bits (now packet)) × InRange range qi × (c < 64) ⌝ }
-    ensures { λ r. ⌜ r ≡ scaled (minimum kind c) scale (interpolated range qi (number (now (packet .entry)) (first + c * 8) 8) (number (now (packet .entry)) (second + c * 8) 8)) ⌝ }
+    ensures { λ r. ⌜ r ≡ scaled (minimum qti c) scale (interpolated range qi (number (now (packet .entry)) (first + c * 8) 8) (number (now (packet .entry)) (second + c * 8) 8)) ⌝ }
 {
     let left = byte_at(packet, first + c * 8);
     let right = byte_at(packet, second + c * 8);
     let value = interpolate(range, qi, left, right);
-    let low = least(kind, c);
+    let low = least(qti, c);
     scale_value(low, scale, value)
 }
 
@@ -124,19 +124,19 @@ fn fill_matrix(
     first: usize,
     second: usize,
     range: Range,
-    kind: usize,
+    qti: usize,
     qi: usize,
     dc: u16,
     ac: u16,
     out: &mut [u16],
 )
     requires { ⌜ (length (now packet) ≤ longest) × (first + 512 ≤ bits (now packet)) × (second + 512 ≤ bits (now packet)) × InRange range qi × (length (now out) ≡ 64) ⌝ }
-    ensures { λ _. ⌜ now (out .exit) ≡ tabulated (λ c. valueAt kind dc ac range qi c (number (now (packet .entry)) (first + c * 8) 8) (number (now (packet .entry)) (second + c * 8) 8)) 0 64 ⌝ }
+    ensures { λ _. ⌜ now (out .exit) ≡ tabulated (λ c. valueAt qti dc ac range qi c (number (now (packet .entry)) (first + c * 8) 8) (number (now (packet .entry)) (second + c * 8) 8)) 0 64 ⌝ }
 {
-    out[0] = value_at(packet, first, second, range, kind, qi, dc, 0);
+    out[0] = value_at(packet, first, second, range, qti, qi, dc, 0);
     let mut c = 1;
     while c < 64 {
-        out[c] = value_at(packet, first, second, range, kind, qi, ac, c);
+        out[c] = value_at(packet, first, second, range, qti, qi, ac, c);
         c += 1;
     }
 }
@@ -145,16 +145,16 @@ fn fill_matrix(
 pub fn matrix(
     packet: &[u8],
     loaded: LoadedParameters,
-    kind: usize,
+    qti: usize,
     plane: usize,
     qi: usize,
     out: &mut [u16],
 )
-    requires { ⌜ (length (now packet) ≤ longest) × Held (now packet) loaded × (kind < 2) × (plane < 3) × (qi < 64) × (length (now out) ≡ 64) ⌝ }
-    ensures { λ _. ⌜ MatrixIs (now (packet .entry)) loaded kind plane qi (now (out .exit)) ⌝ }
+    requires { ⌜ (length (now packet) ≤ longest) × Held (now packet) loaded × (qti < 2) × (plane < 3) × (qi < 64) × (length (now out) ≡ 64) ⌝ }
+    ensures { λ _. ⌜ MatrixIs (now (packet .entry)) loaded qti plane qi (now (out .exit)) ⌝ }
 {
     let place = loaded.place;
-    let start = (3 * kind + plane) * 64;
+    let start = (3 * qti + plane) * 64;
     let range = range_of(&loaded.sizes, start, qi);
     let number = range.number;
     let one = loaded.indices[start + number] as usize;
@@ -163,5 +163,5 @@ pub fn matrix(
     let second = place + two * 512;
     let dc = loaded.dc_scale[qi];
     let ac = loaded.ac_scale[qi];
-    fill_matrix(packet, first, second, range, kind, qi, dc, ac, out)
+    fill_matrix(packet, first, second, range, qti, qi, dc, ac, out)
 }

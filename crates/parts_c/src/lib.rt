@@ -6,7 +6,7 @@ ghost use mathlib.Core.List.{map};
 ghost use Prim.Native.Nat.{_+_, _*_, _≤_};
 ghost use lib.IntN.{pos};
 ghost use lib.ListN.{length, replicate};
-ghost use Rattle.geometry.specs.Sizes.{across, blocksOf};
+ghost use Rattle.geometry.specs.Sizes.{across, blocksOf, largest};
 ghost use Rattle.geometry.specs.Frame.{block, InFrame};
 ghost use Rattle.geometry.specs.Sample.{sampleAt};
 ghost use Rattle.headers.specs.Sizes.{formatOf};
@@ -70,7 +70,7 @@ pub extern "C" fn parts_write_block(
     y: u64,
     packed: u32,
 )
-    requires { ⌜ (w ≤ 65535) × (h ≤ 65535) × InFrame (formatOf pf) w h (block plane x y) × PredictionInRange (unpacked packed .prediction) × (length (now new) ≡ 64 * blocksOf (formatOf pf) w h)
+    requires { ⌜ (w ≤ largest) × (h ≤ largest) × InFrame (formatOf pf) w h (block plane x y) × PredictionInRange (unpacked packed .prediction) × (length (now new) ≡ 64 * blocksOf (formatOf pf) w h)
         × (length (now golden) ≡ 64 * blocksOf (formatOf pf) w h) × (length (now previous) ≡ 64 * blocksOf (formatOf pf) w h) × (length (now residual) ≡ 64) ⌝ }
     ensures { λ _. ⌜ now (new .exit) ≡ blockAt (summed (formatOf pf) w h (now (golden .entry)) (now (previous .entry)) (now (residual .entry)) (unpacked packed .prediction) (block plane x y)) (sampleAt (formatOf pf) w h (block plane x y) 0 0) (8 * across (formatOf pf) w plane) (now (new .entry)) ⌝ }
 {
@@ -91,7 +91,7 @@ pub extern "C" fn parts_filter_frame(
     w: u64,
     h: u64,
 )
-    requires { ⌜ (w ≤ 65535) × (h ≤ 65535) × (length (now new) ≡ 64 * blocksOf (formatOf pf) w h) × (length (now records) ≡ blocksOf (formatOf pf) w h) × (limit ≤ 127) ⌝ }
+    requires { ⌜ (w ≤ largest) × (h ≤ largest) × (length (now new) ≡ 64 * blocksOf (formatOf pf) w h) × (length (now records) ≡ blocksOf (formatOf pf) w h) × (limit ≤ 127) ⌝ }
     ensures { λ _. ⌜ now (new .exit) ≡ filterAll (formatOf pf) w h (codedBy (formatOf pf) w h (now (records .entry))) (filtered limit) (now (new .entry)) ⌝ }
 {
     let format = headers::pixel_format(pf);
@@ -116,7 +116,7 @@ pub extern "C" fn parts_make_frame(
     w: u64,
     h: u64,
 )
-    requires { ⌜ (w ≤ 65535) × (h ≤ 65535) × Lent (formatOf pf) w h (now records) (now coded) count (now coefs) (now lasts) (now matrices) × ZerosBehind (now coded) count (now coefs) (now lasts) × (now dc ≡ replicate (blocksOf (formatOf pf) w h) (pos 0)) × (limit ≤ 127)
+    requires { ⌜ (w ≤ largest) × (h ≤ largest) × Lent (formatOf pf) w h (now records) (now coded) count (now coefs) (now lasts) (now matrices) × ZerosBehind (now coded) count (now coefs) (now lasts) × (now dc ≡ replicate (blocksOf (formatOf pf) w h) (pos 0)) × (limit ≤ 127)
         × (length (now new) ≡ 64 * blocksOf (formatOf pf) w h) × (length (now golden) ≡ 64 * blocksOf (formatOf pf) w h) × (length (now previous) ≡ 64 * blocksOf (formatOf pf) w h) ⌝ }
     ensures { λ _. ⌜ now (new .exit) ≡ firstWay (formatOf pf) w h (pictureOf (formatOf pf) w h (blocksIn (now (records .entry)) (now (coded .entry)) count (now (coefs .entry)) (now (lasts .entry))) (matrixIn (now (matrices .entry))) limit (now (golden .entry)) (now (previous .entry))) (now (previous .entry)) ⌝ }
     ensures { λ _. ⌜ (now (records .exit) ≡ replicate (length (now (records .entry))) 0) × (now (coded .exit) ≡ replicate (length (now (coded .entry))) 0) × (now (coefs .exit) ≡ replicate (length (now (coefs .entry))) (pos 0))

@@ -4,6 +4,7 @@ use mathlib.Core.List.{List, [], _∷_, _++_}
 use lib.Dec.{eqb, ltb, leb}
 use lib.ListN.{length, getD}
 use Rattle.bitstream.specs.Reading.{Parse, pure, bind, _>>=_, _>>_, here, pick, choose, field, judged, many, until}
+use Rattle.bitstream.specs.Numbers.{badSetup}
 
 -- a set of quant ranges: their sizes, QRSIZES, and the base matrix indices at their ends, QRBMIS, of which there is one more
 pub record Ranges : Type 0 where
@@ -36,7 +37,7 @@ scales = do
 -- NBMS, one more than its field says. "NBMS above 384" is 7 at the field
 unfoldable pub matrixCount : Parse ℕ
 matrixCount = do
-  v ← judged 9 (λ v. leb (v + 1) 384) 7
+  v ← judged 9 (λ v. leb (v + 1) 384) badSetup
   pure (v + 1)
 
 -- one base matrix: 64 numbers of 8 bits
@@ -45,11 +46,11 @@ baseMatrix = many 64 (field 8)
 
 -- "ALL matrix indices checked": one that is not below NBMS is 7 at its field
 unfoldable pub index : ℕ → Parse ℕ
-index n = judged (ilog (n - 1)) (λ v. ltb v n) 7
+index n = judged (ilog (n - 1)) (λ v. ltb v n) badSetup
 
 -- the size less one of the range that begins at qi. "a qi sum above 63" is 7 at the size's field
 unfoldable pub rangeSize : ℕ → Parse ℕ
-rangeSize qi = judged (ilog (62 - qi)) (λ v. leb (qi + (v + 1)) 63) 7
+rangeSize qi = judged (ilog (62 - qi)) (λ v. leb (qi + (v + 1)) 63) badSetup
 
 -- a set that is being read: the qi that its last range ends at, its sizes and its indices so far
 pub record Begun : Type 0 where
@@ -72,7 +73,7 @@ range n s = do
 unfoldable pub newSet : ℕ → Parse Ranges
 newSet n = do
   b ← index n
-  s ← until (λ s. leb 63 (s .reached)) (range n) 7 63 (record { reached = 0; sizes = []; indices = b ∷ [] })
+  s ← until (λ s. leb 63 (s .reached)) (range n) badSetup 63 (record { reached = 0; sizes = []; indices = b ∷ [] })
   pure (record { sizes = s .sizes; indices = s .indices })
 
 -- where set k = 3 * type + plane comes from: 0 if it is new (NEWQR), 1 if it is the one before it, and 3 if it is that of the same plane for the type before (RPQR)

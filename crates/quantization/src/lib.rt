@@ -101,7 +101,7 @@ fn read_count(packet: &[u8], at: usize) -> Field
         Field::Refused(number, fault) => Field::Refused(number, fault),
         Field::Got(value, next) => {
             if 384 < value + 1 {
-                return Field::Refused(7, at);
+                return Field::Refused(bitstream::BAD_SETUP, at);
             }
             Field::Got(value + 1, next)
         }
@@ -115,7 +115,7 @@ fn matrices_end(packet: &[u8], at: usize, count: usize) -> End
 {
     let left = packet.len() * 8 - at;
     if left < count * 512 {
-        return End::Refused(4, at + left / 8 * 8);
+        return End::Refused(bitstream::PACKET_ENDS, at + left / 8 * 8);
     }
     End::At(at + count * 512)
 }
@@ -131,7 +131,7 @@ fn read_index(packet: &[u8], at: usize, count: usize) -> Field
         Field::Refused(number, fault) => Field::Refused(number, fault),
         Field::Got(value, next) => {
             if count <= value as usize {
-                return Field::Refused(7, at);
+                return Field::Refused(bitstream::BAD_SETUP, at);
             }
             Field::Got(value, next)
         }
@@ -149,7 +149,7 @@ fn read_size(packet: &[u8], at: usize, qi: usize) -> Field
         Field::Refused(number, fault) => Field::Refused(number, fault),
         Field::Got(value, next) => {
             if 63 < qi + (value as usize + 1) {
-                return Field::Refused(7, at);
+                return Field::Refused(bitstream::BAD_SETUP, at);
             }
             Field::Got(value, next)
         }

@@ -16,7 +16,7 @@ use Rattle.geometry.specs.Macro.{macroOf}
 use Rattle.geometry.specs.Sample.{sampleAt}
 use Rattle.geometry.proofs.FrameLaws.{frame-length, frame-back, frame-once}
 use Rattle.geometry.proofs.PlaneOrders.{macro-order}
-use Rattle.headers.proofs.Fitting.{and-both}
+use Rattle.bitstream.proofs.ListLaws.{and-both}
 use Rattle.headers.specs.declared.Session.{Session}
 use Rattle.headers.specs.Fits.{sessionFits}
 use Rattle.headers.specs.Sizes.{formatOf}

@@ -3,6 +3,7 @@ use Prim.Native.Nat.{ℕ, zero, suc}
 use mathlib.Core.Bool.{Bool}
 use mathlib.Core.List.{List, [], _∷_}
 use Rattle.bitstream.specs.Reading.{choose}
+use Rattle.bitstream.specs.Numbers.{notGenuine}
 use Rattle.headers.specs.declared.Session.{Session}
 use Rattle.headers.specs.Fits.{sessionFits}
 
@@ -14,7 +15,7 @@ pub data Found (A : Type 0) : Type 0 where
 
 -- "Size calls: identification part of 8": number 8 for a session that does not fit
 unfoldable pub onSession : {A : Type 0} → Session → Found A → Found A
-onSession s x = choose (sessionFits s) x (refused 8)
+onSession s x = choose (sessionFits s) x (refused notGenuine)
 
 -- a, where the test holds
 abbrev pub provided : {A : Type 0} → Bool → A → Found A

@@ -5,6 +5,7 @@ use mathlib.Core.List.{List}
 use lib.Dec.{eqb, ltb}
 use lib.ListN.{length}
 use Rattle.bitstream.specs.Reading.{Outcome, got, refused, choose}
+use Rattle.bitstream.specs.Numbers.{wrongLength}
 use Rattle.matrices.specs.Matrix.{matrixOf}
 use Rattle.setup.specs.Header.{Setup}
 use Rattle.setup.specs.Table.{tableBytes, heldSetup}
@@ -20,7 +21,7 @@ inSetup f (refused k e) = found.refused k
 
 -- "a lent length differs from the published one" is 1, then "no accepted setup packet leaves this table memory" is 8
 unfoldable pub onTable : {A : Type 0} → List ℕ → (Setup → Found A) → Found A
-onTable t f = choose (eqb (length t) tableBytes) (inSetup f (heldSetup t)) (found.refused 1)
+onTable t f = choose (eqb (length t) tableBytes) (inSetup f (heldSetup t)) (found.refused wrongLength)
 
 -- the loop limit of a qi
 unfoldable pub tableLimit : List ℕ → ℕ → Found ℕ
@@ -36,7 +37,7 @@ tableMatrix t type plane qi = onTable t (λ s. provided (hasMatrix type plane qi
 
 -- the same for a lent slice, which has 64 numbers
 unfoldable pub matrixInto : List ℕ → List ℕ → ℕ → ℕ → ℕ → Found (List ℕ)
-matrixInto old t type plane qi = choose (eqb (length old) 64) (tableMatrix t type plane qi) (found.refused 1)
+matrixInto old t type plane qi = choose (eqb (length old) 64) (tableMatrix t type plane qi) (found.refused wrongLength)
 
 -- the answer, and what the slice holds afterwards: a call that finds no matrix leaves it as it was
 abbrev pub asMatrix : Found (List ℕ) → MatrixAnswer

@@ -4,6 +4,7 @@ use geometry::Block;
 use geometry::PixelFormat;
 use geometry::Place;
 use headers::Session;
+ghost use Rattle.geometry.specs.Sizes.{largest};
 ghost use mathlib.Core.Path.{_≡_};
 ghost use Prim.Native.Nat.{ℕ, _≤_, _<_};
 ghost use Rattle.geometry.specs.Frame.{block};
@@ -40,7 +41,7 @@ pub enum MatrixAnswer {
 
 // Whether a frame of w by h macro blocks has block b.
 fn has_block(format: PixelFormat, w: u64, h: u64, b: Block) -> bool
-    requires { ⌜ (w ≤ 65535) × (h ≤ 65535) ⌝ }
+    requires { ⌜ (w ≤ largest) × (h ≤ largest) ⌝ }
     ensures { λ r. ⌜ r ≡ hasBlock format w h b ⌝ }
 {
     if 3 <= b.plane {
@@ -62,7 +63,7 @@ pub fn block_at(s: Session, i: u64) -> BlockAnswer
         }
         return BlockAnswer::Absent;
     }
-    BlockAnswer::Refused(8)
+    BlockAnswer::Refused(bitstream::NOT_GENUINE)
 }
 
 // The number of block (x, y) of a plane there.
@@ -82,7 +83,7 @@ pub fn block_number(s: Session, plane: u64, x: u64, y: u64) -> NumberAnswer
         }
         return NumberAnswer::Absent;
     }
-    NumberAnswer::Refused(8)
+    NumberAnswer::Refused(bitstream::NOT_GENUINE)
 }
 
 // The macro block that is number i in the coded order of a session's frames.
@@ -97,7 +98,7 @@ pub fn macro_block_at(s: Session, i: u64) -> PlaceAnswer
         }
         return PlaceAnswer::Absent;
     }
-    PlaceAnswer::Refused(8)
+    PlaceAnswer::Refused(bitstream::NOT_GENUINE)
 }
 
 // The number of macro block (x, y) there.
@@ -117,7 +118,7 @@ pub fn macro_block_number(s: Session, x: u64, y: u64) -> NumberAnswer
         }
         return NumberAnswer::Absent;
     }
-    NumberAnswer::Refused(8)
+    NumberAnswer::Refused(bitstream::NOT_GENUINE)
 }
 
 // The macro block that block (x, y) of a plane belongs to.
@@ -132,7 +133,7 @@ pub fn macro_block_of(s: Session, plane: u64, x: u64, y: u64) -> PlaceAnswer
         }
         return PlaceAnswer::Absent;
     }
-    PlaceAnswer::Refused(8)
+    PlaceAnswer::Refused(bitstream::NOT_GENUINE)
 }
 
 // Where in a plane buffer sample (column, row) of block (x, y) of a plane lies.
@@ -155,7 +156,7 @@ pub fn sample_offset(s: Session, plane: u64, x: u64, y: u64, column: u64, row: u
         }
         return NumberAnswer::Absent;
     }
-    NumberAnswer::Refused(8)
+    NumberAnswer::Refused(bitstream::NOT_GENUINE)
 }
 
 // The loop limit of a qi, by the setup of a table memory.
@@ -163,12 +164,12 @@ pub fn loop_limit(table: &[u8], qi: u64) -> NumberAnswer
     ensures { λ r. ⌜ r ≡ asNumber (tableLimit (now (table .entry)) qi) ⌝ }
 {
     if table.len() != setup::TABLE_BYTES {
-        return NumberAnswer::Refused(1);
+        return NumberAnswer::Refused(bitstream::WRONG_LENGTH);
     }
     let answer = setup::load_table(table);
     let place = answer.place;
     match place {
-        Behind::Refused(_, _) => NumberAnswer::Refused(8),
+        Behind::Refused(_, _) => NumberAnswer::Refused(bitstream::NOT_GENUINE),
         Behind::At(_) => {
             if qi < 64 {
                 let limits = answer.setup.limits;
@@ -181,27 +182,27 @@ pub fn loop_limit(table: &[u8], qi: u64) -> NumberAnswer
 }
 
 // The quantization matrix of a type (0 intra, 1 inter), a plane and a qi, in natural order, by the setup of a table memory.
-pub fn matrix(table: &[u8], kind: u64, plane: u64, qi: u64, out: &mut [u16]) -> MatrixAnswer
-    ensures { λ r. ⌜ r ≡ asMatrix (matrixInto (now (out .entry)) (now (table .entry)) kind plane qi) ⌝ }
-    ensures { λ r. ⌜ now (out .exit) ≡ leaving (now (out .entry)) (matrixInto (now (out .entry)) (now (table .entry)) kind plane qi) ⌝ }
+pub fn matrix(table: &[u8], qti: u64, plane: u64, qi: u64, out: &mut [u16]) -> MatrixAnswer
+    ensures { λ r. ⌜ r ≡ asMatrix (matrixInto (now (out .entry)) (now (table .entry)) qti plane qi) ⌝ }
+    ensures { λ r. ⌜ now (out .exit) ≡ leaving (now (out .entry)) (matrixInto (now (out .entry)) (now (table .entry)) qti plane qi) ⌝ }
 {
     if out.len() != 64 {
-        return MatrixAnswer::Refused(1);
+        return MatrixAnswer::Refused(bitstream::WRONG_LENGTH);
     }
     if table.len() != setup::TABLE_BYTES {
-        return MatrixAnswer::Refused(1);
+        return MatrixAnswer::Refused(bitstream::WRONG_LENGTH);
     }
     let answer = setup::load_table(table);
     let place = answer.place;
     match place {
-        Behind::Refused(_, _) => MatrixAnswer::Refused(8),
+        Behind::Refused(_, _) => MatrixAnswer::Refused(bitstream::NOT_GENUINE),
         Behind::At(_) => {
-            if (kind < 2) & (plane < 3) & (qi < 64) {
+            if (qti < 2) & (plane < 3) & (qi < 64) {
                 let parameters = answer.setup.parameters;
                 matrices::matrix(
                     table,
                     parameters,
-                    kind as usize,
+                    qti as usize,
                     plane as usize,
                     qi as usize,
                     out,

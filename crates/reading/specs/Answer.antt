@@ -5,6 +5,7 @@ use mathlib.Core.List.{List, [], _∷_}
 use lib.Dec.{ltb}
 use lib.ListN.{getD}
 use Rattle.bitstream.specs.Reading.{Outcome, got, refused, after, choose}
+use Rattle.bitstream.specs.Numbers.{uncounted}
 use Rattle.headers.specs.declared.Session.{Session}
 use Rattle.headers.specs.Fits.{withinShift}
 use Rattle.headers.specs.Sizes.{format}
@@ -13,7 +14,7 @@ use Rattle.setup.specs.Table.{heldSetup}
 use Rattle.frame_header.specs.declared.Header.{Header}
 use Rattle.frame_header.specs.declared.Kind.{Kind}
 use Rattle.frame_header.specs.declared.Kind.the-variants.{Intra, Inter, Repeat}
-use Rattle.frame_header.specs.Answer.{asHeader, repeated}
+use Rattle.frame_header.specs.Answer.{asHeader, repeatHeader}
 use Rattle.frame_packet.specs.Frame.{Frame, framePacket}
 use Rattle.reading.specs.declared.FrameAnswer.{FrameAnswer}
 use Rattle.reading.specs.declared.Verdict.{Verdict}
@@ -32,7 +33,7 @@ staysCounted Repeat s = withinShift (s .fields) (s .others + 1)
 
 -- "past that the packet is refused as new number 17, after all other checks"
 abbrev pub counted : Session → Setup → Frame → ℕ → Outcome Asked
-counted s setup fr e = choose (staysCounted (fr .header .kind) s) (got (record { setup = setup; frame = fr }) e) (refused 17 0)
+counted s setup fr e = choose (staysCounted (fr .header .kind) s) (got (record { setup = setup; frame = fr }) e) (refused uncounted 0)
 
 -- a packet by a setup
 abbrev pub readBy : Session → Setup → (packet : List ℕ) → Outcome Asked
@@ -51,7 +52,7 @@ sessionAfter Repeat s = record { fields = s .fields; references = s .references;
 -- a refusal answers its number and "the bit place of the first bit of the field at fault": the header beside them says nothing, and the session is as it was.
 -- "An accepted frame answers with its kind (intra, inter, repeat) and the qi list (empty for repeat)"; "the number of coefficient tokens read .. the count that the reading rules themselves give"
 abbrev pub answerFor : Session → Outcome Asked → FrameAnswer
-answerFor s (refused k e) = record { verdict = Refused k e; header = repeated; session = s }
+answerFor s (refused k e) = record { verdict = Refused k e; header = repeatHeader; session = s }
 answerFor s (got a e) = record { verdict = Accepted (a .frame .body .tokens .tokens); header = asHeader (a .frame .header); session = sessionAfter (a .frame .header .kind) s }
 
 -- ---- an answer as numbers

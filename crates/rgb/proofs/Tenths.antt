@@ -39,7 +39,7 @@ dn-less m (negsuc n) = sym (zero-mul (suc m))
 
 -- ---- red and blue: a colour with one table for chroma, whose factor is m thousandths
 abbrev chromaRule : ℕ → Rule
-chromaRule m = record { offset = 128; times = pos (units * m); over = 224 * 1000 }
+chromaRule m = record { offset = 128; factor = pos (units * m); over = 224 * 1000 }
 
 one-tenths : (m y c : ℕ) → WithinSixTenths (stepsOf (sumOf y (entry (chromaRule m) c))) (less 16 y *ℤ pos (255 * (224 * 1000)) +ℤ less 128 c *ℤ pos (255 * 219 * m)) (219 * (224 * 1000))
 unfolding sumOf entry

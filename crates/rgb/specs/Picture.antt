@@ -5,6 +5,7 @@ use mathlib.Core.List.{List}
 use lib.Dec.{eqb}
 use lib.ListN.{length, getD}
 use Rattle.bitstream.specs.Reading.{choose}
+use Rattle.bitstream.specs.Numbers.{wrongLength, notGenuine, unknownColour}
 use Rattle.geometry.specs.declared.PixelFormat.{PixelFormat}
 use Rattle.geometry.specs.declared.PixelFormat.the-variants.{Chroma420, Chroma422, Chroma444}
 use Rattle.geometry.specs.Sizes.{across, blocksOf, blocksBefore}
@@ -58,6 +59,6 @@ pictureFor s planes room =
     let h = s .fields .fmbh in
     choose (sessionFits s)
     (choose (eqb (length planes) (64 * blocksOf f w h))
-    (choose (known (s .fields .cs)) (within room (picture f w h planes)) (refused 18))
-    (refused 1))
-    (refused 8)
+    (choose (known (s .fields .cs)) (within room (picture f w h planes)) (refused unknownColour))
+    (refused wrongLength))
+    (refused notGenuine)

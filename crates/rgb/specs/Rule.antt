@@ -11,32 +11,32 @@ units = 255 * 65536
 -- a rule: the value less an offset, times a rational number
 pub record Rule : Type 0 where
   pub offset : ℕ
-  pub times : ℤ
+  pub factor : ℤ
   pub over : ℕ
 
 -- "Kr = 0.299", "Kb = 0.114", in thousandths; "Offset = (16, 128, 128)", "Excursion = (219, 224, 224)"
 -- Y' = (Y - 16) / 219
 abbrev pub luma : Rule
-luma = record { offset = 16; times = pos units; over = 219 }
+luma = record { offset = 16; factor = pos units; over = 219 }
 
 -- R' = Y' + 2 (1 - Kr) Pr
 abbrev pub redCr : Rule
-redCr = record { offset = 128; times = pos (units * (2 * (1000 - 299))); over = 224 * 1000 }
+redCr = record { offset = 128; factor = pos (units * (2 * (1000 - 299))); over = 224 * 1000 }
 
 -- G' = Y' - 2 ((1 - Kb) Kb / (1 - Kb - Kr)) Pb - 2 ((1 - Kr) Kr / (1 - Kb - Kr)) Pr
 abbrev pub greenCb : Rule
-greenCb = record { offset = 128; times = negℤ (pos (units * (2 * ((1000 - 114) * 114)))); over = 224 * ((1000 - 114 - 299) * 1000) }
+greenCb = record { offset = 128; factor = negℤ (pos (units * (2 * ((1000 - 114) * 114)))); over = 224 * ((1000 - 114 - 299) * 1000) }
 
 abbrev pub greenCr : Rule
-greenCr = record { offset = 128; times = negℤ (pos (units * (2 * ((1000 - 299) * 299)))); over = 224 * ((1000 - 114 - 299) * 1000) }
+greenCr = record { offset = 128; factor = negℤ (pos (units * (2 * ((1000 - 299) * 299)))); over = 224 * ((1000 - 114 - 299) * 1000) }
 
 -- B' = Y' + 2 (1 - Kb) Pb
 abbrev pub blueCb : Rule
-blueCb = record { offset = 128; times = pos (units * (2 * (1000 - 114))); over = 224 * 1000 }
+blueCb = record { offset = 128; factor = pos (units * (2 * (1000 - 114))); over = 224 * 1000 }
 
 -- the entry of a value, before rounding: this over r .over
 abbrev pub ruled : Rule → ℕ → ℤ
-ruled r v = r .times *ℤ (pos v -ℤ pos (r .offset))
+ruled r v = r .factor *ℤ (pos v -ℤ pos (r .offset))
 
 -- the entry of a value
 unfoldable pub entry : Rule → ℕ → ℤ

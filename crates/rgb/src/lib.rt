@@ -7,7 +7,7 @@ ghost use mathlib.Core.Path.{_≡_};
 ghost use mathlib.Core.List.{map};
 ghost use Prim.Native.Nat.{_+_, _*_, _/_, _%_, _≤_, _<_, min};
 ghost use lib.ListN.{length};
-ghost use Rattle.geometry.specs.Sizes.{up, blocksOf};
+ghost use Rattle.geometry.specs.Sizes.{up, blocksOf, largest};
 ghost use Rattle.geometry.specs.Order.{inTurn};
 ghost use Rattle.output.specs.Output.{leftBy, asWritten, spliced};
 ghost use Rattle.rgb.specs.Rule.{contributions};
@@ -1463,7 +1463,7 @@ fn chroma_row(format: PixelFormat, y: u64) -> u64
 
 // Where row y of plane p lies in the buffer, rows counted from below.
 fn row_of(format: PixelFormat, w: u64, h: u64, p: u64, y: u64) -> Run
-    requires { ⌜ (w ≤ 65535) × (h ≤ 65535) × (p < 3) × (y < 8 * up format h p) ⌝ }
+    requires { ⌜ (w ≤ largest) × (h ≤ largest) × (p < 3) × (y < 8 * up format h p) ⌝ }
     ensures { λ r. ⌜ RunOf format w h p y r ⌝ }
 {
     let q = geometry::plane_of(format, w, h, p);
@@ -1486,7 +1486,7 @@ fn write_picture_row(
     planes: &[u8],
     out: &mut [u8],
 )
-    requires { ⌜ (w ≤ 65535) × (h ≤ 65535) × (y < 16 * h) × (now tables ≡ contributions) × (length (now planes) ≡ 64 * blocksOf format w h) × (length (now out) ≡ 48 * w) ⌝ }
+    requires { ⌜ (w ≤ largest) × (h ≤ largest) × (y < 16 * h) × (now tables ≡ contributions) × (length (now planes) ≡ 64 * blocksOf format w h) × (length (now out) ≡ 48 * w) ⌝ }
     ensures { λ _. ⌜ now (out .exit) ≡ pictureRow format w h (now (planes .entry)) y ⌝ }
 {
     let v = chroma_row(format, y);
@@ -1511,7 +1511,7 @@ fn write_picture_row(
 
 // The whole coded frame, top row first.
 fn write_picture(format: PixelFormat, w: u64, h: u64, tables: &[i32], planes: &[u8], out: &mut [u8])
-    requires { ⌜ (w ≤ 65535) × (h ≤ 65535) × (now tables ≡ contributions) × (length (now planes) ≡ 64 * blocksOf format w h) × (768 * (h * w) ≤ length (now out)) ⌝ }
+    requires { ⌜ (w ≤ largest) × (h ≤ largest) × (now tables ≡ contributions) × (length (now planes) ≡ 64 * blocksOf format w h) × (768 * (h * w) ≤ length (now out)) ⌝ }
     ensures { λ _. ⌜ now (out .exit) ≡ spliced 0 (picture format w h (now (planes .entry))) (now (out .entry)) ⌝ }
 {
     let row = (48 * w) as usize;
@@ -1531,7 +1531,7 @@ pub fn convert(s: Session, planes: &[u8], out: &mut [u8]) -> Written
     ensures { λ _. ⌜ now (out .exit) ≡ leftBy (pictureFor s (now (planes .entry)) (length (now (out .entry)))) (now (out .entry)) ⌝ }
 {
     if !headers::session_fits(s) {
-        return Written::Refused(8, 0);
+        return Written::Refused(bitstream::NOT_GENUINE, 0);
     }
     let format = headers::pixel_format(s.fields.pf);
     let w = s.fields.fmbw;
@@ -1539,15 +1539,15 @@ pub fn convert(s: Session, planes: &[u8], out: &mut [u8]) -> Written
     let cs = s.fields.cs;
     let sizes = geometry::sizes(format, w, h);
     if planes.len() as u64 != sizes.buffer {
-        return Written::Refused(1, 0);
+        return Written::Refused(bitstream::WRONG_LENGTH, 0);
     }
     let known = (cs == 1) | (cs == 2);
     if !known {
-        return Written::Refused(18, 0);
+        return Written::Refused(bitstream::UNKNOWN_COLOUR, 0);
     }
     let n = 768 * sizes.macro_blocks;
     if (out.len() as u64) < n {
-        return Written::Refused(14, 0);
+        return Written::Refused(bitstream::SHORT_OUTPUT, 0);
     }
     let tables = all_tables();
     write_picture(format, w, h, &tables, planes, out);

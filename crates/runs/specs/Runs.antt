@@ -5,6 +5,7 @@ use mathlib.Core.Bool.{Bool}
 use lib.Dec.{eqb, leb}
 use lib.ListN.{length, getD, replicate}
 use Rattle.bitstream.specs.Reading.{Parse, pure, bind, here, guard, pick, choose, field, unary, whole, until, _>>=_, _>>_}
+use Rattle.bitstream.specs.Numbers.{longRun}
 use Rattle.runs.specs.declared.RunCode.{RunCode}
 use Rattle.runs.specs.declared.RunCode.the-variants.{Long, Short}
 
@@ -54,7 +55,7 @@ oneRun code n s = do
   b ← nextBit (s .anew) (s .value)
   at ← here
   r ← run code
-  guard (leb (length (s .done) + r) n) 12 at
+  guard (leb (length (s .done) + r) n) longRun at
   pure (record { done = s .done ++ replicate r b; value = 1 - b; anew = fresh r })
 
 abbrev pub complete : ℕ → Sent → Bool
@@ -62,7 +63,7 @@ complete n s = leb n (length (s .done))
 
 -- a string of n bits. "No bits wanted: nothing read." A run has a bit at least, so n runs are enough: no packet reaches the 12 that stands here for more of them (law `runs-enough` of proofs/Strings)
 unfoldable pub sent : RunCode → ℕ → Parse Sent
-sent code n = until (complete n) (oneRun code n) 12 n (record { done = []; value = 0; anew = 1 })
+sent code n = until (complete n) (oneRun code n) longRun n (record { done = []; value = 0; anew = 1 })
 
 unfoldable pub bitString : RunCode → ℕ → Parse (List ℕ)
 bitString code n = do

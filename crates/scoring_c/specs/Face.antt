@@ -4,6 +4,7 @@ use mathlib.Core.List.{List, [], _∷_}
 use lib.Dec.{eqb}
 use lib.ListN.{length, getD}
 use Rattle.bitstream.specs.Reading.{choose}
+use Rattle.bitstream.specs.Numbers.{wrongLength}
 use Rattle.headers.specs.declared.Session.{Session}
 use Rattle.headers.specs.Fits.{sessionFits}
 use Rattle.session_list.specs.List.{sessionOf}
@@ -67,7 +68,7 @@ unfoldable pub settingsOf : List ℕ → Settings
 settingsOf l = record { tile = getD l 0 0; «shot_first» = getD l 1 0; «shot_last» = getD l 2 0; plane = getD l 3 0 }
 
 unfoldable pub textCall : ℕ → List ℕ → ℕ → ℕ → Output
-textCall version list room bytes = choose (eqb (length list) 4) (choose (eqb bytes 1) (settingsText version (settingsOf list) room) (Output.refused 1)) (Output.refused 1)
+textCall version list room bytes = choose (eqb (length list) 4) (choose (eqb bytes 1) (settingsText version (settingsOf list) room) (Output.refused wrongLength)) (Output.refused wrongLength)
 
 -- a refusal leaves the list as it was
 abbrev pub toldBy : List ℕ → Settings → Verdict → Returned

@@ -5,6 +5,7 @@ use mathlib.Core.List.{List, [], _∷_, _++_}
 use lib.Dec.{eqb, leb}
 use lib.ListN.{length, take, drop}
 use Rattle.bitstream.specs.Reading.{choose}
+use Rattle.bitstream.specs.Numbers.{laterVersion, badSettings}
 use Rattle.output.specs.Output.{Output, within}
 use Rattle.text.specs.Decimal.{Scanned, decimal, number}
 use Rattle.text.specs.Same.{same}
@@ -89,7 +90,7 @@ pub data Outcome : Type 0 where
   refused : ℕ → Outcome
 
 abbrev pub textFound : ℕ → List ℕ → Outcome
-textFound version t = choose (isText version t) (is (saidIn version t)) (refused 20)
+textFound version t = choose (isText version t) (is (saidIn version t)) (refused badSettings)
 
 -- "every text that begins with the line `version=2`"
 unfoldable pub beginsVersion2 : List ℕ → Bool
@@ -98,8 +99,8 @@ beginsVersion2 t = same (take 10 t) (line versionKey 2 [])
 -- "its reader takes version 1 texts too, as plane 0"; "A reader for version 1 refuses .. by new number 19; any other fault is 20"
 unfoldable pub read : ℕ → List ℕ → Outcome
 read version t =
-    choose (eqb version 1) (choose (beginsVersion2 t) (refused 19) (textFound 1 t))
-    (choose (eqb version 2) (choose (isText 1 t) (is (saidIn 1 t)) (textFound 2 t)) (refused 20))
+    choose (eqb version 1) (choose (beginsVersion2 t) (refused laterVersion) (textFound 1 t))
+    (choose (eqb version 2) (choose (isText 1 t) (is (saidIn 1 t)) (textFound 2 t)) (refused badSettings))
 
 -- what the code finds, and "leave the settings in use as they were": they come back as they went in
 abbrev pub asFound : Outcome → Found
@@ -113,4 +114,4 @@ asLoaded old (refused k) = record { verdict = Refused k 0; settings = old }
 -- ---- writing
 -- "values out of range, plane 1 or 2 as version 1, or a third version" are 20, then 14
 unfoldable pub settingsText : ℕ → Settings → ℕ → Output
-settingsText version s room = choose (settingsFit s && holds version s) (within room (textOf version s)) (Output.refused 20)
+settingsText version s room = choose (settingsFit s && holds version s) (within room (textOf version s)) (Output.refused badSettings)

@@ -18,7 +18,7 @@ use Rattle.table_memory.specs.Genuine.{Bytes, genuine}
 use Rattle.setup.specs.Header.{Setup, setupHeader}
 use Rattle.setup.specs.Loaded.{asSetupRead}
 use Rattle.setup.specs.declared.SetupRead.{SetupRead}
-use Rattle.setup.specs.Table.{tableBytes, setupOutcome, asSetupAnswer, tableAfter, isTable, Exactly, heldSetup}
+use Rattle.setup.specs.Table.{tableBytes, setupOutcome, asSetupAnswer, tableAfter, isTable, LeftBySome, heldSetup}
 use Rattle.setup.specs.declared.SetupAnswer.the-variants.{Accepted, Refused}
 use Rattle.setup.proofs.Laws.{setup-lawful, setup-spends, exactly-so}
 
@@ -76,5 +76,5 @@ module _ (t : List ℕ) where
   held-is h a = rw (sym h) a
 
 -- the test's answer, and what it says of packets
-pub both : (t : List ℕ) → Bytes t → (r : Bool) → r ≡ isTable t → (r ≡ isTable t) × Exactly r t
+pub both : (t : List ℕ) → Bytes t → (r : Bool) → r ≡ isTable t → (r ≡ isTable t) × LeftBySome r t
 both t b r h = (h, exactly-so t b r h)

@@ -23,7 +23,7 @@ use Rattle.quantization.proofs.Laws.{quantization-lawful, quantization-inside, 
 use Rattle.table_memory.specs.Genuine.{Bytes, Leaves}
 use Rattle.table_memory.proofs.GenuineLaws.{genuine-iff, zeros-not, kept-read}
 use Rattle.setup.specs.Header.{Setup, loopLimits, setupHeader}
-use Rattle.setup.specs.Table.{tableBytes, tableAfter, isTable, Exactly}
+use Rattle.setup.specs.Table.{tableBytes, tableAfter, isTable, LeftBySome}
 
 pub limits-lawful : Lawful loopLimits
 unfolding loopLimits
@@ -70,7 +70,7 @@ pub exact : (t : List ℕ) → ((Bytes t × (isTable t ≡ true)) → (p : List 
 exact = genuine-iff setupHeader tableBytes setup-lawful table-spends
 
 -- the test's answer for a memory of bytes
-pub exactly-so : (t : List ℕ) → Bytes t → (r : Bool) → r ≡ isTable t → Exactly r t
+pub exactly-so : (t : List ℕ) → Bytes t → (r : Bool) → r ≡ isTable t → LeftBySome r t
 exactly-so t b true e = exact t .0 (b, sym e)
 exactly-so t b false e = λ l. let h = exact t .1 l .1 in let z : _≡_ {A = ℕ} 0 1 = cc in absurd (omega arith)
 

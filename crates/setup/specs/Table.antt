@@ -5,6 +5,7 @@ use mathlib.Core.Bool.{Bool, true, false}
 use lib.Dec.{eqb}
 use lib.ListN.{length, replicate}
 use Rattle.bitstream.specs.Reading.{Outcome, got, refused, choose}
+use Rattle.bitstream.specs.Numbers.{wrongLength, notGenuine}
 use Rattle.table_memory.specs.Kept.{kept}
 use Rattle.table_memory.specs.Genuine.{Leaves, genuine}
 use Rattle.setup.specs.Header.{Setup, setupHeader}
@@ -17,7 +18,7 @@ tableBytes = 28184
 
 -- "Setup: 1, then the packet": the outcome of the call with a table memory of so many bytes
 unfoldable pub setupOutcome : ℕ → List ℕ → Outcome Setup
-setupOutcome room p = choose (eqb room tableBytes) (setupHeader p 0) (refused 1 0)
+setupOutcome room p = choose (eqb room tableBytes) (setupHeader p 0) (refused wrongLength 0)
 
 -- a refusal with "the bit place of the first bit of the field at fault"
 abbrev pub asSetupAnswer : Outcome Setup → SetupAnswer
@@ -38,10 +39,10 @@ abbrev pub isTable : List ℕ → Bool
 isTable t = genuine setupHeader tableBytes t
 
 -- the same with no test in between: whether some accepted setup packet leaves this memory
-abbrev pub Exactly : Bool → List ℕ → Type 0
-Exactly true t = (p : List ℕ) × Leaves setupHeader tableBytes p t
-Exactly false t = ((p : List ℕ) × Leaves setupHeader tableBytes p t) → ⊥
+abbrev pub LeftBySome : Bool → List ℕ → Type 0
+LeftBySome true t = (p : List ℕ) × Leaves setupHeader tableBytes p t
+LeftBySome false t = ((p : List ℕ) × Leaves setupHeader tableBytes p t) → ⊥
 
 -- the setup that a table memory holds. "no accepted setup packet leaves this table memory" is number 8
 unfoldable pub heldSetup : List ℕ → Outcome Setup
-heldSetup t = choose (isTable t) (setupHeader t 0) (refused 8 0)
+heldSetup t = choose (isTable t) (setupHeader t 0) (refused notGenuine 0)

@@ -1,8 +1,9 @@
 // The setup header: read into a struct, kept in table memory, and read from there.
-use bitstream::End as Place;
+use bitstream::End;
 use bitstream::Field;
 use quantization::LoadedParameters;
 use quantization::Parameters;
+ghost use Rattle.bitstream.specs.Bits.{longest};
 ghost use mathlib.Core.Path.{_≡_};
 ghost use mathlib.Core.List.{List};
 ghost use Prim.Native.Nat.{ℕ, _+_, _-_, _*_, _≤_, _<_, _^_};
@@ -14,7 +15,7 @@ ghost use Rattle.bitstream.specs.Answer.{asEnd};
 ghost use Rattle.setup.specs.Header.{loopLimits, setupHeader};
 ghost use Rattle.setup.specs.Answer.{TreesFilled};
 ghost use Rattle.setup.specs.Loaded.{emptySetup, asSetupRead};
-ghost use Rattle.setup.specs.Table.{setupOutcome, asSetupAnswer, tableAfter, isTable, Exactly, heldSetup};
+ghost use Rattle.setup.specs.Table.{setupOutcome, asSetupAnswer, tableAfter, isTable, LeftBySome, heldSetup};
 
 // A setup that was read: the loop limits, the quantization parameters, and the nodes of the trees, 64 for each.
 pub struct LoadedSetup {
@@ -25,7 +26,7 @@ pub struct LoadedSetup {
 
 // The place behind a header, and the setup that it says: all zero beside a refusal. (An enum may hold no array.)
 pub struct SetupRead {
-    pub place: Place,
+    pub place: End,
     pub setup: LoadedSetup,
 }
 
@@ -39,14 +40,14 @@ pub enum SetupAnswer {
 pub const TABLE_BYTES: usize = 28184;
 
 // The loop limits.
-fn read_limits(packet: &[u8], at: usize, limits: &mut [u16]) -> Place
-    requires { ⌜ (length (now packet) ≤ 2 ^ 58) × (length (now limits) ≡ 64) ⌝ }
+fn read_limits(packet: &[u8], at: usize, limits: &mut [u16]) -> End
+    requires { ⌜ (length (now packet) ≤ longest) × (length (now limits) ≡ 64) ⌝ }
     ensures { λ r. ⌜ r ≡ asEnd (loopLimits (now (packet .entry)) at) ⌝ }
     ensures { λ r. ⌜ Filled (loopLimits (now (packet .entry)) at) (now (limits .exit)) ⌝ }
 {
     let first = bitstream::read(packet, at, 3);
     match first {
-        Field::Refused(number, fault) => Place::Refused(number, fault),
+        Field::Refused(number, fault) => End::Refused(number, fault),
         Field::Got(value, next) => {
             let width = value as usize;
             quantization::read_fields(packet, next, width, limits)
@@ -55,8 +56,8 @@ fn read_limits(packet: &[u8], at: usize, limits: &mut [u16]) -> Place
 }
 
 // The 80 Huffman trees, 64 nodes each.
-fn read_trees(packet: &[u8], at: usize, nodes: &mut [u8]) -> Place
-    requires { ⌜ (length (now packet) ≤ 2 ^ 58) × (now nodes ≡ replicate 5120 0) ⌝ }
+fn read_trees(packet: &[u8], at: usize, nodes: &mut [u8]) -> End
+    requires { ⌜ (length (now packet) ≤ longest) × (now nodes ≡ replicate 5120 0) ⌝ }
     ensures { λ r. ⌜ r ≡ asEnd (many 80 huffmanTree (now (packet .entry)) at) ⌝ }
     ensures { λ r. ⌜ TreesFilled (many 80 huffmanTree (now (packet .entry)) at) (now (nodes .exit)) ⌝ }
 {
@@ -67,16 +68,16 @@ fn read_trees(packet: &[u8], at: usize, nodes: &mut [u8]) -> Place
         let end = start + 64;
         let one = huffman::read_tree(packet, place, &mut nodes[start..end]);
         match one {
-            Place::Refused(number, fault) => {
-                return Place::Refused(number, fault);
+            End::Refused(number, fault) => {
+                return End::Refused(number, fault);
             }
-            Place::At(next) => {
+            End::At(next) => {
                 place = next;
             }
         }
         k += 1;
     }
-    Place::At(place)
+    End::At(place)
 }
 
 // No setup.
@@ -106,30 +107,30 @@ fn not_read(number: u32, fault: usize) -> SetupRead
 {
     let setup = empty();
     SetupRead {
-        place: Place::Refused(number, fault),
+        place: End::Refused(number, fault),
         setup,
     }
 }
 
 // The whole header of a packet. The base matrices stay in the packet.
 fn load(packet: &[u8]) -> SetupRead
-    requires { ⌜ length (now packet) ≤ 2 ^ 58 ⌝ }
+    requires { ⌜ length (now packet) ≤ longest ⌝ }
     ensures { λ r. ⌜ r ≡ asSetupRead (setupHeader (now (packet .entry)) 0) ⌝ }
 {
     let head = headers::read_common_header(packet, 0, 0x82);
     let a = match head {
-        Place::Refused(number, fault) => {
+        End::Refused(number, fault) => {
             return not_read(number, fault);
         }
-        Place::At(place) => place,
+        End::At(place) => place,
     };
     let mut limits = [0u16; 64];
     let first = read_limits(packet, a, &mut limits);
     let b = match first {
-        Place::Refused(number, fault) => {
+        End::Refused(number, fault) => {
             return not_read(number, fault);
         }
-        Place::At(place) => place,
+        End::At(place) => place,
     };
     let mut ac_scale = [0u16; 64];
     let mut dc_scale = [0u16; 64];
@@ -149,8 +150,8 @@ fn load(packet: &[u8]) -> SetupRead
             let mut nodes = [0u8; 5120];
             let third = read_trees(packet, c, &mut nodes);
             match third {
-                Place::Refused(number, fault) => not_read(number, fault),
-                Place::At(end) => {
+                End::Refused(number, fault) => not_read(number, fault),
+                End::At(end) => {
                     let parameters = LoadedParameters {
                         place,
                         ac_scale,
@@ -164,7 +165,7 @@ fn load(packet: &[u8]) -> SetupRead
                         nodes,
                     };
                     SetupRead {
-                        place: Place::At(end),
+                        place: End::At(end),
                         setup,
                     }
                 }
@@ -179,15 +180,15 @@ pub fn setup(packet: &[u8], table: &mut [u8]) -> SetupAnswer
     ensures { λ r. ⌜ now (table .exit) ≡ tableAfter (now (table .entry)) (now (packet .entry)) ⌝ }
 {
     if table.len() != TABLE_BYTES {
-        return SetupAnswer::Refused(1, 0);
+        return SetupAnswer::Refused(bitstream::WRONG_LENGTH, 0);
     }
     let answer = scan(bitstream::readable(packet));
     match answer {
-        Place::Refused(number, fault) => {
+        End::Refused(number, fault) => {
             table_memory::clear(table);
             SetupAnswer::Refused(number, fault)
         }
-        Place::At(end) => {
+        End::At(end) => {
             table_memory::keep(packet, end, table);
             SetupAnswer::Accepted
         }
@@ -195,8 +196,8 @@ pub fn setup(packet: &[u8], table: &mut [u8]) -> SetupAnswer
 }
 
 // The header of a packet: what the packet says is not wanted any further.
-fn scan(packet: &[u8]) -> Place
-    requires { ⌜ length (now packet) ≤ 2 ^ 58 ⌝ }
+fn scan(packet: &[u8]) -> End
+    requires { ⌜ length (now packet) ≤ longest ⌝ }
     ensures { λ r. ⌜ r ≡ asEnd (setupHeader (now (packet .entry)) 0) ⌝ }
 {
     let read = load(packet);
@@ -213,8 +214,8 @@ pub fn load_table(table: &[u8]) -> SetupRead
     let read = load(table);
     let place = read.place;
     match place {
-        Place::Refused(_, _) => not_read(8, 0),
-        Place::At(end) => {
+        End::Refused(_, _) => not_read(8, 0),
+        End::At(end) => {
             if table_memory::rest_is_zero(table, end) {
                 return read;
             }
@@ -226,13 +227,13 @@ pub fn load_table(table: &[u8]) -> SetupRead
 // Whether a table memory is what an accepted setup packet leaves.
 pub fn table_is_genuine(table: &[u8]) -> bool
     ensures { λ r. ⌜ r ≡ isTable (now (table .entry)) ⌝ }
-    ensures { λ r. ⌜ Exactly r (now (table .entry)) ⌝ }
+    ensures { λ r. ⌜ LeftBySome r (now (table .entry)) ⌝ }
 {
     if table.len() != TABLE_BYTES {
         return false;
     }
     match scan(table) {
-        Place::Refused(_, _) => false,
-        Place::At(end) => table_memory::rest_is_zero(table, end),
+        End::Refused(_, _) => false,
+        End::At(end) => table_memory::rest_is_zero(table, end),
     }
 }

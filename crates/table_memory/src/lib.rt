@@ -3,7 +3,7 @@ ghost use mathlib.Core.Path.{_≡_};
 ghost use mathlib.Core.List.{_++_};
 ghost use Prim.Native.Nat.{ℕ, _/_, _≤_, _^_};
 ghost use lib.ListN.{length, take, drop, replicate};
-ghost use Rattle.bitstream.specs.Bits.{bits};
+ghost use Rattle.bitstream.specs.Bits.{bits, longest};
 ghost use Rattle.table_memory.specs.Kept.{keptByte, kept, clearFrom};
 
 // Sets every byte to 0.
@@ -44,7 +44,7 @@ fn part_byte(packet: &[u8], end: usize) -> u8
 
 // The packet's first `end` bits, then zeros: whole bytes are copied, of one byte a part is kept.
 pub fn keep(packet: &[u8], end: usize, table: &mut [u8])
-    requires { ⌜ (end ≤ bits (now packet)) × (length (now table) ≤ 2 ^ 58) ⌝ }
+    requires { ⌜ (end ≤ bits (now packet)) × (length (now table) ≤ longest) ⌝ }
     ensures { λ _. ⌜ now (table .exit) ≡ kept (now (packet .entry)) end (length (now (table .entry))) ⌝ }
 {
     let size = table.len();
@@ -60,7 +60,7 @@ pub fn keep(packet: &[u8], end: usize, table: &mut [u8])
 
 // Whether every bit from the place `end` on is 0: the rest of its byte, and then all further bytes in one sweep.
 pub fn rest_is_zero(table: &[u8], end: usize) -> bool
-    requires { ⌜ length (now table) ≤ 2 ^ 58 ⌝ }
+    requires { ⌜ length (now table) ≤ longest ⌝ }
     ensures { λ r. ⌜ r ≡ clearFrom (now (table .entry)) end ⌝ }
 {
     if table.len() * 8 <= end {

@@ -13,7 +13,7 @@ use Rattle.work_memory.specs.Memory.{Memory}
 use Rattle.reading.specs.Answer.{read, answerFor}
 use Rattle.decoding.specs.Answer.{State, Done, state, done, decoded}
 use Rattle.reading.proofs.Readable.{read-readable}
-use Rattle.theora.specs.Call.{Call, call, lengthsHold, said, memoryAfter, byRules}
+use Rattle.theora.specs.Call.{Call, call, lengthsHold, outcomeOf, memoryAfter, byRules}
 
 module _ (s : Session) (golden previous packet table new : List ℕ) (m : Memory) where
   abbrev st : State
@@ -23,13 +23,13 @@ module _ (s : Session) (golden previous packet table new : List ℕ) (m : Memory
   c = call packet table m new
 
   pub call-8 : sessionFits s ≡ false → (a : FrameAnswer) → a ≡ answerFor s (refused 8 0) → done a new m ≡ byRules firstWay st c
-  unfolding byRules said memoryAfter
+  unfolding byRules outcomeOf memoryAfter
   call-8 h a e = rw h (ap (λ (a : FrameAnswer). done a new m) e)
 
   pub call-1 : sessionFits s ≡ true → lengthsHold st c ≡ false → (a : FrameAnswer) → a ≡ answerFor s (refused 1 0) → done a new m ≡ byRules firstWay st c
-  unfolding byRules said memoryAfter
+  unfolding byRules outcomeOf memoryAfter
   call-1 h l a e = rw (h, l) (ap (λ (a : FrameAnswer). done a new m) e)
 
   pub call-decoded : sessionFits s ≡ true → lengthsHold st c ≡ true → (d : Done) → d ≡ decoded firstWay st new (read s table (readable packet)) → d ≡ byRules firstWay st c
-  unfolding byRules said memoryAfter
+  unfolding byRules outcomeOf memoryAfter
   call-decoded h l d e = rw (h, l) (e ∙ ap (decoded firstWay st new) (read-readable s h table packet))

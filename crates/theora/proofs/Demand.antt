@@ -18,7 +18,7 @@ use Rattle.headers.specs.Sizes.{format}
 use Rattle.work_memory.specs.Lengths.{blocks}
 use Rattle.reading.specs.Answer.{Asked, read, answerFor}
 use Rattle.decoding.specs.Answer.{State, Done, done, picture, newBy, state}
-use Rattle.theora.specs.Call.{Call, lengthsHold, said, memoryAfter, byRules, FramePromise}
+use Rattle.theora.specs.Call.{Call, lengthsHold, outcomeOf, memoryAfter, byRules, FramePromise}
 use Rattle.theora.proofs.Lengths.{lent-lengths}
 use Rattle.theora.specs.Demand.{Turn, turn, turns, Ran, UncodedKept, Demand3, Demand3Holds}
 
@@ -29,24 +29,24 @@ passed true false o h = let z : _≡_ {A = ℕ} 0 1 = cc in absurd (omega arith)
 passed false b o h = let z : _≡_ {A = ℕ} 0 1 = cc in absurd (omega arith)
 
 -- previous has the length of a frame where a call is accepted
-said-sized : (st : State) (c : Call) {a : Asked} {e : ℕ} → said st c ≡ got a e → length (st .previous) ≡ 64 * blocks (st .session)
-unfolding said
-said-sized st c h =
+outcome-sized : (st : State) (c : Call) {a : Asked} {e : ℕ} → outcomeOf st c ≡ got a e → length (st .previous) ≡ 64 * blocks (st .session)
+unfolding outcomeOf
+outcome-sized st c h =
     let s = st .session in
     lent-lengths s (st .golden) (st .previous) (c .new) (c .table) (c .memory) (passed (sessionFits s) (lengthsHold st c) (read s (c .table) (c .packet)) h) .1
 
 -- one call: the two ways leave the same
-new-agrees : (st : State) (c : Call) (o : Outcome Asked) → said st c ≡ o → newBy firstWay st (c .new) o ≡ newBy secondWay st (c .new) o
+new-agrees : (st : State) (c : Call) (o : Outcome Asked) → outcomeOf st c ≡ o → newBy firstWay st (c .new) o ≡ newBy secondWay st (c .new) o
 new-agrees st c (refused k e) h = refl
 new-agrees st c (got a e) h =
     let s = st .session in
-    ways-agree (format s) (s .fields .fmbw) (s .fields .fmbh) (picture s a (st .golden) (st .previous)) (st .previous) (said-sized st c h)
+    ways-agree (format s) (s .fields .fmbw) (s .fields .fmbh) (picture s a (st .golden) (st .previous)) (st .previous) (outcome-sized st c h)
 
 pub call-agrees : (st : State) (c : Call) → byRules firstWay st c ≡ byRules secondWay st c
 unfolding byRules
 call-agrees st c =
-    let same = new-agrees st c (said st c) refl in
-    λ i. done (answerFor (st .session) (said st c)) (same i) (memoryAfter st c)
+    let same = new-agrees st c (outcomeOf st c) refl in
+    λ i. done (answerFor (st .session) (outcomeOf st c)) (same i) (memoryAfter st c)
 
 -- all calls
 all-agree : byRules firstWay ≡ byRules secondWay
@@ -71,13 +71,13 @@ each-turn does st (c ∷ cs) t (inr m) = each-turn does (turn st c (does st c) .
 
 kept : (t : Turn) → t .done ≡ byRules firstWay (t .before) (t .call) → UncodedKept t
 unfolding UncodedKept byRules
-kept t done a e said-so b c r inside hc hr uncoded differs =
+kept t done a e outcome-so b c r inside hc hr uncoded differs =
     let st = t .before in
     let s = st .session in
     let pic = picture s a (st .golden) (st .previous) in
-    let len = said-sized st (t .call) said-so in
+    let len = outcome-sized st (t .call) outcome-so in
     let new : t .done .new ≡ secondWay (format s) (s .fields .fmbw) (s .fields .fmbh) pic (st .previous)
-    = ap (λ (d : Done). d .new) done ∙ ap (λ (o : Outcome Asked). newBy firstWay st (t .call .new) o) said-so ∙ ways-agree (format s) (s .fields .fmbw) (s .fields .fmbh) pic (st .previous) len in
+    = ap (λ (d : Done). d .new) done ∙ ap (λ (o : Outcome Asked). newBy firstWay st (t .call .new) o) outcome-so ∙ ways-agree (format s) (s .fields .fmbw) (s .fields .fmbh) pic (st .previous) len in
     differs-along (format s) (s .fields .fmbw) (s .fields .fmbh) pic (st .previous) len b c r inside hc hr uncoded
     (λ same. differs (ap (λ (l : List ℕ). getD l (sampleAt (format s) (s .fields .fmbw) (s .fields .fmbh) b c r) 0) new ∙ same))
 

@@ -20,10 +20,10 @@ use Rattle.reading.specs.Counted.{Uncounted}
 use Rattle.reading.proofs.Places.{read-refused}
 use Rattle.reading.proofs.Counted.{fits-after}
 use Rattle.decoding.specs.Answer.{Way, State}
-use Rattle.theora.specs.Call.{Call, lengthsHold, said, byRules}
+use Rattle.theora.specs.Call.{Call, lengthsHold, outcomeOf, byRules}
 use Rattle.theora.specs.Demand.{handedOn, turn, turns}
 use Rattle.theora.specs.KeyFrames.{keyFrameAfter, otherAfter, keyFrames, othersSince, sessionBehind, BothStart, NumbersCount, SessionsFit, SeventeenExactly}
-use Rattle.theora.proofs.Tokens.{said-got}
+use Rattle.theora.proofs.Tokens.{outcome-got}
 
 pub both-start : BothStart
 both-start p s e h = let a = accepted-fits p 0 h in (a .2, a .3)
@@ -66,7 +66,7 @@ module _ (way : Way) where
   abbrev next : State → Call → State
   next st c = turn st c (byRules way st c) .after
 
-  next-session : (st : State) (c : Call) → next st c .session ≡ answerFor (st .session) (said st c) .session
+  next-session : (st : State) (c : Call) → next st c .session ≡ answerFor (st .session) (outcomeOf st c) .session
   unfolding byRules
   next-session st c = let d = byRules way st c in after-session st (d .answer .verdict) (d .answer .header .kind) (d .answer .session) (d .new)
 
@@ -75,20 +75,20 @@ module _ (way : Way) where
   keys st [] = refl
   keys st (c ∷ cs) =
       keys (next st c) cs
-      ∙ ap (λ (n : ℕ). keyFrames n (turns (byRules way) (next st c) cs)) (ap (λ (s : Session). s .«key_frames») (next-session st c) ∙ answer-key (st .session) (said st c))
+      ∙ ap (λ (n : ℕ). keyFrames n (turns (byRules way) (next st c) cs)) (ap (λ (s : Session). s .«key_frames») (next-session st c) ∙ answer-key (st .session) (outcomeOf st c))
 
   others : (st : State) (calls : List Call) → sessionBehind (st .session) (turns (byRules way) st calls) .others ≡ othersSince (st .session .others) (turns (byRules way) st calls)
   unfolding turns sessionBehind othersSince byRules
   others st [] = refl
   others st (c ∷ cs) =
       others (next st c) cs
-      ∙ ap (λ (n : ℕ). othersSince n (turns (byRules way) (next st c) cs)) (ap (λ (s : Session). s .others) (next-session st c) ∙ answer-other (st .session) (said st c))
+      ∙ ap (λ (n : ℕ). othersSince n (turns (byRules way) (next st c) cs)) (ap (λ (s : Session). s .others) (next-session st c) ∙ answer-other (st .session) (outcomeOf st c))
 
   fits : (st : State) (calls : List Call) → sessionFits (st .session) ≡ true → sessionFits (sessionBehind (st .session) (turns (byRules way) st calls)) ≡ true
   unfolding turns sessionBehind
   fits st [] h = h
   fits st (c ∷ cs) h =
-      fits (next st c) cs (ap sessionFits (next-session st c) ∙ answer-fits (st .session) (said st c) h (λ a e r. said-got st c r .1))
+      fits (next st c) cs (ap sessionFits (next-session st c) ∙ answer-fits (st .session) (outcomeOf st c) h (λ a e r. outcome-got st c r .1))
 
 pub numbers-count : NumbersCount
 numbers-count way st calls = (keys way st calls, others way st calls)
@@ -101,12 +101,12 @@ module _ (st : State) (c : Call) where
   abbrev Found : Type 0
   Found = (sessionFits (st .session) ≡ true) × (lengthsHold st c ≡ true) × Uncounted (st .session) (c .table) (c .packet)
 
-  given-17 : Found → said st c ≡ refused 17 0
-  unfolding said read
+  given-17 : Found → outcomeOf st c ≡ refused 17 0
+  unfolding outcomeOf read
   given-17 (f, l, u) = rw (f, l, u .held, u .reads, u .passed)
 
-  found-17 : (e : ℕ) → said st c ≡ refused 17 e → Found
-  unfolding said among
+  found-17 : (e : ℕ) → outcomeOf st c ≡ refused 17 e → Found
+  unfolding outcomeOf among
   found-17 e r = go (sessionFits (st .session)) (lengthsHold st c) refl refl r
     where
       within : among packetNumbers 17 ≡ true → Found

@@ -14,7 +14,7 @@ use Rattle.setup.specs.Header.{Setup, setupHeader}
 use Rattle.setup.specs.Table.{tableBytes, setupOutcome, tableAfter, isTable, heldSetup}
 use Rattle.setup.proofs.Laws.{exact, accepted-table, accepted-reads}
 use Rattle.reading.specs.Answer.{read, readBy}
-use Rattle.theora.specs.Call.{said}
+use Rattle.theora.specs.Call.{outcomeOf}
 use Rattle.theora.specs.LeftBySetup.{SetupLeaves, LeftBySetup, TablesJudged}
 
 -- a setup call that is accepted
@@ -43,7 +43,7 @@ module _ (old packet : List ℕ) {s : Setup} {e : ℕ} (h : setupOutcome (length
   held = rw (accepted-table old packet (both .0) (both .1)) (accepted-reads old packet (both .0) (both .1))
 
 pub tables-judged : TablesJudged
-unfolding said read heldSetup
+unfolding outcomeOf read heldSetup
 tables-judged st c fits lengths bytes = record {
   none-left = λ none. rw (fits, lengths) (go none (isTable (c .table)) refl);
   some-left = λ packet old s l.

@@ -9,7 +9,8 @@ use lib.ListN.{length}
 use borrow.Author.Tests.{eqb-true}
 use Rattle.headers.specs.declared.Session.{Session}
 use Rattle.headers.specs.Fits.{sessionFits}
-use Rattle.headers.proofs.Fitting.{all-at, and-both}
+use Rattle.bitstream.proofs.ListLaws.{and-both}
+use Rattle.headers.proofs.Fitting.{all-at}
 use Rattle.setup.specs.Table.{tableBytes}
 use Rattle.work_memory.specs.declared.WorkLengths.{WorkLengths}
 use Rattle.work_memory.specs.Memory.{Memory}

@@ -22,11 +22,11 @@ use Rattle.setup.specs.Header.{Setup, setupHeader}
 use Rattle.setup.specs.Table.{tableBytes, setupOutcome, leftBy, tableAfter, heldSetup}
 use Rattle.setup.proofs.Laws.{setup-lawful}
 use Rattle.frame_header.specs.Header.{frameType, moreQis, qiList, reserved, kindOf, frameHeader}
-use Rattle.frame_packet.specs.Frame.{Frame, frame, framePacket, repeated}
+use Rattle.frame_packet.specs.Frame.{Frame, frame, framePacket, repeatFrame}
 use Rattle.frame_packet.proofs.Laws.{frame-lawful, packet-some}
 use Rattle.reading.specs.Answer.{Asked, counted, readBy, read, answerFor}
 use Rattle.decoding.specs.Answer.{State, Done, Way, done, newBy}
-use Rattle.theora.specs.Call.{Call, call, lengthsHold, said, memoryAfter, byRules}
+use Rattle.theora.specs.Call.{Call, call, lengthsHold, outcomeOf, memoryAfter, byRules}
 use Rattle.theora.specs.Demand.{Turn, turn, turns}
 use Rattle.theora.specs.Padding.{Settled, withMore, SettledCall, Padding, paddedBy, AllSettled, Left, leftIn, ListsPadded, PaddingHolds}
 
@@ -85,9 +85,9 @@ module _ (more : List ℕ) where
         go (got setup e) h = packet-more setup h
         go (refused k e) h = refl
 
-  said-more : (st : State) (c : Call) → SettledCall st c → said st (withMore more c) ≡ said st c
-  unfolding said
-  said-more st c (some, h) = go (sessionFits (st .session)) (lengthsHold st c) h
+  outcome-more : (st : State) (c : Call) → SettledCall st c → outcomeOf st (withMore more c) ≡ outcomeOf st c
+  unfolding outcomeOf
+  outcome-more st c (some, h) = go (sessionFits (st .session)) (lengthsHold st c) h
     where
       go : (a b : Bool) → Settled (choose a (choose b (read (st .session) (c .table) (c .packet)) (refused 1 0)) (refused 8 0))
           → choose a (choose b (read (st .session) (c .table) (c .packet ++ more)) (refused 1 0)) (refused 8 0) ≡ choose a (choose b (read (st .session) (c .table) (c .packet)) (refused 1 0)) (refused 8 0)
@@ -98,7 +98,7 @@ module _ (more : List ℕ) where
   frame-more : (way : Way) (st : State) (c : Call) → SettledCall st c → byRules way st (withMore more c) ≡ byRules way st c
   unfolding byRules memoryAfter
   frame-more way st c h =
-      ap (λ (o : Outcome Asked). done (answerFor (st .session) o) (newBy way st (c .new) o) (memoryAfter st c)) (said-more st c h)
+      ap (λ (o : Outcome Asked). done (answerFor (st .session) o) (newBy way st (c .new) o) (memoryAfter st c)) (outcome-more st c h)
 
 -- ---- lists of calls
 lists-padded : ListsPadded
@@ -125,7 +125,7 @@ padding-holds = (
 
 -- ---- why the exceptions are needed
 -- "nor for an empty packet, because it means a repeat": with a byte of zeros behind it an intra frame begins, which the packet's end cuts
-empty-repeats : framePacket Chroma420 1 1 [] true [] ≡ got (repeated Chroma420 1 1) 0
+empty-repeats : framePacket Chroma420 1 1 [] true [] ≡ got (repeatFrame Chroma420 1 1) 0
 unfolding framePacket
 empty-repeats = refl
 

@@ -20,7 +20,7 @@ use Rattle.frame_packet.proofs.Laws.{packetNumbers, packet-inside, packet-refus
 use Rattle.reading.specs.Answer.{Asked, read}
 use Rattle.reading.proofs.Places.{read-refused}
 use Rattle.decoding.specs.Answer.{State}
-use Rattle.theora.specs.Call.{Call, lengthsHold, said}
+use Rattle.theora.specs.Call.{Call, lengthsHold, outcomeOf}
 use Rattle.theora.specs.Places.{insideNumbers, Placed, Places}
 
 -- each number of a list is one of m
@@ -54,8 +54,8 @@ setup-placed room p k e r = go (eqb room tableBytes) r
     go true q = inside-placed p (1 ∷ []) (place-inside setup-inside p k e q) (among-in insideNumbers (2 ∷ 4 ∷ 7 ∷ []) k (refl, (refl, (refl, tt))) (setup-refuses .by p 0 k e q))
     go false q = let z : 1 ≡ k = cc in let y : 0 ≡ e = cc in placeless p (1 ∷ []) y (rw (← z) refl)
 
-frame-placed : (st : State) (c : Call) (k e : ℕ) → said st c ≡ refused k e → Placed (c .packet) (1 ∷ 8 ∷ 17 ∷ []) k e
-unfolding said among
+frame-placed : (st : State) (c : Call) (k e : ℕ) → outcomeOf st c ≡ refused k e → Placed (c .packet) (1 ∷ 8 ∷ 17 ∷ []) k e
+unfolding outcomeOf among
 frame-placed st c k e r = go (sessionFits (st .session)) (lengthsHold st c) r
   where
     by-number : (n : ℕ) → among (1 ∷ 8 ∷ 17 ∷ []) n ≡ true → n ≡ k → 0 ≡ e → Placed (c .packet) (1 ∷ 8 ∷ 17 ∷ []) k e

@@ -13,16 +13,16 @@ use Rattle.frame_packet.proofs.Fits.{packet-repeat}
 use Rattle.frame_packet.proofs.Examples.{ones-all}
 use Rattle.reading.specs.declared.FrameAnswer.{FrameAnswer}
 use Rattle.reading.specs.Answer.{Asked, staysCounted, read, answerFor}
-use Rattle.reading.proofs.Places.{said-by, read-got}
+use Rattle.reading.proofs.Places.{outcome-by, read-got}
 use Rattle.decoding.specs.Answer.{State}
-use Rattle.theora.specs.Call.{Call, lengthsHold, said, byRules}
+use Rattle.theora.specs.Call.{Call, lengthsHold, outcomeOf, byRules}
 use Rattle.theora.specs.Tokens.{TokensOf, TokensCounted, TokensReached}
 
 -- an accepted call read its packet, and the session's numbers stay
-pub said-got : (st : State) (c : Call) {a : Asked} {e : ℕ} → said st c ≡ got a e
-    → (said-by (st .session) (c .packet) (a .setup) ≡ got (a .frame) e) × (staysCounted (a .frame .header .kind) (st .session) ≡ true)
-unfolding said
-said-got st c {a} {e} r = read-got (st .session) (c .packet) (c .table) (go (sessionFits (st .session)) (lengthsHold st c) r)
+pub outcome-got : (st : State) (c : Call) {a : Asked} {e : ℕ} → outcomeOf st c ≡ got a e
+    → (outcome-by (st .session) (c .packet) (a .setup) ≡ got (a .frame) e) × (staysCounted (a .frame .header .kind) (st .session) ≡ true)
+unfolding outcomeOf
+outcome-got st c {a} {e} r = read-got (st .session) (c .packet) (c .table) (go (sessionFits (st .session)) (lengthsHold st c) r)
   where
     go : (b d : Bool) → choose b (choose d (read (st .session) (c .table) (c .packet)) (refused 1 0)) (refused 8 0) ≡ got a e → read (st .session) (c .table) (c .packet) ≡ got a e
     go true true q = q
@@ -33,7 +33,7 @@ pub tokens-counted : TokensCounted
 unfolding byRules
 tokens-counted st c a e r =
     let s = st .session in
-    let p = said-got st c r .0 in
+    let p = outcome-got st c r .0 in
     let f = packet-fits (format s) (s .fields .fmbw) (s .fields .fmbh) (a .setup .trees) (s .references) (c .packet) p in
     record {
       answered = λ way. ap (λ (o : Outcome Asked). answerFor (st .session) o .verdict) r;

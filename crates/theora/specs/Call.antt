@@ -4,6 +4,7 @@ use mathlib.Core.Path.{_≡_}
 use mathlib.Core.Bool.{Bool, _&&_}
 use mathlib.Core.List.{List}
 use Rattle.bitstream.specs.Reading.{Outcome, refused, choose}
+use Rattle.bitstream.specs.Numbers.{wrongLength, notGenuine}
 use Rattle.headers.specs.Fits.{sessionFits}
 use Rattle.ways.specs.Ways.{firstWay}
 use Rattle.work_memory.specs.Memory.{Memory}
@@ -28,11 +29,11 @@ abbrev pub lengthsHold : State → Call → Bool
 lengthsHold st c = buffersFit (blocks (st .session)) (st .golden) (st .previous) (c .new) (c .table) && lengthsFit (lengthsOf (st .session)) (c .memory)
 
 -- "Frame: that" (the identification part of 8), "then 1, the rest of 8, then the packet"
-unfoldable pub said : State → Call → Outcome Asked
-said st c =
+unfoldable pub outcomeOf : State → Call → Outcome Asked
+outcomeOf st c =
     choose (sessionFits (st .session))
-    (choose (lengthsHold st c) (read (st .session) (c .table) (c .packet)) (refused 1 0))
-    (refused 8 0)
+    (choose (lengthsHold st c) (read (st .session) (c .table) (c .packet)) (refused wrongLength 0))
+    (refused notGenuine 0)
 
 -- ---- what a call leaves
 -- both tests before table memory is looked at
@@ -45,7 +46,7 @@ memoryAfter st c = choose (pastLengths st c) (cleared (lengthsOf (st .session)))
 
 -- a frame call by a way
 unfoldable pub byRules : Way → State → Call → Done
-byRules way st c = done (answerFor (st .session) (said st c)) (newBy way st (c .new) (said st c)) (memoryAfter st c)
+byRules way st c = done (answerFor (st .session) (outcomeOf st c)) (newBy way st (c .new) (outcomeOf st c)) (memoryAfter st c)
 
 -- what `theora::frame` promises: the answer, new and work memory are, to the byte, what going over all blocks gives
 abbrev pub FramePromise : State → Call → Done → Type 0

@@ -20,7 +20,7 @@ use Rattle.reading.specs.declared.Verdict.the-variants.{Accepted, Refused}
 use Rattle.headers.specs.Sizes.{format}
 use Rattle.reading.specs.Answer.{Asked}
 use Rattle.decoding.specs.Answer.{State, Done, state, picture}
-use Rattle.theora.specs.Call.{Call, said, byRules, FramePromise}
+use Rattle.theora.specs.Call.{Call, outcomeOf, byRules, FramePromise}
 
 -- "After an accepted intra frame new becomes golden and previous, after another accepted packet previous; after a refusal all stay"
 abbrev pub handedOn : State → Verdict → Kind → Session → List ℕ → State
@@ -57,7 +57,7 @@ unfoldable pub UncodedKept : Turn → Type 0
 UncodedKept t =
     let st = t .before in
     let s = st .session in
-    (a : Asked) (e : ℕ) → said st (t .call) ≡ got a e
+    (a : Asked) (e : ℕ) → outcomeOf st (t .call) ≡ got a e
     → let pic = picture s a (st .golden) (st .previous) in
     (b : Block) (c r : ℕ) → InFrame (format s) (s .fields .fmbw) (s .fields .fmbh) b → c < 8 → r < 8 → pic .coded b ≡ false
     → let at = sampleAt (format s) (s .fields .fmbw) (s .fields .fmbh) b c r in

@@ -4,6 +4,7 @@ use mathlib.Core.Path.{_≡_}
 use mathlib.Core.Bool.{true}
 use mathlib.Core.List.{List, [], _∷_}
 use Rattle.bitstream.specs.Reading.{got, refused}
+use Rattle.bitstream.specs.Numbers.{uncounted}
 use Rattle.headers.specs.declared.Session.{Session}
 use Rattle.headers.specs.Fits.{sessionFits}
 use Rattle.headers.specs.Identification.{identification}
@@ -13,7 +14,7 @@ use Rattle.reading.specs.declared.Verdict.{Verdict}
 use Rattle.reading.specs.declared.Verdict.the-variants.{Accepted, Refused}
 use Rattle.reading.specs.Counted.{Uncounted}
 use Rattle.decoding.specs.Answer.{Way, State}
-use Rattle.theora.specs.Call.{Call, lengthsHold, said, byRules}
+use Rattle.theora.specs.Call.{Call, lengthsHold, outcomeOf, byRules}
 use Rattle.theora.specs.Demand.{Turn, turns}
 
 -- ---- counting
@@ -61,5 +62,5 @@ SessionsFit = (way : Way) (st : State) (calls : List Call) → sessionFits (st .
 -- ---- 17 exactly where everything else passes, and a number would not stay
 abbrev pub SeventeenExactly : Type 0
 SeventeenExactly = (st : State) (c : Call)
-    → ((sessionFits (st .session) ≡ true) × (lengthsHold st c ≡ true) × Uncounted (st .session) (c .table) (c .packet) → said st c ≡ refused 17 0)
-    × ((e : ℕ) → said st c ≡ refused 17 e → (sessionFits (st .session) ≡ true) × (lengthsHold st c ≡ true) × Uncounted (st .session) (c .table) (c .packet))
+    → ((sessionFits (st .session) ≡ true) × (lengthsHold st c ≡ true) × Uncounted (st .session) (c .table) (c .packet) → outcomeOf st c ≡ refused uncounted 0)
+    × ((e : ℕ) → outcomeOf st c ≡ refused uncounted e → (sessionFits (st .session) ≡ true) × (lengthsHold st c ≡ true) × Uncounted (st .session) (c .table) (c .packet))

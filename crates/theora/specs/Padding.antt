@@ -7,7 +7,7 @@ use Rattle.bitstream.specs.Reading.{Outcome, got, refused}
 use Rattle.headers.specs.Identification.{identification}
 use Rattle.setup.specs.Table.{setupOutcome, tableAfter}
 use Rattle.decoding.specs.Answer.{State, Done, Way}
-use Rattle.theora.specs.Call.{Call, call, said, byRules, FramePromise}
+use Rattle.theora.specs.Call.{Call, call, outcomeOf, byRules, FramePromise}
 use Rattle.theora.specs.Demand.{Turn, turns}
 
 -- accepted, or refused by a number other than 4: "Nothing is promised for refusal 4"
@@ -21,7 +21,7 @@ withMore more c = call (c .packet ++ more) (c .table) (c .memory) (c .new)
 
 -- a call of which padding is promised to change nothing: "every packet with at least one byte"
 abbrev pub SettledCall : State → Call → Type 0
-SettledCall st c = (1 ≤ length (c .packet)) × Settled (said st c)
+SettledCall st c = (1 ≤ length (c .packet)) × Settled (outcomeOf st c)
 
 -- "if it is accepted, then with any bytes after it the answer, planes, tables and session are the same. If it is refused by a number other than 4, .. the same number and place"
 pub record Padding (more : List ℕ) : Type 0 where

@@ -9,7 +9,7 @@ use Rattle.bitstream.specs.Reading.{refused}
 use Rattle.headers.specs.Identification.{identification}
 use Rattle.setup.specs.Table.{setupOutcome}
 use Rattle.decoding.specs.Answer.{State}
-use Rattle.theora.specs.Call.{Call, said}
+use Rattle.theora.specs.Call.{Call, outcomeOf}
 
 -- "each refusal found inside a packet (2 to 7 and 9 to 13)"
 abbrev pub insideNumbers : List ℕ
@@ -25,4 +25,4 @@ pub record Placed (packet : List ℕ) (others : List ℕ) (k e : ℕ) : Type 0 w
 pub record Places : Type 0 where
   pub of-identification : (p : List ℕ) (k e : ℕ) → identification p 0 ≡ refused k e → Placed p [] k e
   pub of-setup : (room : ℕ) (p : List ℕ) (k e : ℕ) → setupOutcome room p ≡ refused k e → Placed p (1 ∷ []) k e
-  pub of-frame : (st : State) (c : Call) (k e : ℕ) → said st c ≡ refused k e → Placed (c .packet) (1 ∷ 8 ∷ 17 ∷ []) k e
+  pub of-frame : (st : State) (c : Call) (k e : ℕ) → outcomeOf st c ≡ refused k e → Placed (c .packet) (1 ∷ 8 ∷ 17 ∷ []) k e

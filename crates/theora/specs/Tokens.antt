@@ -12,7 +12,7 @@ use Rattle.work_memory.specs.Lengths.{blocks}
 use Rattle.reading.specs.declared.Verdict.the-variants.{Accepted}
 use Rattle.reading.specs.Answer.{Asked}
 use Rattle.decoding.specs.Answer.{Way, State}
-use Rattle.theora.specs.Call.{Call, said, byRules}
+use Rattle.theora.specs.Call.{Call, outcomeOf, byRules}
 
 -- what is said of an accepted call, of which a is what its packet says
 pub record TokensOf (st : State) (c : Call) (a : Asked) : Type 0 where
@@ -25,7 +25,7 @@ pub record TokensOf (st : State) (c : Call) (a : Asked) : Type 0 where
   pub none : c .packet ≡ [] → a .frame .body .tokens .tokens ≡ 0
 
 abbrev pub TokensCounted : Type 0
-TokensCounted = (st : State) (c : Call) (a : Asked) (e : ℕ) → said st c ≡ got a e → TokensOf st c a
+TokensCounted = (st : State) (c : Call) (a : Asked) (e : ℕ) → outcomeOf st c ≡ got a e → TokensOf st c a
 
 -- the bound is reached: four bytes, with trees that are lone leaves of the token 9 (the value 1), and 64 tokens for each of the 6 blocks. So work is bounded by the frame and not by the packet
 abbrev pub TokensReached : Type 0

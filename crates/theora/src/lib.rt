@@ -51,7 +51,7 @@ pub fn work_lengths(s: Session) -> WorkAnswer
     if headers::session_fits(s) {
         return WorkAnswer::Is(work_memory::lengths_of(s));
     }
-    WorkAnswer::Refused(8)
+    WorkAnswer::Refused(bitstream::NOT_GENUINE)
 }
 
 // Whether the buffers for frames of n blocks, and table memory, have their lengths.

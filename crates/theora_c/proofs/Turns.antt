@@ -12,7 +12,7 @@ use Rattle.reading.specs.declared.Verdict.{Verdict}
 use Rattle.reading.specs.declared.Verdict.the-variants.{Accepted, Refused}
 use Rattle.reading.specs.Answer.{Asked, answerFor}
 use Rattle.decoding.specs.Answer.{State, Done}
-use Rattle.theora.specs.Call.{Call, said, byRules}
+use Rattle.theora.specs.Call.{Call, outcomeOf, byRules}
 use Rattle.theora.specs.Demand.{turn, turns}
 use Rattle.theora.proofs.KeyFrames.{after-session}
 use Rattle.theora_c.specs.Face.{sessionOf, listsNumber, referenceNumber, verdictReturned, FrameReturned, stateOf, doneReturned, frameCall}
@@ -52,7 +52,7 @@ module _ (l golden previous : List ℕ) (h : length l ≡ 19) (c : FaceCall) (k 
   list-says : sessionOf (r .answered .lent) ≡ turn st (c .rules) d .after .session
   unfolding byRules
   list-says =
-      ap (λ (x : FrameReturned). sessionOf (x .answered .lent)) same ∙ answer-handed l h (said st (c .rules))
+      ap (λ (x : FrameReturned). sessionOf (x .answered .lent)) same ∙ answer-handed l h (outcomeOf st (c .rules))
       ∙ sym (after-session st (d .answer .verdict) (d .answer .header .kind) (d .answer .session) (d .new))
 
   list-long : length (r .answered .lent) ≡ 19

@@ -468,16 +468,16 @@ pub extern "C" fn wedgepetal_loop_limit(table: &[u8], qi: u64, limit: &mut [u64]
 #[no_mangle]
 pub extern "C" fn wedgepetal_matrix(
     table: &[u8],
-    kind: u64,
+    qti: u64,
     plane: u64,
     qi: u64,
     matrix: &mut [u64],
 ) -> u32
-    ensures { λ r. ⌜ gives r (now (matrix .exit)) ≡ matrixCall (now (table .entry)) kind plane qi (now (matrix .entry)) ⌝ }
+    ensures { λ r. ⌜ gives r (now (matrix .exit)) ≡ matrixCall (now (table .entry)) qti plane qi (now (matrix .entry)) ⌝ }
 {
     if matrix.len() == 64 {
         let mut numbers = [0u16; 64];
-        let answer = queries::matrix(table, kind, plane, qi, &mut numbers);
+        let answer = queries::matrix(table, qti, plane, qi, &mut numbers);
         return return_matrix(answer, &numbers, matrix);
     }
     1

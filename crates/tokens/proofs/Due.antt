@@ -15,7 +15,7 @@ use Rattle.bitstream.proofs.Fields.{no-mix}
 use Rattle.huffman.specs.Tree.{Tree}
 use Rattle.token.specs.Token.{Meaning, endOfBlock, zeroRun, coefficient}
 use Rattle.token.proofs.Laws.{Sound}
-use Rattle.tokens.specs.Tokens.{State, stateOf, token, runOf, act, readFor, visit, pass}
+use Rattle.tokens.specs.Tokens.{TokenState, stateOf, token, runOf, act, readFor, visit, pass}
 use Rattle.tokens.specs.Answer.{dueOf, oneIfDue}
 use Rattle.tokens.proofs.Ways.{visit-other}
 use Rattle.tokens.proofs.Goes.{AllBelow, token-sound}
@@ -90,8 +90,8 @@ stays-set k (p ∷ ps) zero x h (suc c) n e = n e
 stays-set k (p ∷ ps) (suc b) x h zero n e = n e
 stays-set k (p ∷ ps) (suc b) x h (suc c) n e = stays-set k ps b x h c n e
 
-module _ (k b : ℕ) (s : State) (l : k < 64) where
-  act-stays : (m : Meaning) → Sound m → (p : List ℕ) (i d : ℕ) {s′ : State} {e : ℕ} → act k b i m s p d ≡ got s′ e → Stays k (s .positions) (s′ .positions)
+module _ (k b : ℕ) (s : TokenState) (l : k < 64) where
+  act-stays : (m : Meaning) → Sound m → (p : List ℕ) (i d : ℕ) {s′ : TokenState} {e : ℕ} → act k b i m s p d ≡ got s′ e → Stays k (s .positions) (s′ .positions)
   unfolding act
   act-stays (endOfBlock n) o p i d {s′} {e} h =
       let z : stateOf (set (s .positions) b 64) (set (s .lasts) b k) (s .coefs) (runOf (s .positions) n - 1) (s .tokens + 1) ≡ s′ = cc in
@@ -111,7 +111,7 @@ module _ (k b : ℕ) (s : State) (l : k < 64) where
           rw (← z) (stays-set k (s .positions) b (k + n + 1) (λ x. omega (arith, x)))
       go false h = no-mix (sym h)
 
-  read-stays : (tree : Tree) (p : List ℕ) (i : ℕ) {s′ : State} {e : ℕ} → readFor tree k b s p i ≡ got s′ e → Stays k (s .positions) (s′ .positions)
+  read-stays : (tree : Tree) (p : List ℕ) (i : ℕ) {s′ : TokenState} {e : ℕ} → readFor tree k b s p i ≡ got s′ e → Stays k (s .positions) (s′ .positions)
   unfolding readFor
   read-stays tree p i {s′} {e} h = go (token tree p i) refl h
     where
@@ -119,7 +119,7 @@ module _ (k b : ℕ) (s : State) (l : k < 64) where
       go (got m d) c r = act-stays m (token-sound tree p i c) p i d r
       go (refused j d) c r = no-mix (sym r)
 
-  visit-stays : (tree : Tree) (p : List ℕ) (i : ℕ) {s′ : State} {e : ℕ} → visit tree k b s p i ≡ got s′ e → Stays k (s .positions) (s′ .positions)
+  visit-stays : (tree : Tree) (p : List ℕ) (i : ℕ) {s′ : TokenState} {e : ℕ} → visit tree k b s p i ≡ got s′ e → Stays k (s .positions) (s′ .positions)
   unfolding visit
   visit-stays tree p i {s′} {e} h = go (eqb (getD (s .positions) b 0) k) (ltb 0 (s .run)) h
     where
@@ -132,20 +132,20 @@ module _ (k b : ℕ) (s : State) (l : k < 64) where
 
 -- ---- so a pass over those that stood at k is the pass over all
 module _ (tree : Tree) (k : ℕ) (p : List ℕ) (l : k < 64) where
-  after-visit : (b : ℕ) (bs cs : List ℕ) (s : State) (i : ℕ) → ((s′ : State) (e : ℕ) → visit tree k b s p i ≡ got s′ e → pass tree k bs s′ p e ≡ pass tree k cs s′ p e)
+  after-visit : (b : ℕ) (bs cs : List ℕ) (s : TokenState) (i : ℕ) → ((s′ : TokenState) (e : ℕ) → visit tree k b s p i ≡ got s′ e → pass tree k bs s′ p e ≡ pass tree k cs s′ p e)
       → pass tree k (b ∷ bs) s p i ≡ pass tree k (b ∷ cs) s p i
   unfolding pass
   after-visit b bs cs s i h = go (visit tree k b s p i) refl
     where
-      go : (o : Outcome State) → visit tree k b s p i ≡ o → after o (λ s′ e. pass tree k bs s′ p e) ≡ after o (λ s′ e. pass tree k cs s′ p e)
+      go : (o : Outcome TokenState) → visit tree k b s p i ≡ o → after o (λ s′ e. pass tree k bs s′ p e) ≡ after o (λ s′ e. pass tree k cs s′ p e)
       go (got s′ e) v = h s′ e v
       go (refused n e) v = refl
 
-  skip : (b : ℕ) (bs : List ℕ) (s : State) (i : ℕ) → (getD (s .positions) b 0 ≡ k → ⊥) → pass tree k (b ∷ bs) s p i ≡ pass tree k bs s p i
+  skip : (b : ℕ) (bs : List ℕ) (s : TokenState) (i : ℕ) → (getD (s .positions) b 0 ≡ k → ⊥) → pass tree k (b ∷ bs) s p i ≡ pass tree k bs s p i
   unfolding pass
   skip b bs s i h = rw (visit-other tree k b s p i h)
 
-  pass-due : (ps bs : List ℕ) (s : State) (i : ℕ) → Stays k ps (s .positions) → pass tree k (dueOf k ps bs) s p i ≡ pass tree k bs s p i
+  pass-due : (ps bs : List ℕ) (s : TokenState) (i : ℕ) → Stays k ps (s .positions) → pass tree k (dueOf k ps bs) s p i ≡ pass tree k bs s p i
   pass-due ps [] s i h = ap (λ (x : List ℕ). pass tree k x s p i) (due-nil k ps)
   pass-due ps (b ∷ bs) s i h =
       either k ps b
@@ -153,17 +153,17 @@ module _ (tree : Tree) (k : ℕ) (p : List ℕ) (l : k < 64) where
       ∙ after-visit b (dueOf k ps bs) bs s i (λ s′ d v. let g = visit-stays k b s l tree p i v in pass-due ps bs s′ d (λ c n. g c (h c n))))
       (λ e. ap (λ (x : List ℕ). pass tree k x s p i) (elsewhere k ps b bs e) ∙ (pass-due ps bs s i h ∙ sym (skip b bs s i (h b e))))
 
-  pass-append : (bs cs : List ℕ) (s : State) (i : ℕ) → pass tree k (bs ++ cs) s p i ≡ after (pass tree k bs s p i) (λ s′ e. pass tree k cs s′ p e)
+  pass-append : (bs cs : List ℕ) (s : TokenState) (i : ℕ) → pass tree k (bs ++ cs) s p i ≡ after (pass tree k bs s p i) (λ s′ e. pass tree k cs s′ p e)
   unfolding pass
   pass-append [] cs s i = refl
   pass-append (b ∷ bs) cs s i = go (visit tree k b s p i) (λ s′ e. pass-append bs cs s′ e)
     where
-      go : (o : Outcome State) → ((s′ : State) (e : ℕ) → pass tree k (bs ++ cs) s′ p e ≡ after (pass tree k bs s′ p e) (λ s″ d. pass tree k cs s″ p d)) → after o (λ s′ e. pass tree k (bs ++ cs) s′ p e) ≡ after (after o (λ s′ e. pass tree k bs s′ p e)) (λ s′ e. pass tree k cs s′ p e)
+      go : (o : Outcome TokenState) → ((s′ : TokenState) (e : ℕ) → pass tree k (bs ++ cs) s′ p e ≡ after (pass tree k bs s′ p e) (λ s″ d. pass tree k cs s″ p d)) → after o (λ s′ e. pass tree k (bs ++ cs) s′ p e) ≡ after (after o (λ s′ e. pass tree k bs s′ p e)) (λ s′ e. pass tree k cs s′ p e)
       go (got s′ e) f = f s′ e
       go (refused n e) f = refl
 
   -- ---- a part of the list, from the index j to `end`
-  module _ (bs : List ℕ) (j end : ℕ) (s : State) (i : ℕ) (h : j ≤ end) where
+  module _ (bs : List ℕ) (j end : ℕ) (s : TokenState) (i : ℕ) (h : j ≤ end) where
     abbrev part : List ℕ
     part = take (end - j) (drop j bs)
 
@@ -172,13 +172,13 @@ module _ (tree : Tree) (k : ℕ) (p : List ℕ) (l : k < 64) where
         let z : j + (end - j) ≡ end = omega arith in
         let d : drop (end - j) (drop j bs) ≡ drop end bs = drop-drop (end - j) j bs ∙ ap (λ (n : ℕ). drop n bs) z in
         ap (λ (x : List ℕ). pass tree k x s p i) (sym (take-append-drop (end - j) (drop j bs)) ∙ ap (λ (x : List ℕ). part ++ x) d)
-        ∙ (pass-append part (drop end bs) s i ∙ ap (λ (o : Outcome State). after o (λ s′ e. pass tree k (drop end bs) s′ p e)) (sym (pass-due (s .positions) part s i (λ c n. n))))
+        ∙ (pass-append part (drop end bs) s i ∙ ap (λ (o : Outcome TokenState). after o (λ s′ e. pass tree k (drop end bs) s′ p e)) (sym (pass-due (s .positions) part s i (λ c n. n))))
 
-    pub part-got : {s′ : State} {e : ℕ} → pass tree k (dueOf k (s .positions) part) s p i ≡ got s′ e → pass tree k (drop j bs) s p i ≡ pass tree k (drop end bs) s′ p e
-    part-got g = in-parts ∙ ap (λ (o : Outcome State). after o (λ s′ e. pass tree k (drop end bs) s′ p e)) g
+    pub part-got : {s′ : TokenState} {e : ℕ} → pass tree k (dueOf k (s .positions) part) s p i ≡ got s′ e → pass tree k (drop j bs) s p i ≡ pass tree k (drop end bs) s′ p e
+    part-got g = in-parts ∙ ap (λ (o : Outcome TokenState). after o (λ s′ e. pass tree k (drop end bs) s′ p e)) g
 
     pub part-refused : {n e : ℕ} → pass tree k (dueOf k (s .positions) part) s p i ≡ refused n e → pass tree k (drop j bs) s p i ≡ refused n e
-    part-refused g = in-parts ∙ ap (λ (o : Outcome State). after o (λ s′ e. pass tree k (drop end bs) s′ p e)) g
+    part-refused g = in-parts ∙ ap (λ (o : Outcome TokenState). after o (λ s′ e. pass tree k (drop end bs) s′ p e)) g
 
 -- ---- every block of a part is one of n
 all-take : (n m : ℕ) (bs : List ℕ) → AllBelow n bs → AllBelow n (take m bs)

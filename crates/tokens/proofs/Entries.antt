@@ -23,7 +23,7 @@ use Rattle.token.specs.declared.Token.{Token}
 use Rattle.token.specs.declared.Token.the-variants as t
 use Rattle.token.proofs.Rows.{bits-most, packed-lt, value-at}
 use Rattle.token.proofs.Facts.{extra-got}
-use Rattle.tokens.specs.Tokens.{State, token, act, readFor}
+use Rattle.tokens.specs.Tokens.{TokenState, token, act, readFor}
 use Rattle.tokens.specs.Answer.{Lookup, Entry, byRow, tokenBy, outcomeOf, acted}
 use Rattle.tokens.proofs.Ways.{token-got}
 
@@ -97,13 +97,13 @@ heard (got (zeroRun k) e) = refl
 heard (got (coefficient k v) e) = refl
 heard (refused k e) = refl
 
-no-packet : (k b i : ℕ) (m : Meaning) (s : State) (p : List ℕ) (e : ℕ) → act k b i m s p e ≡ act k b i m s [] e
+no-packet : (k b i : ℕ) (m : Meaning) (s : TokenState) (p : List ℕ) (e : ℕ) → act k b i m s p e ≡ act k b i m s [] e
 unfolding act
 no-packet k b i (endOfBlock n) s p e = refl
 no-packet k b i (zeroRun n) s p e = refl
 no-packet k b i (coefficient n v) s p e = refl
 
-pub read-acts : (tree : Tree) (k b : ℕ) (s : State) (p : List ℕ) (i : ℕ) (r : Token) → r ≡ asToken (token tree p i) → readFor tree k b s p i ≡ acted k b i s (outcomeOf r)
+pub read-acts : (tree : Tree) (k b : ℕ) (s : TokenState) (p : List ℕ) (i : ℕ) (r : Token) → r ≡ asToken (token tree p i) → readFor tree k b s p i ≡ acted k b i s (outcomeOf r)
 unfolding readFor
 read-acts tree k b s p i r h = rw (h, heard (token tree p i)) (go (token tree p i))
   where

@@ -8,7 +8,7 @@ use lib.Seq.{take-at, drop-at, length-take-le}
 use lib.IntN.{ℤ, pos}
 use Rattle.bitstream.specs.Reading.{Outcome, got, refused}
 use Rattle.huffman.specs.Tree.{Tree}
-use Rattle.tokens.specs.Tokens.{State, stateOf, choicesOf, positionsFrom, ranks, start, Tokens, tokensOf, readTokens}
+use Rattle.tokens.specs.Tokens.{TokenState, stateOf, choicesOf, positionsFrom, ranks, start, Tokens, tokensOf, readTokens}
 use Rattle.tokens.specs.Answer.{Shape, AllOpen, Cleared, Stored, Untouched, asCounted}
 use Rattle.tokens.specs.declared.Counted.the-variants as counted
 
@@ -86,7 +86,7 @@ module _ (count : ℕ) (ps ls : List ℕ) (cs : List ℤ) (bs : List ℕ) (f : C
 
 -- ---- all tokens, by the outcome of the positions
 module _ (trees : List Tree) (luma count : ℕ) (p : List ℕ) (i : ℕ) where
-  pub tokens-got : {s : State} {e : ℕ} → positionsFrom trees (ranks 0 luma) (ranks luma (count - luma)) 64 0 (choicesOf 0 0) (start count) p i ≡ got s e → readTokens trees luma count p i ≡ got (tokensOf s) e
+  pub tokens-got : {s : TokenState} {e : ℕ} → positionsFrom trees (ranks 0 luma) (ranks luma (count - luma)) 64 0 (choicesOf 0 0) (start count) p i ≡ got s e → readTokens trees luma count p i ≡ got (tokensOf s) e
   unfolding readTokens
   tokens-got h = rw h
 

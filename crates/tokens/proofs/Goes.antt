@@ -17,7 +17,7 @@ use Rattle.huffman.specs.Tree.{Tree}
 use Rattle.huffman.specs.Code.{tokenCode}
 use Rattle.token.specs.Token.{Meaning, endOfBlock, zeroRun, coefficient, extra}
 use Rattle.token.proofs.Laws.{Sound, extra-sound}
-use Rattle.tokens.specs.Tokens.{State, stateOf, token, runOf, act, readFor, visit, pass, Choices, choices, table, atPosition, positionsFrom}
+use Rattle.tokens.specs.Tokens.{TokenState, stateOf, token, runOf, act, readFor, visit, pass, Choices, choices, table, atPosition, positionsFrom}
 use Rattle.tokens.specs.Answer.{room}
 
 -- what a token means is sound
@@ -52,7 +52,7 @@ abbrev pub Bounded : List ℤ → Type 0
 Bounded cs = (j : ℕ) → natAbs (getD cs j (pos 0)) ≤ 580
 
 -- how the state s goes to s′
-pub record Goes (s s′ : State) : Type 0 where
+pub record Goes (s s′ : TokenState) : Type 0 where
   pub blocks : length (s′ .positions) ≡ length (s .positions)
   pub lasts : length (s′ .lasts) ≡ length (s .lasts)
   pub coefs : length (s′ .coefs) ≡ length (s .coefs)
@@ -61,10 +61,10 @@ pub record Goes (s s′ : State) : Type 0 where
   pub visits : Visits (s .lasts) → Visits (s′ .lasts)
   pub bounded : Bounded (s .coefs) → Bounded (s′ .coefs)
 
-pub goes-same : (s : State) → Goes s s
+pub goes-same : (s : TokenState) → Goes s s
 goes-same s = record { blocks = refl; lasts = refl; coefs = refl; tokens = le-refl _; later = λ b h. h; visits = λ h. h; bounded = λ h. h }
 
-pub goes-on : {s₁ s₂ s₃ : State} → Goes s₁ s₂ → Goes s₂ s₃ → Goes s₁ s₃
+pub goes-on : {s₁ s₂ s₃ : TokenState} → Goes s₁ s₂ → Goes s₂ s₃ → Goes s₁ s₃
 goes-on f g =
     record {
       blocks = g .blocks ∙ f .blocks;
@@ -94,7 +94,7 @@ later-set : (ps : List ℕ) (b x : ℕ) → getD ps b 0 < 64 → Later ps (set p
 later-set ps b x h j l = rw (getD-set-other ps b j x 0 (λ e. absurd (omega (arith, ap (λ (i : ℕ). getD ps i 0) e)))) l
 
 -- ---- a block that stands at k, and moves on
-module _ (k b : ℕ) (s : State) (l : k < 64) (w : b < length (s .positions)) (at : getD (s .positions) b 0 ≡ k) where
+module _ (k b : ℕ) (s : TokenState) (l : k < 64) (w : b < length (s .positions)) (at : getD (s .positions) b 0 ≡ k) where
   moves : (j run tokens : ℕ) (cs : List ℤ) → k < j → tokens ≤ s .tokens + 1 → length cs ≡ length (s .coefs) → (Bounded (s .coefs) → Bounded cs)
       → Goes s (stateOf (set (s .positions) b j) (set (s .lasts) b k) cs run tokens)
   moves j run tokens cs f n c v =
@@ -108,7 +108,7 @@ module _ (k b : ℕ) (s : State) (l : k < 64) (w : b < length (s .positions)) (a
         bounded = v;
       }
 
-  act-goes : (m : Meaning) → Sound m → (p : List ℕ) (i d : ℕ) {s′ : State} {e : ℕ} → act k b i m s p d ≡ got s′ e → Goes s s′
+  act-goes : (m : Meaning) → Sound m → (p : List ℕ) (i d : ℕ) {s′ : TokenState} {e : ℕ} → act k b i m s p d ≡ got s′ e → Goes s s′
   unfolding act
   act-goes (endOfBlock n) o p i d {s′} {e} h =
       let z : stateOf (set (s .positions) b 64) (set (s .lasts) b k) (s .coefs) (runOf (s .positions) n - 1) (s .tokens + 1) ≡ s′ = cc in
@@ -128,7 +128,7 @@ module _ (k b : ℕ) (s : State) (l : k < 64) (w : b < length (s .positions)) (a
           rw (← z) (moves (k + n + 1) _ (s .tokens + 1) (set (s .coefs) (64 * b + (k + n)) v) (omega arith) (le-refl _) (length-set (s .coefs) (64 * b + (k + n)) v) (bounded-set (s .coefs) (64 * b + (k + n)) v o))
       go false h = no-mix (sym h)
 
-  read-goes : (tree : Tree) (p : List ℕ) (i : ℕ) {s′ : State} {e : ℕ} → readFor tree k b s p i ≡ got s′ e → Goes s s′
+  read-goes : (tree : Tree) (p : List ℕ) (i : ℕ) {s′ : TokenState} {e : ℕ} → readFor tree k b s p i ≡ got s′ e → Goes s s′
   unfolding readFor
   read-goes tree p i {s′} {e} h = go (token tree p i) refl h
     where
@@ -136,7 +136,7 @@ module _ (k b : ℕ) (s : State) (l : k < 64) (w : b < length (s .positions)) (a
       go (got m d) c r = act-goes m (token-sound tree p i c) p i d r
       go (refused j d) c r = no-mix (sym r)
 
-pub visit-goes : (tree : Tree) (k b : ℕ) (s : State) (p : List ℕ) (i : ℕ) → k < 64 → b < length (s .positions) → {s′ : State} {e : ℕ} → visit tree k b s p i ≡ got s′ e → Goes s s′
+pub visit-goes : (tree : Tree) (k b : ℕ) (s : TokenState) (p : List ℕ) (i : ℕ) → k < 64 → b < length (s .positions) → {s′ : TokenState} {e : ℕ} → visit tree k b s p i ≡ got s′ e → Goes s s′
 unfolding visit
 visit-goes tree k b s p i l w {s′} {e} h = go (eqb (getD (s .positions) b 0) k) (ltb 0 (s .run)) refl h
   where
@@ -153,7 +153,7 @@ abbrev pub AllBelow : ℕ → List ℕ → Type 0
 AllBelow n [] = Unit {0}
 AllBelow n (b ∷ bs) = (b < n) × AllBelow n bs
 
-pub pass-goes : (tree : Tree) (k : ℕ) (p : List ℕ) → k < 64 → (bs : List ℕ) (s : State) (i : ℕ) → AllBelow (length (s .positions)) bs → {s′ : State} {e : ℕ}
+pub pass-goes : (tree : Tree) (k : ℕ) (p : List ℕ) → k < 64 → (bs : List ℕ) (s : TokenState) (i : ℕ) → AllBelow (length (s .positions)) bs → {s′ : TokenState} {e : ℕ}
     → pass tree k bs s p i ≡ got s′ e → Goes s s′
 unfolding pass
 pass-goes tree k p l [] s i w {s′} {e} h = let z : s ≡ s′ = cc in rw (← z) (goes-same s)
@@ -162,16 +162,16 @@ pass-goes tree k p l (b ∷ bs) s i w {s′} {e} h =
     let f = visit-goes tree k b s p i l (w .0) (u .2) in
     goes-on f (pass-goes tree k p l bs (u .0) (u .1) (rw (f .blocks) (w .1)) (u .3))
 
-pub position-goes : (trees : List Tree) (lumas chromas : List ℕ) (k : ℕ) (ch : Choices) (s : State) (p : List ℕ) (i : ℕ) → k < 64 → AllBelow (length (s .positions)) lumas
-    → AllBelow (length (s .positions)) chromas → {s′ : State} {e : ℕ} → atPosition trees lumas chromas k ch s p i ≡ got s′ e → Goes s s′
+pub position-goes : (trees : List Tree) (lumas chromas : List ℕ) (k : ℕ) (ch : Choices) (s : TokenState) (p : List ℕ) (i : ℕ) → k < 64 → AllBelow (length (s .positions)) lumas
+    → AllBelow (length (s .positions)) chromas → {s′ : TokenState} {e : ℕ} → atPosition trees lumas chromas k ch s p i ≡ got s′ e → Goes s s′
 unfolding atPosition
 position-goes trees lumas chromas k ch s p i l v w h =
     let u = bind-got (pass (table trees k (ch .luma)) k lumas s) (λ s₁. pass (table trees k (ch .chroma)) k chromas s₁) p i h in
     let f = pass-goes (table trees k (ch .luma)) k p l lumas s i v (u .2) in
     goes-on f (pass-goes (table trees k (ch .chroma)) k p l chromas (u .0) (u .1) (rw (f .blocks) w) (u .3))
 
-pub positions-go : (trees : List Tree) (lumas chromas : List ℕ) (p : List ℕ) (n k : ℕ) (ch : Choices) (s : State) (i : ℕ) → k + n ≤ 64 → AllBelow (length (s .positions)) lumas
-    → AllBelow (length (s .positions)) chromas → {s′ : State} {e : ℕ} → positionsFrom trees lumas chromas n k ch s p i ≡ got s′ e → Goes s s′
+pub positions-go : (trees : List Tree) (lumas chromas : List ℕ) (p : List ℕ) (n k : ℕ) (ch : Choices) (s : TokenState) (i : ℕ) → k + n ≤ 64 → AllBelow (length (s .positions)) lumas
+    → AllBelow (length (s .positions)) chromas → {s′ : TokenState} {e : ℕ} → positionsFrom trees lumas chromas n k ch s p i ≡ got s′ e → Goes s s′
 unfolding positionsFrom
 positions-go trees lumas chromas p zero k ch s i l v w {s′} {e} h = let z : s ≡ s′ = cc in rw (← z) (goes-same s)
 positions-go trees lumas chromas p (suc n) k ch s i l v w h =

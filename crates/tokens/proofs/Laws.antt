@@ -17,7 +17,7 @@ use Rattle.huffman.specs.Tree.{Tree, Proper}
 use Rattle.huffman.proofs.Codes.{token-code-lawful, token-code-inside, token-code-refuses, token-code-spends}
 use Rattle.token.specs.Token.{Meaning, endOfBlock, zeroRun, coefficient}
 use Rattle.token.proofs.Laws.{extra-lawful, extra-inside, extra-refuses, extra-spends}
-use Rattle.tokens.specs.Tokens.{State, token, act, readFor, visit, pass, group, table, Choices, choicesOf, choices, atPosition, positionsFrom, ranks, start, Tokens, tokensOf, readTokens}
+use Rattle.tokens.specs.Tokens.{TokenState, token, act, readFor, visit, pass, group, table, Choices, choicesOf, choices, atPosition, positionsFrom, ranks, start, Tokens, tokensOf, readTokens}
 use Rattle.tokens.specs.Answer.{AllProper}
 use Rattle.tokens.proofs.Goes.{Visits, Bounded, positions-go, room-most}
 use Rattle.tokens.proofs.Positions.{ranks-length, ranks-below}
@@ -29,20 +29,20 @@ token-lawful : (tree : Tree) → Lawful (token tree)
 unfolding token
 token-lawful tree = whole-lawful (bind-lawful (token-code-lawful tree) extra-lawful)
 
-act-lawful : (k b at : ℕ) (m : Meaning) (s : State) → Lawful (act k b at m s)
+act-lawful : (k b at : ℕ) (m : Meaning) (s : TokenState) → Lawful (act k b at m s)
 unfolding act
 act-lawful k b at (endOfBlock n) s = pure-lawful _
 act-lawful k b at (zeroRun n) s = bind-lawful (guard-lawful (leb (k + n) 64) 13 at) (λ _. pure-lawful _)
 act-lawful k b at (coefficient n v) s = bind-lawful (guard-lawful (leb (k + n + 1) 64) 13 at) (λ _. pure-lawful _)
 
-visit-lawful : (tree : Tree) (k b : ℕ) (s : State) → Lawful (visit tree k b s)
+visit-lawful : (tree : Tree) (k b : ℕ) (s : TokenState) → Lawful (visit tree k b s)
 unfolding visit readFor
 visit-lawful tree k b s =
     pick-lawful (eqb (getD (s .positions) b 0) k)
     (pick-lawful (ltb 0 (s .run)) (pure-lawful _) (bind-lawful here-lawful (λ at. bind-lawful (token-lawful tree) (λ m. act-lawful k b at m s))))
     (pure-lawful s)
 
-pass-lawful : (tree : Tree) (k : ℕ) (bs : List ℕ) (s : State) → Lawful (pass tree k bs s)
+pass-lawful : (tree : Tree) (k : ℕ) (bs : List ℕ) (s : TokenState) → Lawful (pass tree k bs s)
 unfolding pass
 pass-lawful tree k [] s = pure-lawful s
 pass-lawful tree k (b ∷ bs) s = bind-lawful (visit-lawful tree k b s) (pass-lawful tree k bs)
@@ -51,11 +51,11 @@ choices-lawful : (k : ℕ) (ch : Choices) → Lawful (choices k ch)
 unfolding choices
 choices-lawful k ch = search lawful depth 10
 
-position-lawful : (trees : List Tree) (lumas chromas : List ℕ) (k : ℕ) (ch : Choices) (s : State) → Lawful (atPosition trees lumas chromas k ch s)
+position-lawful : (trees : List Tree) (lumas chromas : List ℕ) (k : ℕ) (ch : Choices) (s : TokenState) → Lawful (atPosition trees lumas chromas k ch s)
 unfolding atPosition
 position-lawful trees lumas chromas k ch s = bind-lawful (pass-lawful (table trees k (ch .luma)) k lumas s) (pass-lawful (table trees k (ch .chroma)) k chromas)
 
-positions-lawful : (trees : List Tree) (lumas chromas : List ℕ) (n k : ℕ) (ch : Choices) (s : State) → Lawful (positionsFrom trees lumas chromas n k ch s)
+positions-lawful : (trees : List Tree) (lumas chromas : List ℕ) (n k : ℕ) (ch : Choices) (s : TokenState) → Lawful (positionsFrom trees lumas chromas n k ch s)
 unfolding positionsFrom
 positions-lawful trees lumas chromas zero k ch s = pure-lawful s
 positions-lawful trees lumas chromas (suc n) k ch s =
@@ -70,20 +70,20 @@ token-inside : {d : ℕ} (tree : Tree) → Inside d (token tree)
 unfolding token
 token-inside tree = whole-inside (bind-inside (token-code-inside tree) extra-inside)
 
-act-inside : (k b at : ℕ) (m : Meaning) (s : State) → Inside at (act k b at m s)
+act-inside : (k b at : ℕ) (m : Meaning) (s : TokenState) → Inside at (act k b at m s)
 unfolding act
 act-inside k b at (endOfBlock n) s = pure-inside _
 act-inside k b at (zeroRun n) s = bind-inside (guard-inside (leb (k + n) 64) 13 at (le-refl at)) (λ _. pure-inside _)
 act-inside k b at (coefficient n v) s = bind-inside (guard-inside (leb (k + n + 1) 64) 13 at (le-refl at)) (λ _. pure-inside _)
 
-visit-inside : {d : ℕ} (tree : Tree) (k b : ℕ) (s : State) → Inside d (visit tree k b s)
+visit-inside : {d : ℕ} (tree : Tree) (k b : ℕ) (s : TokenState) → Inside d (visit tree k b s)
 unfolding visit readFor
 visit-inside tree k b s =
     pick-inside (eqb (getD (s .positions) b 0) k)
     (pick-inside (ltb 0 (s .run)) (pure-inside _) (here-inside (λ at _. bind-inside (token-inside tree) (λ m. act-inside k b at m s))))
     (pure-inside s)
 
-pass-inside : {d : ℕ} (tree : Tree) (k : ℕ) (bs : List ℕ) (s : State) → Inside d (pass tree k bs s)
+pass-inside : {d : ℕ} (tree : Tree) (k : ℕ) (bs : List ℕ) (s : TokenState) → Inside d (pass tree k bs s)
 unfolding pass
 pass-inside tree k [] s = pure-inside s
 pass-inside tree k (b ∷ bs) s = bind-inside (visit-inside tree k b s) (pass-inside tree k bs)
@@ -92,11 +92,11 @@ choices-inside : {d : ℕ} (k : ℕ) (ch : Choices) → Inside d (choices k ch)
 unfolding choices
 choices-inside k ch = search inside depth 10
 
-position-inside : {d : ℕ} (trees : List Tree) (lumas chromas : List ℕ) (k : ℕ) (ch : Choices) (s : State) → Inside d (atPosition trees lumas chromas k ch s)
+position-inside : {d : ℕ} (trees : List Tree) (lumas chromas : List ℕ) (k : ℕ) (ch : Choices) (s : TokenState) → Inside d (atPosition trees lumas chromas k ch s)
 unfolding atPosition
 position-inside trees lumas chromas k ch s = bind-inside (pass-inside (table trees k (ch .luma)) k lumas s) (pass-inside (table trees k (ch .chroma)) k chromas)
 
-positions-inside : {d : ℕ} (trees : List Tree) (lumas chromas : List ℕ) (n k : ℕ) (ch : Choices) (s : State) → Inside d (positionsFrom trees lumas chromas n k ch s)
+positions-inside : {d : ℕ} (trees : List Tree) (lumas chromas : List ℕ) (n k : ℕ) (ch : Choices) (s : TokenState) → Inside d (positionsFrom trees lumas chromas n k ch s)
 unfolding positionsFrom
 positions-inside trees lumas chromas zero k ch s = pure-inside s
 positions-inside trees lumas chromas (suc n) k ch s =
@@ -117,29 +117,29 @@ module _ {ks : List ℕ} (four : among ks 4 ≡ true) where
   choices-refuses k ch = search (refuses, four) depth 10
 
   module _ (thirteen : among ks 13 ≡ true) where
-    act-refuses : (k b at : ℕ) (m : Meaning) (s : State) → Refuses ks (act k b at m s)
+    act-refuses : (k b at : ℕ) (m : Meaning) (s : TokenState) → Refuses ks (act k b at m s)
     unfolding act
     act-refuses k b at (endOfBlock n) s = pure-refuses _
     act-refuses k b at (zeroRun n) s = bind-refuses (guard-refuses (leb (k + n) 64) 13 at thirteen) (λ _. pure-refuses _)
     act-refuses k b at (coefficient n v) s = bind-refuses (guard-refuses (leb (k + n + 1) 64) 13 at thirteen) (λ _. pure-refuses _)
 
-    visit-refuses : (tree : Tree) (k b : ℕ) (s : State) → Refuses ks (visit tree k b s)
+    visit-refuses : (tree : Tree) (k b : ℕ) (s : TokenState) → Refuses ks (visit tree k b s)
     unfolding visit readFor
     visit-refuses tree k b s =
         pick-refuses (eqb (getD (s .positions) b 0) k)
         (pick-refuses (ltb 0 (s .run)) (pure-refuses _) (bind-refuses here-refuses (λ at. bind-refuses (token-refuses tree) (λ m. act-refuses k b at m s))))
         (pure-refuses s)
 
-    pass-refuses : (tree : Tree) (k : ℕ) (bs : List ℕ) (s : State) → Refuses ks (pass tree k bs s)
+    pass-refuses : (tree : Tree) (k : ℕ) (bs : List ℕ) (s : TokenState) → Refuses ks (pass tree k bs s)
     unfolding pass
     pass-refuses tree k [] s = pure-refuses s
     pass-refuses tree k (b ∷ bs) s = bind-refuses (visit-refuses tree k b s) (pass-refuses tree k bs)
 
-    position-refuses : (trees : List Tree) (lumas chromas : List ℕ) (k : ℕ) (ch : Choices) (s : State) → Refuses ks (atPosition trees lumas chromas k ch s)
+    position-refuses : (trees : List Tree) (lumas chromas : List ℕ) (k : ℕ) (ch : Choices) (s : TokenState) → Refuses ks (atPosition trees lumas chromas k ch s)
     unfolding atPosition
     position-refuses trees lumas chromas k ch s = bind-refuses (pass-refuses (table trees k (ch .luma)) k lumas s) (pass-refuses (table trees k (ch .chroma)) k chromas)
 
-    positions-refuses : (trees : List Tree) (lumas chromas : List ℕ) (n k : ℕ) (ch : Choices) (s : State) → Refuses ks (positionsFrom trees lumas chromas n k ch s)
+    positions-refuses : (trees : List Tree) (lumas chromas : List ℕ) (n k : ℕ) (ch : Choices) (s : TokenState) → Refuses ks (positionsFrom trees lumas chromas n k ch s)
     unfolding positionsFrom
     positions-refuses trees lumas chromas zero k ch s = pure-refuses s
     positions-refuses trees lumas chromas (suc n) k ch s =
@@ -154,20 +154,20 @@ token-spends : {tree : Tree} → Proper tree → Spends 44 (token tree)
 unfolding token
 token-spends f = whole-spends (bind-spends (token-code-spends f) extra-spends)
 
-act-spends : (k b at : ℕ) (m : Meaning) (s : State) → Spends 0 (act k b at m s)
+act-spends : (k b at : ℕ) (m : Meaning) (s : TokenState) → Spends 0 (act k b at m s)
 unfolding act
 act-spends k b at (endOfBlock n) s = pure-spends _
 act-spends k b at (zeroRun n) s = bind-spends {a = 0} {b = 0} (guard-spends (leb (k + n) 64) 13 at (λ e. omega (arith, e))) (λ _. pure-spends _)
 act-spends k b at (coefficient n v) s = bind-spends {a = 0} {b = 0} (guard-spends (leb (k + n + 1) 64) 13 at (λ e. omega (arith, e))) (λ _. pure-spends _)
 
-visit-spends : {tree : Tree} → Proper tree → (k b : ℕ) (s : State) → Spends 44 (visit tree k b s)
+visit-spends : {tree : Tree} → Proper tree → (k b : ℕ) (s : TokenState) → Spends 44 (visit tree k b s)
 unfolding visit readFor
 visit-spends f k b s =
     pick-spends (eqb (getD (s .positions) b 0) k)
     (λ _. pick-spends (ltb 0 (s .run)) (λ _. spends-more (omega arith) (pure-spends _)) (λ _. here-then (λ at. spends-more (omega arith) (bind-spends (token-spends f) (λ m. act-spends k b at m s)))))
     (λ _. spends-more (omega arith) (pure-spends s))
 
-pass-spends : {tree : Tree} → Proper tree → (k : ℕ) (bs : List ℕ) (s : State) → Spends (44 * length bs) (pass tree k bs s)
+pass-spends : {tree : Tree} → Proper tree → (k : ℕ) (bs : List ℕ) (s : TokenState) → Spends (44 * length bs) (pass tree k bs s)
 unfolding pass
 pass-spends f k [] s = spends-more (omega arith) (pure-spends s)
 pass-spends f k (b ∷ bs) s = spends-more (omega arith) (bind-spends (visit-spends f k b s) (λ s. pass-spends f k bs s))
@@ -178,13 +178,13 @@ choices-spends k ch =
     pick-spends (ltb k 2) (λ _. spends-more (omega arith) (bind-spends (field-spends 4) (λ a. bind-spends {b = 0} (field-spends 4) (λ b. pure-spends _)))) (λ _. spends-more (omega arith) (pure-spends ch))
 
 module _ (trees : List Tree) (f : AllProper trees) where
-  position-spends : (lumas chromas : List ℕ) (k : ℕ) (ch : Choices) (s : State) → Spends (44 * (length lumas + length chromas)) (atPosition trees lumas chromas k ch s)
+  position-spends : (lumas chromas : List ℕ) (k : ℕ) (ch : Choices) (s : TokenState) → Spends (44 * (length lumas + length chromas)) (atPosition trees lumas chromas k ch s)
   unfolding atPosition table
   position-spends lumas chromas k ch s =
       spends-more (omega arith)
       (bind-spends (pass-spends (proper-at trees (16 * group k + ch .luma) f) k lumas s) (λ s. pass-spends (proper-at trees (16 * group k + ch .chroma) f) k chromas s))
 
-  positions-spends : (lumas chromas : List ℕ) (n k : ℕ) (ch : Choices) (s : State) → Spends (n * (8 + 44 * (length lumas + length chromas))) (positionsFrom trees lumas chromas n k ch s)
+  positions-spends : (lumas chromas : List ℕ) (n k : ℕ) (ch : Choices) (s : TokenState) → Spends (n * (8 + 44 * (length lumas + length chromas))) (positionsFrom trees lumas chromas n k ch s)
   unfolding positionsFrom
   positions-spends lumas chromas zero k ch s = rw zero-mul (pure-spends s)
   positions-spends lumas chromas (suc n) k ch s =

@@ -6,7 +6,7 @@ use mathlib.Core.List.{List}
 use lib.ListN.{length, take, drop, length-drop}
 use lib.Seq.{take-all}
 use Rattle.huffman.specs.Tree.{Tree}
-use Rattle.tokens.specs.Tokens.{State, Choices, atPosition, ranks}
+use Rattle.tokens.specs.Tokens.{TokenState, Choices, atPosition, ranks}
 use Rattle.tokens.specs.Answer.{unfinishedOf, Below, AllOpen, KeptActive}
 use Rattle.tokens.proofs.Goes.{Later}
 use Rattle.tokens.proofs.Unfinished.{unfinished-all, unfinished-twice, below-unfinished, position-unfinished}
@@ -53,7 +53,7 @@ module _ (count : ℕ) (ps bs : List ℕ) (luma lumas end : ℕ) (h : luma ≤ c
       }
 
 -- so a position may look at the two lists alone
-pub lists-position : (trees : List Tree) (count : ℕ) (s : State) (bs : List ℕ) (luma lumas end k : ℕ) (ch : Choices) (p : List ℕ) (i : ℕ) → luma ≤ count → length (s .positions) ≡ count → k < 64
+pub lists-position : (trees : List Tree) (count : ℕ) (s : TokenState) (bs : List ℕ) (luma lumas end k : ℕ) (ch : Choices) (p : List ℕ) (i : ℕ) → luma ≤ count → length (s .positions) ≡ count → k < 64
     → Lists count (s .positions) bs luma lumas end
     → atPosition trees (ranks 0 luma) (ranks luma (count - luma)) k ch s p i ≡ atPosition trees (take lumas bs) (take (end - luma) (drop luma bs)) k ch s p i
 lists-position trees count s bs luma lumas end k ch p i h n l w =

@@ -14,7 +14,7 @@ use Rattle.bitstream.specs.Reading.{Outcome, got, refused, after, bind, pure, p
 use Rattle.bitstream.proofs.Fields.{field-lt}
 use Rattle.bitstream.proofs.Laws.{bind-got}
 use Rattle.huffman.specs.Tree.{Tree}
-use Rattle.tokens.specs.Tokens.{State, pass, group, Choices, choicesOf, choices, table, atPosition, positionsFrom, ranks}
+use Rattle.tokens.specs.Tokens.{TokenState, pass, group, Choices, choicesOf, choices, table, atPosition, positionsFrom, ranks}
 use Rattle.tokens.specs.Answer.{asChosen, Below, treesOf, treeAt}
 use Rattle.tokens.specs.declared.Chosen.{Chosen}
 use Rattle.tokens.specs.declared.Chosen.the-variants as chosen
@@ -100,18 +100,18 @@ module _ {r : Chosen} (o : Outcome Choices) (s : r ≡ asChosen o) where
       go (refused j d) h = cc
 
 -- ---- a position: luma's pass and then chroma's
-module _ (trees : List Tree) (lumas chromas : List ℕ) (k : ℕ) (ch : Choices) (s : State) (p : List ℕ) (i : ℕ) where
+module _ (trees : List Tree) (lumas chromas : List ℕ) (k : ℕ) (ch : Choices) (s : TokenState) (p : List ℕ) (i : ℕ) where
   pub position-refused : {j e : ℕ} → pass (table trees k (ch .luma)) k lumas s p i ≡ refused j e → atPosition trees lumas chromas k ch s p i ≡ refused j e
   unfolding atPosition
   position-refused h = rw h
 
-  pub position-got : {s′ : State} {e : ℕ} → pass (table trees k (ch .luma)) k lumas s p i ≡ got s′ e
+  pub position-got : {s′ : TokenState} {e : ℕ} → pass (table trees k (ch .luma)) k lumas s p i ≡ got s′ e
       → atPosition trees lumas chromas k ch s p i ≡ pass (table trees k (ch .chroma)) k chromas s′ p e
   unfolding atPosition
   position-got h = rw h
 
 -- ---- a turn of all positions
-module _ (trees : List Tree) (lumas chromas : List ℕ) (k : ℕ) (ch : Choices) (s : State) (p : List ℕ) (i : ℕ) where
+module _ (trees : List Tree) (lumas chromas : List ℕ) (k : ℕ) (ch : Choices) (s : TokenState) (p : List ℕ) (i : ℕ) where
   pub positions-none : 64 ≤ k → positionsFrom trees lumas chromas (64 - k) k ch s p i ≡ got s i
   unfolding positionsFrom
   positions-none h = let z : 64 - k ≡ 0 = omega arith in rw z
@@ -125,12 +125,12 @@ module _ (trees : List Tree) (lumas chromas : List ℕ) (k : ℕ) (ch : Choices)
   unfolding positionsFrom
   positions-refused l h f = let z : 64 - k ≡ suc (64 - (k + 1)) = omega arith in rw (z, h, f)
 
-  positions-suc : (n : ℕ) {ch′ : Choices} {e d : ℕ} {s′ : State} → choices k ch p i ≡ got ch′ e → atPosition trees lumas chromas k ch′ s p e ≡ got s′ d
+  positions-suc : (n : ℕ) {ch′ : Choices} {e d : ℕ} {s′ : TokenState} → choices k ch p i ≡ got ch′ e → atPosition trees lumas chromas k ch′ s p e ≡ got s′ d
       → positionsFrom trees lumas chromas (suc n) k ch s p i ≡ positionsFrom trees lumas chromas n (k + 1) ch′ s′ p d
   unfolding positionsFrom
   positions-suc n h f = rw (h, f)
 
-  pub positions-got : k < 64 → {ch′ : Choices} {e d : ℕ} {s′ : State} → choices k ch p i ≡ got ch′ e → atPosition trees lumas chromas k ch′ s p e ≡ got s′ d
+  pub positions-got : k < 64 → {ch′ : Choices} {e d : ℕ} {s′ : TokenState} → choices k ch p i ≡ got ch′ e → atPosition trees lumas chromas k ch′ s p e ≡ got s′ d
       → positionsFrom trees lumas chromas (64 - k) k ch s p i ≡ positionsFrom trees lumas chromas (64 - (k + 1)) (k + 1) ch′ s′ p d
   positions-got l h f =
       let z : 64 - k ≡ suc (64 - (k + 1)) = omega arith in

@@ -13,7 +13,7 @@ use borrow.Rule.Slice.PartMut.{putMid, postOf, mid-len}
 use borrow.Author.Tests.{lt-ltb, le-ltb, ltb-true, ltb-false}
 use Rattle.bitstream.specs.Reading.{Outcome, got, refused, after}
 use Rattle.huffman.specs.Tree.{Tree}
-use Rattle.tokens.specs.Tokens.{State, unfinished, visit, pass, Choices, table, atPosition}
+use Rattle.tokens.specs.Tokens.{TokenState, unfinished, visit, pass, Choices, table, atPosition}
 use Rattle.tokens.specs.Answer.{unfinishedOf, KeptOne, KeptActive}
 use Rattle.tokens.proofs.Ways.{visit-other, one-unfinished, one-finished}
 use Rattle.tokens.proofs.Goes.{Later, AllBelow, visit-goes, pass-goes}
@@ -93,20 +93,20 @@ below-unfinished n ps (b ∷ bs) h = either ps b (λ f. rw (kept ps b bs f) (h .
 
 -- ---- a finished block's visit does nothing, so a pass over the blocks that were unfinished is the pass over all
 module _ (tree : Tree) (k : ℕ) (p : List ℕ) (l : k < 64) where
-  same-visit : (b : ℕ) (bs cs : List ℕ) (s : State) (i : ℕ) → b < length (s .positions)
-      → ((s′ : State) (e : ℕ) → visit tree k b s p i ≡ got s′ e → pass tree k bs s′ p e ≡ pass tree k cs s′ p e) → pass tree k (b ∷ bs) s p i ≡ pass tree k (b ∷ cs) s p i
+  same-visit : (b : ℕ) (bs cs : List ℕ) (s : TokenState) (i : ℕ) → b < length (s .positions)
+      → ((s′ : TokenState) (e : ℕ) → visit tree k b s p i ≡ got s′ e → pass tree k bs s′ p e ≡ pass tree k cs s′ p e) → pass tree k (b ∷ bs) s p i ≡ pass tree k (b ∷ cs) s p i
   unfolding pass
   same-visit b bs cs s i w h = go (visit tree k b s p i) refl
     where
-      go : (o : Outcome State) → visit tree k b s p i ≡ o → after o (λ s′ e. pass tree k bs s′ p e) ≡ after o (λ s′ e. pass tree k cs s′ p e)
+      go : (o : Outcome TokenState) → visit tree k b s p i ≡ o → after o (λ s′ e. pass tree k bs s′ p e) ≡ after o (λ s′ e. pass tree k cs s′ p e)
       go (got s′ e) v = h s′ e v
       go (refused n e) v = refl
 
-  skip : (b : ℕ) (bs : List ℕ) (s : State) (i : ℕ) → 64 ≤ getD (s .positions) b 0 → pass tree k (b ∷ bs) s p i ≡ pass tree k bs s p i
+  skip : (b : ℕ) (bs : List ℕ) (s : TokenState) (i : ℕ) → 64 ≤ getD (s .positions) b 0 → pass tree k (b ∷ bs) s p i ≡ pass tree k bs s p i
   unfolding pass
   skip b bs s i h = rw (visit-other tree k b s p i (λ e. absurd (omega (arith, e))))
 
-  pub pass-unfinished : (ps bs : List ℕ) (s : State) (i : ℕ) → AllBelow (length (s .positions)) bs → Later ps (s .positions) → pass tree k (unfinishedOf ps bs) s p i ≡ pass tree k bs s p i
+  pub pass-unfinished : (ps bs : List ℕ) (s : TokenState) (i : ℕ) → AllBelow (length (s .positions)) bs → Later ps (s .positions) → pass tree k (unfinishedOf ps bs) s p i ≡ pass tree k bs s p i
   pass-unfinished ps [] s i w h = ap (λ (x : List ℕ). pass tree k x s p i) (unfinished-nil ps)
   pass-unfinished ps (b ∷ bs) s i w h =
       either ps b
@@ -115,13 +115,13 @@ module _ (tree : Tree) (k : ℕ) (p : List ℕ) (l : k < 64) where
       (λ s′ e v. let g = visit-goes tree k b s p i l (w .0) v in pass-unfinished ps bs s′ e (rw (g .blocks) (w .1)) (λ c x. g .later c (h c x))))
       (λ f. ap (λ (x : List ℕ). pass tree k x s p i) (left-out ps b bs f) ∙ (pass-unfinished ps bs s i (w .1) h ∙ sym (skip b bs s i (h b f))))
 
-pub position-unfinished : (trees : List Tree) (lumas chromas : List ℕ) (k : ℕ) (ch : Choices) (s : State) (p : List ℕ) (i : ℕ) → k < 64 → AllBelow (length (s .positions)) lumas
+pub position-unfinished : (trees : List Tree) (lumas chromas : List ℕ) (k : ℕ) (ch : Choices) (s : TokenState) (p : List ℕ) (i : ℕ) → k < 64 → AllBelow (length (s .positions)) lumas
     → AllBelow (length (s .positions)) chromas
     → atPosition trees (unfinishedOf (s .positions) lumas) (unfinishedOf (s .positions) chromas) k ch s p i ≡ atPosition trees lumas chromas k ch s p i
 unfolding atPosition
 position-unfinished trees lumas chromas k ch s p i l v w = rw (pass-unfinished (table trees k (ch .luma)) k p l (s .positions) lumas s i v (λ b h. h)) (go (pass (table trees k (ch .luma)) k lumas s p i) refl)
   where
-    go : (o : Outcome State) → pass (table trees k (ch .luma)) k lumas s p i ≡ o
+    go : (o : Outcome TokenState) → pass (table trees k (ch .luma)) k lumas s p i ≡ o
         → after o (λ s₁ e. pass (table trees k (ch .chroma)) k (unfinishedOf (s .positions) chromas) s₁ p e) ≡ after o (λ s₁ e. pass (table trees k (ch .chroma)) k chromas s₁ p e)
     go (got s₁ e) h =
         let g = pass-goes (table trees k (ch .luma)) k p l lumas s i v h in

@@ -19,7 +19,7 @@ use Rattle.token.specs.Token.{Meaning, endOfBlock, zeroRun, coefficient, extra}
 use Rattle.token.specs.Answer.{asToken}
 use Rattle.token.specs.declared.Token.{Token}
 use Rattle.token.specs.declared.Token.the-variants as t
-use Rattle.tokens.specs.Tokens.{State, stateOf, token, unfinished, runOf, act, readFor, visit, pass}
+use Rattle.tokens.specs.Tokens.{TokenState, stateOf, token, unfinished, runOf, act, readFor, visit, pass}
 use Rattle.tokens.specs.Answer.{asVisit, Kept}
 use Rattle.tokens.specs.declared.Visit.{Visit}
 use Rattle.tokens.specs.declared.Visit.the-variants.{Done, Refused}
@@ -131,7 +131,7 @@ run-pos ps n h = go (eqb n 0) refl
     go false t = let z = eqb-false n 0 t in omega arith
 
 -- ---- the ways of a token for a block
-module _ (tree : Tree) (k b : ℕ) (s : State) (p : List ℕ) (i : ℕ) where
+module _ (tree : Tree) (k b : ℕ) (s : TokenState) (p : List ℕ) (i : ℕ) where
   pub read-refused : {j e : ℕ} → token tree p i ≡ refused j e → readFor tree k b s p i ≡ refused j e
   unfolding readFor
   read-refused h = rw h
@@ -140,7 +140,7 @@ module _ (tree : Tree) (k b : ℕ) (s : State) (p : List ℕ) (i : ℕ) where
   unfolding readFor
   read-got h = rw h
 
-module _ (k b : ℕ) (s : State) (p : List ℕ) (i e : ℕ) where
+module _ (k b : ℕ) (s : TokenState) (p : List ℕ) (i e : ℕ) where
   pub act-end : (n : ℕ) → act k b i (endOfBlock n) s p e ≡ got (stateOf (set (s .positions) b 64) (set (s .lasts) b k) (s .coefs) (runOf (s .positions) n - 1) (s .tokens + 1)) e
   unfolding act
   act-end n = refl
@@ -163,7 +163,7 @@ module _ (k b : ℕ) (s : State) (p : List ℕ) (i e : ℕ) where
   value-past n v h = rw (lt-leb _ _ h)
 
 -- ---- the ways of a visit
-module _ (tree : Tree) (k b : ℕ) (s : State) (p : List ℕ) (i : ℕ) where
+module _ (tree : Tree) (k b : ℕ) (s : TokenState) (p : List ℕ) (i : ℕ) where
   pub visit-other : (getD (s .positions) b 0 ≡ k → ⊥) → visit tree k b s p i ≡ got s i
   unfolding visit
   visit-other h = rw (ne-eqb _ _ h)
@@ -178,12 +178,12 @@ module _ (tree : Tree) (k b : ℕ) (s : State) (p : List ℕ) (i : ℕ) where
   visit-token h r = rw (eq-eqb _ _ h, le-ltb _ _ r)
 
 -- ---- a turn of a pass over the blocks bs, at the index j
-module _ (tree : Tree) (k : ℕ) (bs : List ℕ) (j : ℕ) (s : State) (p : List ℕ) (i : ℕ) where
+module _ (tree : Tree) (k : ℕ) (bs : List ℕ) (j : ℕ) (s : TokenState) (p : List ℕ) (i : ℕ) where
   pub pass-none : length bs ≤ j → pass tree k (drop j bs) s p i ≡ got s i
   unfolding pass
   pass-none h = rw (drop-of-length-le bs h)
 
-  pub pass-got : j < length bs → {s′ : State} {e : ℕ} → visit tree k (getD bs j 0) s p i ≡ got s′ e → pass tree k (drop j bs) s p i ≡ pass tree k (drop (j + 1) bs) s′ p e
+  pub pass-got : j < length bs → {s′ : TokenState} {e : ℕ} → visit tree k (getD bs j 0) s p i ≡ got s′ e → pass tree k (drop j bs) s p i ≡ pass tree k (drop (j + 1) bs) s′ p e
   unfolding pass
   pass-got l h = rw (drop-cons bs j 0, add-one, h)
 
@@ -192,11 +192,11 @@ module _ (tree : Tree) (k : ℕ) (bs : List ℕ) (j : ℕ) (s : State) (p : List
   pass-refused l h = rw (drop-cons bs j 0, h)
 
 -- ---- what the answer and the slices say of an outcome
-module _ {r : Visit} (o : Outcome State) (s : r ≡ asVisit o) where
+module _ {r : Visit} (o : Outcome TokenState) (s : r ≡ asVisit o) where
   pub visit-done : (ps ls : List ℕ) (cs : List ℤ) {e run tokens : ℕ} → Kept ps ls cs o → r ≡ Done e run tokens → o ≡ got (stateOf ps ls cs run tokens) e
   visit-done ps ls cs {e} {run} {tokens} w g = go o w (sym s ∙ g)
     where
-      go : (o : Outcome State) → Kept ps ls cs o → asVisit o ≡ Done e run tokens → o ≡ got (stateOf ps ls cs run tokens) e
+      go : (o : Outcome TokenState) → Kept ps ls cs o → asVisit o ≡ Done e run tokens → o ≡ got (stateOf ps ls cs run tokens) e
       go (got a d) w h =
           let x : d ≡ e = cc in
           let y : a .run ≡ run = cc in
@@ -207,12 +207,12 @@ module _ {r : Visit} (o : Outcome State) (s : r ≡ asVisit o) where
   pub visit-refused : {k e : ℕ} → r ≡ Refused k e → o ≡ refused k e
   visit-refused {k} {e} g = go o (sym s ∙ g)
     where
-      go : (o : Outcome State) → asVisit o ≡ Refused k e → o ≡ refused k e
+      go : (o : Outcome TokenState) → asVisit o ≡ Refused k e → o ≡ refused k e
       go (got a d) h = let z : _≡_ {A = ℕ} 0 1 = cc in absurd (omega arith)
       go (refused j d) h = cc
 
 -- ---- what a return has to show
-module _ (ps ls : List ℕ) (cs : List ℤ) (o : Outcome State) where
+module _ (ps ls : List ℕ) (cs : List ℤ) (o : Outcome TokenState) where
   pub on-refusal : {k e : ℕ} → o ≡ refused k e → (Refused k e ≡ asVisit o) × Kept ps ls cs o
   on-refusal h = rw h (refl, tt)
 
@@ -222,5 +222,5 @@ module _ (ps ls : List ℕ) (cs : List ℤ) (o : Outcome State) where
   pub on-state : {run tokens e : ℕ} → o ≡ got (stateOf ps ls cs run tokens) e → (Done e run tokens ≡ asVisit o) × Kept ps ls cs o
   on-state h = rw h (refl, (refl, refl, refl))
 
-  pub on-same : {r : Visit} (o′ : Outcome State) → o ≡ o′ → r ≡ asVisit o′ → Kept ps ls cs o′ → (r ≡ asVisit o) × Kept ps ls cs o
+  pub on-same : {r : Visit} (o′ : Outcome TokenState) → o ≡ o′ → r ≡ asVisit o′ → Kept ps ls cs o′ → (r ≡ asVisit o) × Kept ps ls cs o
   on-same o′ h x y = rw h (x, y)

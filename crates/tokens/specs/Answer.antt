@@ -16,7 +16,7 @@ use Rattle.token.specs.Answer.{tokenValues, extraBits, signOf, sizeOf, zerosOf}
 use Rattle.token.specs.declared.Token.{Token}
 use Rattle.token.specs.declared.Token.the-variants as t
 use Rattle.bitstream.specs.Bits.{number}
-use Rattle.tokens.specs.Tokens.{State, Choices, Tokens, group, act}
+use Rattle.tokens.specs.Tokens.{TokenState, Choices, Tokens, group, act}
 use Rattle.tokens.specs.declared.Visit.{Visit}
 use Rattle.tokens.specs.declared.Visit.the-variants as visit
 use Rattle.tokens.specs.declared.Chosen.{Chosen}
@@ -24,16 +24,16 @@ use Rattle.tokens.specs.declared.Chosen.the-variants as chosen
 use Rattle.tokens.specs.declared.Counted.{Counted}
 use Rattle.tokens.specs.declared.Counted.the-variants as counted
 
-abbrev pub asVisit : Outcome State → Visit
+abbrev pub asVisit : Outcome TokenState → Visit
 asVisit (got s e) = visit.Done e (s .run) (s .tokens)
 asVisit (refused k e) = visit.Refused k e
 
 -- what stands in the slices after an outcome; after a refusal that is open
-abbrev pub Kept : List ℕ → List ℕ → List ℤ → Outcome State → Type 0
+abbrev pub Kept : List ℕ → List ℕ → List ℤ → Outcome TokenState → Type 0
 Kept ps ls cs o = IfGot (λ s. (ps ≡ s .positions) × (ls ≡ s .lasts) × (cs ≡ s .coefs)) o
 
 -- the answer and the slices together
-abbrev pub Visited : Visit → List ℕ → List ℕ → List ℤ → Outcome State → Type 0
+abbrev pub Visited : Visit → List ℕ → List ℕ → List ℤ → Outcome TokenState → Type 0
 Visited r ps ls cs o = (r ≡ asVisit o) × Kept ps ls cs o
 
 -- ---- a token by an entry of a lookup
@@ -62,7 +62,7 @@ outcomeOf (t.Coefficient n v e) = got (coefficient n v) e
 outcomeOf (t.Refused k e) = refused k e
 
 -- what a token that was read does; `act` looks at no packet
-abbrev pub acted : ℕ → ℕ → ℕ → State → Outcome Meaning → Outcome State
+abbrev pub acted : ℕ → ℕ → ℕ → TokenState → Outcome Meaning → Outcome TokenState
 acted k b at s o = after o (λ m e. act k b at m s [] e)
 
 abbrev pub asChosen : Outcome Choices → Chosen

@@ -38,7 +38,7 @@ fn read_token(packet: &[u8], at: usize, nodes: &[u8], rows: &[u32]) -> Token
 {
     let code = huffman::read_code(packet, at, nodes);
     let Field::Got(t, next) = code else {
-        return Token::Refused(4, at);
+        return Token::Refused(bitstream::PACKET_ENDS, at);
     };
     let whole = token::read_extra(packet, next, t as usize, rows);
     if let Token::Refused(number, _) = whole {
@@ -135,7 +135,7 @@ fn act_on(
         Token::ZeroRun(n, next) => {
             let to = k + n as usize;
             if 64 < to {
-                return Visit::Refused(13, at);
+                return Visit::Refused(bitstream::PAST_BLOCK, at);
             }
             positions[b] = to as u8;
             lasts[b] = k as u8;
@@ -144,7 +144,7 @@ fn act_on(
         Token::Coefficient(n, v, next) => {
             let to = k + n as usize;
             if 64 < to + 1 {
-                return Visit::Refused(13, at);
+                return Visit::Refused(bitstream::PAST_BLOCK, at);
             }
             coefs[64 * b + to] = v;
             positions[b] = (to + 1) as u8;

@@ -9,7 +9,7 @@ use Rattle.bitstream.specs.Reading.{got, refused, field, whole}
 use Rattle.numeric.specs.Divide.{roundOver}
 use Rattle.geometry.specs.declared.PixelFormat.the-variants.{Chroma420, Chroma422}
 use Rattle.geometry.specs.Sizes.{total, blocksBefore}
-use Rattle.geometry.specs.Order.{inTurn, present, moved, tile, row as rowOfTiles, ordered}
+use Rattle.geometry.specs.Order.{inTurn, present, shifted, square, row as rowOfSquares, ordered}
 use Rattle.geometry.specs.Macro.{fourOf, chromaOf, blocksOfMacro}
 use Rattle.geometry.specs.Raster.{rasterNumber}
 use Rattle.block_record.specs.declared.Vector.{Vector}
@@ -40,11 +40,11 @@ cut = refl
 
 -- no block is coded: the vector bit is read all the same, and must be there
 bit : vectors Chroma420 1 1 (0 ∷ []) (replicate 6 uncoded) (0x80 ∷ []) 0 ≡ got (replicate 6 uncoded) 1
-unfolding vectors macroBlocks macroBlock motion still moving movingGolden lastRead movingFour row ifCoded vector component byCode variable added withSign shortest width least predictedFrom predictedAt codedIn numberIn predictionOf fourVector lumaVector chromaVector meanOfTwo meanOfFour roundOver rasterNumber blocksBefore total blocksOfMacro fourOf chromaOf ordered rowOfTiles tile present moved inTurn whole field number bitAt
+unfolding vectors macroBlocks macroBlock motion still moving movingGolden lastRead movingFour row ifCoded vector component byCode variable added withSign shortest width least predictedFrom predictedAt codedIn numberIn predictionOf fourVector lumaVector chromaVector meanOfTwo meanOfFour roundOver rasterNumber blocksBefore total blocksOfMacro fourOf chromaOf ordered rowOfSquares square present shifted inTurn whole field number bitAt
 bit = refl
 
 no-bit : vectors Chroma420 1 1 (0 ∷ []) (replicate 6 uncoded) [] 0 ≡ refused 4 0
-unfolding vectors macroBlocks macroBlock motion still moving movingGolden lastRead movingFour row ifCoded vector component byCode variable added withSign shortest width least predictedFrom predictedAt codedIn numberIn predictionOf fourVector lumaVector chromaVector meanOfTwo meanOfFour roundOver rasterNumber blocksBefore total blocksOfMacro fourOf chromaOf ordered rowOfTiles tile present moved inTurn whole field number bitAt
+unfolding vectors macroBlocks macroBlock motion still moving movingGolden lastRead movingFour row ifCoded vector component byCode variable added withSign shortest width least predictedFrom predictedAt codedIn numberIn predictionOf fourVector lumaVector chromaVector meanOfTwo meanOfFour roundOver rasterNumber blocksBefore total blocksOfMacro fourOf chromaOf ordered rowOfSquares square present shifted inTurn whole field number bitAt
 no-bit = refl
 
 -- FOUR in 4:2:0: A is (1, 0), B (1, -1), C (0, -1), D is not coded and zero; the means are 2/4 and -2/4, which round to 1 and -1
@@ -53,7 +53,7 @@ four : vectors Chroma420 1 1 (7 ∷ []) (with None ∷ with None ∷ with None �
     (with (Previous (v (pos 1) (pos 0))) ∷ with (Previous (v (pos 1) (negsuc 0))) ∷ with (Previous (v (pos 0) (negsuc 0))) ∷ uncoded
     ∷ with (Previous (v (pos 1) (negsuc 0))) ∷ with (Previous (v (pos 1) (negsuc 0))) ∷ [])
     19
-unfolding vectors macroBlocks macroBlock motion still moving movingGolden lastRead movingFour row ifCoded vector component byCode variable added withSign shortest width least predictedFrom predictedAt codedIn numberIn predictionOf fourVector lumaVector chromaVector meanOfTwo meanOfFour roundOver rasterNumber blocksBefore total blocksOfMacro fourOf chromaOf ordered rowOfTiles tile present moved inTurn whole field number bitAt
+unfolding vectors macroBlocks macroBlock motion still moving movingGolden lastRead movingFour row ifCoded vector component byCode variable added withSign shortest width least predictedFrom predictedAt codedIn numberIn predictionOf fourVector lumaVector chromaVector meanOfTwo meanOfFour roundOver rasterNumber blocksBefore total blocksOfMacro fourOf chromaOf ordered rowOfSquares square present shifted inTurn whole field number bitAt
 four = refl
 
 -- in 4:2:2 the upper chroma block has the mean of C and D: 1/2 and -1/2
@@ -73,5 +73,5 @@ modes : vectors Chroma420 8 1 (2 ∷ 2 ∷ 4 ∷ 3 ∷ 0 ∷ 1 ∷ 5 ∷ 6 ∷ [
     ∷ with (Golden (v (pos 0) (pos 0))) ∷ uncoded ∷ with (Golden (v (pos 0) (pos 2))) ∷ uncoded
     ∷ replicate 32 uncoded)
     37
-unfolding vectors macroBlocks macroBlock motion still moving movingGolden lastRead movingFour row ifCoded vector component byCode variable added withSign shortest width least predictedFrom predictedAt codedIn numberIn predictionOf fourVector lumaVector chromaVector meanOfTwo meanOfFour roundOver rasterNumber blocksBefore total blocksOfMacro fourOf chromaOf ordered rowOfTiles tile present moved inTurn whole field number bitAt
+unfolding vectors macroBlocks macroBlock motion still moving movingGolden lastRead movingFour row ifCoded vector component byCode variable added withSign shortest width least predictedFrom predictedAt codedIn numberIn predictionOf fourVector lumaVector chromaVector meanOfTwo meanOfFour roundOver rasterNumber blocksBefore total blocksOfMacro fourOf chromaOf ordered rowOfSquares square present shifted inTurn whole field number bitAt
 modes = refl

@@ -27,7 +27,7 @@ use Rattle.block_record.proofs.MemoryLaws.{AllInRange, in-range-at, in-range-se
 use Rattle.vectors.specs.declared.Motion.{Motion}
 use Rattle.vectors.specs.Component.{added, width, least, variable, byCode, component, vector}
 use Rattle.vectors.specs.Motion.{zeroVector, still, moving, movingGolden, ifCoded, row, movingFour, motion, predictionOf, MotionInRange}
-use Rattle.vectors.specs.Vectors.{numberIn, predictedAt, predictedFrom, State, macroBlock, macroBlocks, vectors}
+use Rattle.vectors.specs.Vectors.{numberIn, predictedAt, predictedFrom, VectorState, macroBlock, macroBlocks, vectors}
 use Rattle.vectors.proofs.Components.{long-fits}
 use Rattle.vectors.proofs.Motions.{zero-small, prediction-small}
 use Rattle.vectors.proofs.Records.{macro-through, first}
@@ -61,11 +61,11 @@ motion-lawful code mode a b c d last last2 =
     (pick-lawful (eqb mode 7) (bind-lawful (row-lawful code a b) (λ l. bind-lawful (row-lawful code c d) (λ u. pure-lawful _))) (pure-lawful (still mode last last2))))
 
 module _ (f : PixelFormat) (w h code : ℕ) where
-  macro-lawful : (mode : ℕ) (q : Place) (s : State) → Lawful (macroBlock f w h code mode q s)
+  macro-lawful : (mode : ℕ) (q : Place) (s : VectorState) → Lawful (macroBlock f w h code mode q s)
   unfolding macroBlock
   macro-lawful mode q s = bind-lawful (motion-lawful code mode _ _ _ _ (s .last) (s .last2)) (λ m. pure-lawful _)
 
-  each-lawful : (modes : List ℕ) (n m : ℕ) (s : State) → Lawful (macroBlocks f w h code modes n m s)
+  each-lawful : (modes : List ℕ) (n m : ℕ) (s : VectorState) → Lawful (macroBlocks f w h code modes n m s)
   unfolding macroBlocks
   each-lawful modes zero m s = pure-lawful s
   each-lawful modes (suc n) m s = bind-lawful (macro-lawful (getD modes m 0) (getD (codedMacros w h) m (at 0 0)) s) (λ t. each-lawful modes n (m + 1) t)
@@ -103,11 +103,11 @@ motion-inside code mode a b c d last last2 =
     (pick-inside (eqb mode 7) (bind-inside (row-inside code a b) (λ l. bind-inside (row-inside code c d) (λ u. pure-inside _))) (pure-inside (still mode last last2))))
 
 module _ (f : PixelFormat) (w h code : ℕ) where
-  macro-inside : {d : ℕ} (mode : ℕ) (q : Place) (s : State) → Inside d (macroBlock f w h code mode q s)
+  macro-inside : {d : ℕ} (mode : ℕ) (q : Place) (s : VectorState) → Inside d (macroBlock f w h code mode q s)
   unfolding macroBlock
   macro-inside mode q s = bind-inside (motion-inside code mode _ _ _ _ (s .last) (s .last2)) (λ m. pure-inside _)
 
-  each-inside : {d : ℕ} (modes : List ℕ) (n m : ℕ) (s : State) → Inside d (macroBlocks f w h code modes n m s)
+  each-inside : {d : ℕ} (modes : List ℕ) (n m : ℕ) (s : VectorState) → Inside d (macroBlocks f w h code modes n m s)
   unfolding macroBlocks
   each-inside modes zero m s = pure-inside s
   each-inside modes (suc n) m s = bind-inside (macro-inside (getD modes m 0) (getD (codedMacros w h) m (at 0 0)) s) (λ t. each-inside modes n (m + 1) t)
@@ -145,11 +145,11 @@ module _ {ks : List ℕ} (four : among ks 4 ≡ true) where
       (pick-refuses (eqb mode 6) (bind-refuses (vector-refuses code) (λ v. pure-refuses _))
       (pick-refuses (eqb mode 7) (bind-refuses (row-refuses code a b) (λ l. bind-refuses (row-refuses code c d) (λ u. pure-refuses _))) (pure-refuses (still mode last last2))))
 
-  macro-refuses : (f : PixelFormat) (w h code mode : ℕ) (q : Place) (s : State) → Refuses ks (macroBlock f w h code mode q s)
+  macro-refuses : (f : PixelFormat) (w h code mode : ℕ) (q : Place) (s : VectorState) → Refuses ks (macroBlock f w h code mode q s)
   unfolding macroBlock
   macro-refuses f w h code mode q s = bind-refuses (motion-refuses code mode _ _ _ _ (s .last) (s .last2)) (λ m. pure-refuses _)
 
-  each-refuses : (f : PixelFormat) (w h code : ℕ) (modes : List ℕ) (n m : ℕ) (s : State) → Refuses ks (macroBlocks f w h code modes n m s)
+  each-refuses : (f : PixelFormat) (w h code : ℕ) (modes : List ℕ) (n m : ℕ) (s : VectorState) → Refuses ks (macroBlocks f w h code modes n m s)
   unfolding macroBlocks
   each-refuses f w h code modes zero m s = pure-refuses s
   each-refuses f w h code modes (suc n) m s =
@@ -193,11 +193,11 @@ motion-spends code mode a b c d last last2 =
     (λ _. spends-more (omega arith) (pure-spends (still mode last last2)))))
 
 module _ (f : PixelFormat) (w h code : ℕ) where
-  macro-spends : (mode : ℕ) (q : Place) (s : State) → Spends 64 (macroBlock f w h code mode q s)
+  macro-spends : (mode : ℕ) (q : Place) (s : VectorState) → Spends 64 (macroBlock f w h code mode q s)
   unfolding macroBlock
   macro-spends mode q s = bind-spends {b = 0} (motion-spends code mode _ _ _ _ (s .last) (s .last2)) (λ m. pure-spends _)
 
-  each-spends : (modes : List ℕ) (n m : ℕ) (s : State) → Spends (n * 64) (macroBlocks f w h code modes n m s)
+  each-spends : (modes : List ℕ) (n m : ℕ) (s : VectorState) → Spends (n * 64) (macroBlocks f w h code modes n m s)
   unfolding macroBlocks
   each-spends modes zero m s = rw zero-mul (pure-spends s)
   each-spends modes (suc n) m s =
@@ -242,18 +242,18 @@ module _ (f : PixelFormat) (w h : ℕ) where
   blocks-keep q m g l (suc n) k rs a = blocks-keep q m g l n (k + 1) _ (predicted-keeps l (numberIn f w h q k) (predictionOf f m k) rs (prediction-small f m k g) a)
 
   -- what a state keeps
-  pub record StateKeeps (l : List BlockRecord) (s : State) : Type 0 where
+  pub record StateKeeps (l : List BlockRecord) (s : VectorState) : Type 0 where
     pub records : Keeps l (s .records)
     pub last : VectorInRange (s .last)
     pub last2 : VectorInRange (s .last2)
 
-  macro-keeps : (code mode : ℕ) (q : Place) (s : State) (l : List BlockRecord) (p : List ℕ) (i : ℕ) {t : State} {e : ℕ} → StateKeeps l s → macroBlock f w h code mode q s p i ≡ got t e → StateKeeps l t
+  macro-keeps : (code mode : ℕ) (q : Place) (s : VectorState) (l : List BlockRecord) (p : List ℕ) (i : ℕ) {t : VectorState} {e : ℕ} → StateKeeps l s → macroBlock f w h code mode q s p i ≡ got t e → StateKeeps l t
   macro-keeps code mode q s l p i a r =
       let u = macro-through f w h code mode q s p i (a .last) (a .last2) r in
       subst (StateKeeps l) (u .2)
       (record { records = blocks-keep q (u .0 .motion) (u .1 .motion) l (blocksEach f) 0 (s .records) (a .records); last = u .1 .last; last2 = u .1 .last2 })
 
-  each-keep : (code : ℕ) (modes : List ℕ) (n m : ℕ) (s : State) (l : List BlockRecord) (p : List ℕ) (i : ℕ) {t : State} {e : ℕ} → StateKeeps l s → macroBlocks f w h code modes n m s p i ≡ got t e → StateKeeps l t
+  each-keep : (code : ℕ) (modes : List ℕ) (n m : ℕ) (s : VectorState) (l : List BlockRecord) (p : List ℕ) (i : ℕ) {t : VectorState} {e : ℕ} → StateKeeps l s → macroBlocks f w h code modes n m s p i ≡ got t e → StateKeeps l t
   unfolding macroBlocks
   each-keep code modes zero m s l p i {t} {e} a r = let z : s ≡ t = cc in subst (StateKeeps l) z a
   each-keep code modes (suc n) m s l p i {t} {e} a r =

@@ -29,7 +29,7 @@ use Rattle.vectors.specs.declared.Moved.{Moved}
 use Rattle.vectors.specs.declared.Step.{Step}
 use Rattle.vectors.specs.declared.Step.the-variants.{Next, Refused}
 use Rattle.vectors.specs.Motion.{zeroVector, motion, predictionOf, MovedInRange}
-use Rattle.vectors.specs.Vectors.{numberIn, codedIn, predictedAt, predictedFrom, State, macroBlock, macroBlocks, vectors}
+use Rattle.vectors.specs.Vectors.{numberIn, codedIn, predictedAt, predictedFrom, VectorState, macroBlock, macroBlocks, vectors}
 use Rattle.vectors.specs.Memory.{stateOf, StoredState, asStep}
 use Rattle.vectors.proofs.Motions.{motion-small}
 
@@ -80,13 +80,13 @@ module _ (f : PixelFormat) (w h : ℕ) (q : Place) (m : Motion) (n k : ℕ) (rs 
   blocks-on l = let z : n - k ≡ suc (n - (k + 1)) = omega arith in ap (λ (j : ℕ). predictedFrom f w h q m j k rs) z ∙ blocks-suc (n - (k + 1))
 
 -- ---- one macro block
-module _ (f : PixelFormat) (w h code mode : ℕ) (q : Place) (s : State) (p : List ℕ) (i : ℕ) where
+module _ (f : PixelFormat) (w h code mode : ℕ) (q : Place) (s : VectorState) (p : List ℕ) (i : ℕ) where
   abbrev pub moves : Outcome Moved
   moves =
       motion code mode (codedIn f w h q (s .records) 0) (codedIn f w h q (s .records) 1) (codedIn f w h q (s .records) 2) (codedIn f w h q (s .records) 3)
       (s .last) (s .last2) p i
 
-  abbrev pub movedTo : Moved → State
+  abbrev pub movedTo : Moved → VectorState
   movedTo m = record { records = predictedFrom f w h q (m .motion) (blocksEach f) 0 (s .records); last = m .last; last2 = m .last2 }
 
   pub macro-end : {k e : ℕ} → moves ≡ refused k e → macroBlock f w h code mode q s p i ≡ refused k e
@@ -98,7 +98,7 @@ module _ (f : PixelFormat) (w h code mode : ℕ) (q : Place) (s : State) (p : Li
   macro-moved g = rw g
 
   -- what a macro block that was got went through
-  pub macro-through : VectorInRange (s .last) → VectorInRange (s .last2) → {t : State} {e : ℕ} → macroBlock f w h code mode q s p i ≡ got t e → (m : Moved) × MovedInRange m × (movedTo m ≡ t)
+  pub macro-through : VectorInRange (s .last) → VectorInRange (s .last2) → {t : VectorState} {e : ℕ} → macroBlock f w h code mode q s p i ≡ got t e → (m : Moved) × MovedInRange m × (movedTo m ≡ t)
   unfolding macroBlock
   macro-through k k2 r =
       let u = bind-got
@@ -106,12 +106,12 @@ module _ (f : PixelFormat) (w h code mode : ℕ) (q : Place) (s : State) (p : Li
       (λ m. pure (movedTo m)) p i r in
       (u .0, motion-small code mode _ _ _ _ (s .last) (s .last2) p i k k2 (u .0) (u .1) (u .2), same (u .0) (u .3))
     where
-      same : (m : Moved) {d : ℕ} {t : State} {e : ℕ} → _≡_ {A = Outcome State} (got (movedTo m) d) (got t e) → movedTo m ≡ t
+      same : (m : Moved) {d : ℕ} {t : VectorState} {e : ℕ} → _≡_ {A = Outcome VectorState} (got (movedTo m) d) (got t e) → movedTo m ≡ t
       same m z = cc
 
 -- ---- macro blocks, one after the other
-module _ (f : PixelFormat) (w h code : ℕ) (modes p : List ℕ) (n m i : ℕ) (s : State) where
-  abbrev pub this : Outcome State
+module _ (f : PixelFormat) (w h code : ℕ) (modes p : List ℕ) (n m i : ℕ) (s : VectorState) where
+  abbrev pub this : Outcome VectorState
   this = macroBlock f w h code (getD modes m 0) (getD (codedMacros w h) m (at 0 0)) s p i
 
   pub each-done : n ≤ m → macroBlocks f w h code modes (n - m) m s p i ≡ got s i
@@ -122,16 +122,16 @@ module _ (f : PixelFormat) (w h code : ℕ) (modes p : List ℕ) (n m i : ℕ) (
   unfolding macroBlocks
   each-end l g = let z : n - m ≡ suc (n - (m + 1)) = omega arith in rw (z, g)
 
-  each-suc : (j : ℕ) {t : State} {e : ℕ} → this ≡ got t e → macroBlocks f w h code modes (suc j) m s p i ≡ macroBlocks f w h code modes j (m + 1) t p e
+  each-suc : (j : ℕ) {t : VectorState} {e : ℕ} → this ≡ got t e → macroBlocks f w h code modes (suc j) m s p i ≡ macroBlocks f w h code modes j (m + 1) t p e
   unfolding macroBlocks
   each-suc j g = rw g
 
-  pub each-on : m < n → {t : State} {e : ℕ} → this ≡ got t e → macroBlocks f w h code modes (n - m) m s p i ≡ macroBlocks f w h code modes (n - (m + 1)) (m + 1) t p e
+  pub each-on : m < n → {t : VectorState} {e : ℕ} → this ≡ got t e → macroBlocks f w h code modes (n - m) m s p i ≡ macroBlocks f w h code modes (n - (m + 1)) (m + 1) t p e
   each-on l g = let z : n - m ≡ suc (n - (m + 1)) = omega arith in ap (λ (j : ℕ). macroBlocks f w h code modes j m s p i) z ∙ each-suc (n - (m + 1)) g
 
 -- ---- the whole
 module _ (f : PixelFormat) (w h : ℕ) (modes : List ℕ) (rs : List BlockRecord) (p : List ℕ) (i : ℕ) where
-  abbrev pub first : State
+  abbrev pub first : VectorState
   first = record { records = rs; last = zeroVector; last2 = zeroVector }
 
   pub all-end : {k e : ℕ} → field 1 p i ≡ refused k e → vectors f w h modes rs p i ≡ refused k e
@@ -142,13 +142,13 @@ module _ (f : PixelFormat) (w h : ℕ) (modes : List ℕ) (rs : List BlockRecord
   unfolding vectors
   all-refused g r = rw (g, r)
 
-  pub all-got : {c e d : ℕ} {s : State} → field 1 p i ≡ got c e → macroBlocks f w h c modes (length modes) 0 first p e ≡ got s d → vectors f w h modes rs p i ≡ got (s .records) d
+  pub all-got : {c e d : ℕ} {s : VectorState} → field 1 p i ≡ got c e → macroBlocks f w h c modes (length modes) 0 first p e ≡ got s d → vectors f w h modes rs p i ≡ got (s .records) d
   unfolding vectors
   all-got g r = rw (g, r)
 
 -- ---- what an answer says of the outcome, by its arm, where the slice holds `out`
 module _ (out : List ℕ) where
-  pub step-next : (o : Outcome State) {r : Step} {v v2 : Vector} {e : ℕ} → r ≡ asStep o → StoredState out o → r ≡ Next v v2 e → (o ≡ got (stateOf out v v2) e) × AllPacked out
+  pub step-next : (o : Outcome VectorState) {r : Step} {v v2 : Vector} {e : ℕ} → r ≡ asStep o → StoredState out o → r ≡ Next v v2 e → (o ≡ got (stateOf out v v2) e) × AllPacked out
   step-next (got s d) a k g =
       let z = sym a ∙ g in
       ((λ i. got (record { records = sym (k .0) i; last = next-last z i; last2 = next-last2 z i }) (next-place z i)), k .1)
@@ -163,16 +163,16 @@ module _ (out : List ℕ) where
       next-place z = cc
   step-next (refused j d) a k g = let z : _≡_ {A = ℕ} 0 1 = cc in absurd (omega arith)
 
-pub step-refused : (o : Outcome State) {r : Step} {k e : ℕ} → r ≡ asStep o → r ≡ Refused k e → o ≡ refused k e
+pub step-refused : (o : Outcome VectorState) {r : Step} {k e : ℕ} → r ≡ asStep o → r ≡ Refused k e → o ≡ refused k e
 step-refused (got s d) a g = let z : _≡_ {A = ℕ} 0 1 = cc in absurd (omega arith)
 step-refused (refused j d) a g = cc
 
 -- ---- what a return has to show
-module _ (out : List ℕ) (o : Outcome State) where
+module _ (out : List ℕ) (o : Outcome VectorState) where
   pub on-step-refused : {k e : ℕ} → o ≡ refused k e → (Refused k e ≡ asStep o) × StoredState out o
   on-step-refused h = rw h (refl, tt)
 
-  pub on-step : {s : State} {e : ℕ} → o ≡ got s e → recordsOf out ≡ s .records → AllPacked out → (Next (s .last) (s .last2) e ≡ asStep o) × StoredState out o
+  pub on-step : {s : VectorState} {e : ℕ} → o ≡ got s e → recordsOf out ≡ s .records → AllPacked out → (Next (s .last) (s .last2) e ≡ asStep o) × StoredState out o
   on-step h k a = rw h (refl, (k, a))
 
   pub on-each-refused : {k e : ℕ} → o ≡ refused k e → (end.Refused k e ≡ asEnd o) × StoredState out o
@@ -182,8 +182,8 @@ module _ (out : List ℕ) (o : Outcome State) where
   on-each h a = rw h (refl, (refl, a))
 
 -- the records of the last state are what is stored
-pub on-vectors : (out : List ℕ) (o : Outcome State) (v : Outcome (List BlockRecord)) {r : End}
-    → ((k e : ℕ) → o ≡ refused k e → v ≡ refused k e) → ((s : State) (e : ℕ) → o ≡ got s e → v ≡ got (s .records) e)
+pub on-vectors : (out : List ℕ) (o : Outcome VectorState) (v : Outcome (List BlockRecord)) {r : End}
+    → ((k e : ℕ) → o ≡ refused k e → v ≡ refused k e) → ((s : VectorState) (e : ℕ) → o ≡ got s e → v ≡ got (s .records) e)
     → r ≡ asEnd o → StoredState out o → (r ≡ asEnd v) × StoredAs (map packed) out v
 on-vectors out (got s e) v f g a k = rw (g s e refl) (a, packed-records out (k .1) ∙ ap (map packed) (k .0))
 on-vectors out (refused j e) v f g a k = rw (f j e refl) (a, tt)

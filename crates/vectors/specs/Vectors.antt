@@ -36,19 +36,19 @@ predictedFrom f w h q m zero k rs = rs
 predictedFrom f w h q m (suc n) k rs = predictedFrom f w h q m n (k + 1) (predictedAt (numberIn f w h q k) (predictionOf f m k) rs)
 
 -- the records by raster number, and the vectors that are kept
-pub record State : Type 0 where
+pub record VectorState : Type 0 where
   pub records : List BlockRecord
   pub last : Vector
   pub last2 : Vector
 
 -- one macro block
-unfoldable pub macroBlock : PixelFormat → ℕ → ℕ → ℕ → ℕ → Place → State → Parse State
+unfoldable pub macroBlock : PixelFormat → ℕ → ℕ → ℕ → ℕ → Place → VectorState → Parse VectorState
 macroBlock f w h code mode q s = do
   m ← motion code mode (codedIn f w h q (s .records) 0) (codedIn f w h q (s .records) 1) (codedIn f w h q (s .records) 2) (codedIn f w h q (s .records) 3) (s .last) (s .last2)
   pure (record { records = predictedFrom f w h q (m .motion) (blocksEach f) 0 (s .records); last = m .last; last2 = m .last2 })
 
 -- n more macro blocks in coded order, from macro block m on; modes holds the mode of each
-unfoldable pub macroBlocks : PixelFormat → ℕ → ℕ → ℕ → List ℕ → ℕ → ℕ → State → Parse State
+unfoldable pub macroBlocks : PixelFormat → ℕ → ℕ → ℕ → List ℕ → ℕ → ℕ → VectorState → Parse VectorState
 macroBlocks f w h code modes zero m s = pure s
 macroBlocks f w h code modes (suc n) m s = bind (macroBlock f w h code (getD modes m 0) (getD (codedMacros w h) m (at 0 0)) s) (macroBlocks f w h code modes n (m + 1))
 

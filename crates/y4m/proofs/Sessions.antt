@@ -12,7 +12,8 @@ use Rattle.bitstream.specs.Reading.{choose}
 use Rattle.headers.specs.declared.Fields.{Fields}
 use Rattle.headers.specs.declared.Session.{Session}
 use Rattle.headers.specs.Fits.{all, widthsFit, pictureInside, rangesHold, withinShift, sessionFits}
-use Rattle.headers.proofs.Fitting.{and-both, all-at}
+use Rattle.bitstream.proofs.ListLaws.{and-both}
+use Rattle.headers.proofs.Fitting.{all-at}
 use Rattle.y4m.specs.declared.Numbers.{Numbers}
 use Rattle.y4m.specs.Stream.{aspect, numbersOf}
 use Rattle.y4m.specs.Film.{sizeFits, rateFits, aspectFits, formatFits, numbersFit}

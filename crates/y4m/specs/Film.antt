@@ -5,6 +5,7 @@ use mathlib.Core.List.{List, _++_}
 use lib.Dec.{eqb, leb}
 use lib.ListN.{length, take, drop, getD}
 use Rattle.bitstream.specs.Reading.{choose}
+use Rattle.bitstream.specs.Numbers.{shortOutput, otherStream}
 use Rattle.geometry.specs.Order.{inTurn}
 use Rattle.output.specs.Output.{part}
 use Rattle.text.specs.Decimal.{Scanned, number}
@@ -98,8 +99,8 @@ pub data Holds : Type 0 where
 abbrev pub filmWith : Numbers → List ℕ → ℕ → Holds
 filmWith n t room =
     choose (isStreamOf n t)
-    (choose (leb (framesOf n t * frameBytes n) room) (holds n (framesOf n t) (planesOf n (bodyOf n t) (framesOf n t))) (refused 14))
-    (refused 21)
+    (choose (leb (framesOf n t * frameBytes n) room) (holds n (framesOf n t) (planesOf n (bodyOf n t) (framesOf n t))) (refused shortOutput))
+    (refused otherStream)
 
 unfoldable pub filmIn : List ℕ → ℕ → Holds
 filmIn t room = filmWith (numbersIn t) t room

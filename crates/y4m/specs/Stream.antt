@@ -5,6 +5,7 @@ use mathlib.Core.List.{List, [], _∷_, _++_}
 use lib.Dec.{eqb, leb}
 use lib.ListN.{length, take, drop, getD}
 use Rattle.bitstream.specs.Reading.{choose}
+use Rattle.bitstream.specs.Numbers.{wrongLength, notGenuine}
 use Rattle.geometry.specs.declared.PixelFormat.{PixelFormat}
 use Rattle.geometry.specs.Sizes.{across, up, planeBlocks, blocksBefore, blocksOf}
 use Rattle.geometry.specs.Order.{inTurn}
@@ -107,16 +108,16 @@ abbrev pub countOf : Numbers → List ℕ → ℕ
 countOf n frames = length frames / frameBytes n
 
 abbrev pub streamWith : Numbers → List ℕ → ℕ → Output
-streamWith n frames room = choose (whole n frames) (within room (streamText n frames (countOf n frames))) (refused 1)
+streamWith n frames room = choose (whole n frames) (within room (streamText n frames (countOf n frames))) (refused wrongLength)
 
 unfoldable pub streamFor : Session → List ℕ → ℕ → Output
-streamFor s frames room = choose (sessionFits s) (streamWith (numbersOf s) frames room) (refused 8)
+streamFor s frames room = choose (sessionFits s) (streamWith (numbersOf s) frames room) (refused notGenuine)
 
 unfoldable pub headerFor : Session → ℕ → Output
-headerFor s room = choose (sessionFits s) (within room (headerText (numbersOf s))) (refused 8)
+headerFor s room = choose (sessionFits s) (within room (headerText (numbersOf s))) (refused notGenuine)
 
 abbrev pub frameWith : Numbers → List ℕ → ℕ → Output
-frameWith n planes room = choose (eqb (length planes) (frameBytes n)) (within room (frameText n planes)) (refused 1)
+frameWith n planes room = choose (eqb (length planes) (frameBytes n)) (within room (frameText n planes)) (refused wrongLength)
 
 unfoldable pub frameFor : Session → List ℕ → ℕ → Output
-frameFor s planes room = choose (sessionFits s) (frameWith (numbersOf s) planes room) (refused 8)
+frameFor s planes room = choose (sessionFits s) (frameWith (numbersOf s) planes room) (refused notGenuine)

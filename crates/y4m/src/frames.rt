@@ -5,7 +5,7 @@ ghost use mathlib.Core.Path.{_≡_};
 ghost use mathlib.Core.Bool.{true};
 ghost use Prim.Native.Nat.{_+_, _*_, _≤_};
 ghost use lib.ListN.{length, drop};
-ghost use Rattle.geometry.specs.Sizes.{blocksOf};
+ghost use Rattle.geometry.specs.Sizes.{blocksOf, largest};
 ghost use Rattle.output.specs.Output.{part, spliced};
 ghost use Rattle.text.specs.Same.{same};
 ghost use Rattle.y4m.specs.Stream.{frameBytes, frameRows, rowsOf, frameLine, frameText, framesText};
@@ -13,7 +13,7 @@ ghost use Rattle.y4m.specs.Film.{numbersFit, step, marked, planesOf};
 
 // The three planes of src, the rows of each turned over.
 fn turn_planes(format: PixelFormat, w: u64, h: u64, src: &[u8], dst: &mut [u8])
-    requires { ⌜ (w ≤ 65535) × (h ≤ 65535) × (length (now src) ≡ 64 * blocksOf format w h) × (length (now dst) ≡ 64 * blocksOf format w h) ⌝ }
+    requires { ⌜ (w ≤ largest) × (h ≤ largest) × (length (now src) ≡ 64 * blocksOf format w h) × (length (now dst) ≡ 64 * blocksOf format w h) ⌝ }
     ensures { λ _. ⌜ now (dst .exit) ≡ frameRows format w h (now (src .entry)) ⌝ }
 {
     let mut p: u64 = 0;

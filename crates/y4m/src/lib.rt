@@ -43,10 +43,10 @@ fn write_stream(n: Numbers, size: usize, frames: &[u8], out: &mut [u8]) -> Writt
     let mut line = [0u8; 110];
     let head = header::put_header(n, &mut line);
     if out.len() < head {
-        return Written::Refused(14, 0);
+        return Written::Refused(bitstream::SHORT_OUTPUT, 0);
     }
     if (out.len() - head) / (6 + size) < count {
-        return Written::Refused(14, 0);
+        return Written::Refused(bitstream::SHORT_OUTPUT, 0);
     }
     let begin = output::put(out, 0, &line[..head]);
     let end = frames::put_frames(n, size, frames, count, out, begin);
@@ -59,12 +59,12 @@ pub fn write(s: Session, frames: &[u8], out: &mut [u8]) -> Written
     ensures { λ _. ⌜ now (out .exit) ≡ leftBy (streamFor s (now (frames .entry)) (length (now (out .entry)))) (now (out .entry)) ⌝ }
 {
     if !headers::session_fits(s) {
-        return Written::Refused(8, 0);
+        return Written::Refused(bitstream::NOT_GENUINE, 0);
     }
     let n = header::numbers_of(s);
     let size = header::frame_bytes(n);
     if frames.len() % size != 0 {
-        return Written::Refused(1, 0);
+        return Written::Refused(bitstream::WRONG_LENGTH, 0);
     }
     write_stream(n, size, frames, out)
 }
@@ -75,13 +75,13 @@ pub fn write_header(s: Session, out: &mut [u8]) -> Written
     ensures { λ _. ⌜ now (out .exit) ≡ leftBy (headerFor s (length (now (out .entry)))) (now (out .entry)) ⌝ }
 {
     if !headers::session_fits(s) {
-        return Written::Refused(8, 0);
+        return Written::Refused(bitstream::NOT_GENUINE, 0);
     }
     let n = header::numbers_of(s);
     let mut line = [0u8; 110];
     let head = header::put_header(n, &mut line);
     if out.len() < head {
-        return Written::Refused(14, 0);
+        return Written::Refused(bitstream::SHORT_OUTPUT, 0);
     }
     let end = output::put(out, 0, &line[..head]);
     Written::Bytes(end as u64)
@@ -93,15 +93,15 @@ pub fn write_frame(s: Session, planes: &[u8], out: &mut [u8]) -> Written
     ensures { λ _. ⌜ now (out .exit) ≡ leftBy (frameFor s (now (planes .entry)) (length (now (out .entry)))) (now (out .entry)) ⌝ }
 {
     if !headers::session_fits(s) {
-        return Written::Refused(8, 0);
+        return Written::Refused(bitstream::NOT_GENUINE, 0);
     }
     let n = header::numbers_of(s);
     let size = header::frame_bytes(n);
     if planes.len() != size {
-        return Written::Refused(1, 0);
+        return Written::Refused(bitstream::WRONG_LENGTH, 0);
     }
     if out.len() < 6 + size {
-        return Written::Refused(14, 0);
+        return Written::Refused(bitstream::SHORT_OUTPUT, 0);
     }
     let end = frames::put_frame(n, planes, out, 0);
     Written::Bytes(end as u64)
@@ -140,10 +140,10 @@ pub fn read(stream: &[u8], planes: &mut [u8]) -> FilmAnswer
 {
     let n = header::numbers_in(stream);
     match look(n, stream) {
-        Looked::Other => FilmAnswer::Refused(21, 0),
+        Looked::Other => FilmAnswer::Refused(bitstream::OTHER_STREAM, 0),
         Looked::Frames(begin, size, count) => {
             if planes.len() / size < count {
-                return FilmAnswer::Refused(14, 0);
+                return FilmAnswer::Refused(bitstream::SHORT_OUTPUT, 0);
             }
             frames::take_frames(n, size, stream, begin, count, planes);
             let film = Film {

@@ -7,8 +7,8 @@ use Rattle.block_record.proofs.Laws.{reference-low, reference-high}
 use Rattle.block_record.proofs.reference.Statement.{statement}
 use Rattle.block_record.proofs.reference.Tie as tie
 
-cast-kind : tie.Need-cast-kind
-cast-kind c = search needs
+cast-code : tie.Need-cast-code
+cast-code c = search needs
 
 returns : tie.Need-returns
 unfolding unpacked
@@ -19,4 +19,4 @@ unfolding unpacked
 returns-2 c = (reference-high (c .before .args .n / 8) (c .if1 .left), omega arith)
 
 pub reference-spec : {M : Type 1} → statement M
-reference-spec = tie.close (tie.spec cast-kind returns returns-2)
+reference-spec = tie.close (tie.spec cast-code returns returns-2)

@@ -10,12 +10,12 @@ use Rattle.block_record.specs.declared.BlockRecord.{BlockRecord}
 use Rattle.block_record.specs.Packed.{unpacked}
 use Rattle.block_record.specs.Record.{referenceOf}
 use Rattle.block_record.proofs.Laws.{unpacked-at}
-use Rattle.dc_prediction.specs.Planes.{State, codedStep, blockStep}
+use Rattle.dc_prediction.specs.Planes.{DcState, codedStep, blockStep}
 use Rattle.dc_prediction.proofs.predict_block.Statement.{statement}
 use Rattle.dc_prediction.proofs.predict_block.Tie as tie
 
 -- a coded block, with the reference r, and one that is not coded
-module _ (ns : List ℕ) (start across : ℕ) (below : Bool) (x : ℕ) (s : State) where
+module _ (ns : List ℕ) (start across : ℕ) (below : Bool) (x : ℕ) (s : DcState) where
   coded : (r : ℕ) → unpacked (getD ns (start + x) 0) .coded ≡ true → r ≡ referenceOf (unpacked (getD ns (start + x) 0) .prediction) → codedStep (map unpacked ns) across below (start + x) x r s ≡ blockStep (map unpacked ns) start across below x s
   unfolding blockStep
   coded r e f =

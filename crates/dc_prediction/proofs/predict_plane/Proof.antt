@@ -9,14 +9,14 @@ use lib.Dec.{ltb}
 use lib.ListN.{length}
 use Rattle.block_record.specs.declared.BlockRecord.{BlockRecord}
 use Rattle.block_record.specs.Packed.{unpacked}
-use Rattle.dc_prediction.specs.Planes.{State, stateOf, atFirst, row, plane}
+use Rattle.dc_prediction.specs.Planes.{DcState, stateOf, atFirst, row, plane}
 use Rattle.ways.specs.Loops.{upTo}
 use Rattle.ways.proofs.Steps.{upTo-more}
 use Rattle.dc_prediction.proofs.predict_plane.Statement.{statement}
 use Rattle.dc_prediction.proofs.predict_plane.Tie as tie
 
 -- row y of a plane
-abbrev rowOf : List BlockRecord → ℕ → ℕ → ℕ → State → State
+abbrev rowOf : List BlockRecord → ℕ → ℕ → ℕ → DcState → DcState
 rowOf records first across y = row records (first + y * across) across (ltb 0 y)
 
 abbrev Inv-loop : tie.InvT-loop
@@ -84,7 +84,7 @@ unfolding plane
 returns c =
     let a = c .before .before .before .args in
     let e : c .before .loop .y ≡ a .up = omega arith in
-    ap (λ (s : State). s .dc) (c .before .loop .inv .2
+    ap (λ (s : DcState). s .dc) (c .before .loop .inv .2
     ∙ ap (λ (n : ℕ). upTo n (rowOf (map unpacked (a .records .now)) (a .first) (a .across)) (stateOf (a .dc .now) atFirst)) e)
 
 pub predict-plane-spec : {M : Type 1} → statement M

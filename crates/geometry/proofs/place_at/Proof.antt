@@ -12,24 +12,24 @@ use borrow.Author.Needs.{needs}
 use Rattle.geometry.proofs.place_at.Statement.{statement}
 use Rattle.geometry.proofs.place_at.Tie as tie
 
-found : (c : tie.After-block-in-corner) → let a = c .before .before .args in let t = c .before .tile-at .result in let p = c .block-in-corner .result in
+found : (c : tie.After-block-in-corner) → let a = c .before .before .args in let t = c .before .square-at .result in let p = c .block-in-corner .result in
     (t .a + p .x < a .w) × (t .b + p .y < a .h) × (at (t .a + p .x) (t .b + p .y) ≡ getD (blockOrder (a .w) (a .h)) (a .i) (at 0 0))
 found c =
     let a = c .before .before .args in
-    let t = c .before .tile-at .result in
-    place-by 4 blockWalk (rankIn blockWalk) block-walk (a .w) (a .h) (a .i) (t .a) (t .b) (t .u) (t .v) (t .rest) (c .before .before .pre .0) (c .before .tile-at .ensures)
+    let t = c .before .square-at .result in
+    place-by 4 blockWalk (rankIn blockWalk) block-walk (a .w) (a .h) (a .i) (t .a) (t .b) (t .u) (t .v) (t .rest) (c .before .before .pre .0) (c .before .square-at .ensures)
     (c .block-in-corner .result) (c .block-in-corner .ensures)
 
-tile-at-requires : tie.Need-tile-at-requires
-tile-at-requires c κs = search needs
+square-at-requires : tie.Need-square-at-requires
+square-at-requires c κs = search needs
 
 block-in-corner-requires : tie.Need-block-in-corner-requires
 block-in-corner-requires c κs =
-    let t = c .tile-at .result in
+    let t = c .square-at .result in
     let a = c .before .args in (
-      omega (arith, c .tile-at .ensures .wide),
-      omega (arith, c .tile-at .ensures .tall),
-      rest-by 4 blockWalk (rankIn blockWalk) block-walk (a .w) (a .h) (a .i) (t .a) (t .b) (t .u) (t .v) (t .rest) (c .before .pre .0) (c .tile-at .ensures),
+      omega (arith, c .square-at .ensures .wide),
+      omega (arith, c .square-at .ensures .tall),
+      rest-by 4 blockWalk (rankIn blockWalk) block-walk (a .w) (a .h) (a .i) (t .a) (t .b) (t .u) (t .v) (t .rest) (c .before .pre .0) (c .square-at .ensures),
     )
 
 add-t6 : tie.Need-add-t6
@@ -43,4 +43,4 @@ returns c = found (c .before .before .before .before) .2
 
 pub place-at-spec : {M : Type 1} → statement M
 place-at-spec =
-    tie.close (tie.spec tile-at-requires block-in-corner-requires add-t6 add-t7 returns)
+    tie.close (tie.spec square-at-requires block-in-corner-requires add-t6 add-t7 returns)

@@ -3,7 +3,7 @@ use mathlib.Core.Path.{_≡_, ap, _∙_}
 use Prim.Native.Nat.{_*_}
 use native.Mathlib.Omega.{arith}
 use Rattle.geometry.specs.declared.Plane.{Plane}
-use Rattle.geometry.specs.Sizes.{tiles, planeSuperBlocks}
+use Rattle.geometry.specs.Sizes.{squares, planeSuperBlocks}
 use Rattle.geometry.proofs.SizeLaws.{PlaneSmall, plane-of-small}
 use Rattle.geometry.proofs.SuperBlockLaws.{supers-before}
 use borrow.Author.Needs.{needs}
@@ -21,8 +21,8 @@ small c =
 counts : (c : tie.After-super-blocks-in2) → let a = c .before .before .before .before .args in
     (c .before .super-blocks-in .result ≡ planeSuperBlocks (a .format) (a .w) (a .h) 0) × (c .super-blocks-in2 .result ≡ planeSuperBlocks (a .format) (a .w) (a .h) 1)
 counts c = (
-  c .before .super-blocks-in .ensures .0 ∙ ap (λ (q : Plane). tiles 4 (q .up) * tiles 4 (q .across)) (c .before .before .before .plane-of .ensures),
-  c .super-blocks-in2 .ensures .0 ∙ ap (λ (q : Plane). tiles 4 (q .up) * tiles 4 (q .across)) (c .before .before .plane-of2 .ensures),
+  c .before .super-blocks-in .ensures .0 ∙ ap (λ (q : Plane). squares 4 (q .up) * squares 4 (q .across)) (c .before .before .before .plane-of .ensures),
+  c .super-blocks-in2 .ensures .0 ∙ ap (λ (q : Plane). squares 4 (q .up) * squares 4 (q .across)) (c .before .before .plane-of2 .ensures),
 )
 
 plane-of-requires : tie.Need-plane-of-requires

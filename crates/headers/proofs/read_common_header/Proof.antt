@@ -14,10 +14,10 @@ use Rattle.headers.proofs.read_common_header.Statement.{statement}
 use Rattle.headers.proofs.read_common_header.Tie as tie
 
 abbrev Inv-loop : tie.InvT-loop
-Inv-loop packet at kind wanted place₀ i₀ place i = (i ≤ 7) × (commonHeader kind packet at ≡ spelled (drop i (kind ∷ theora)) packet place)
+Inv-loop packet at mark wanted place₀ i₀ place i = (i ≤ 7) × (commonHeader mark packet at ≡ spelled (drop i (mark ∷ theora)) packet place)
 
 abbrev μ-loop : tie.MeasureT-loop
-μ-loop packet at kind wanted place₀ i₀ place i = 7 - i
+μ-loop packet at mark wanted place₀ i₀ place i = 7 - i
 
 loop-holds : tie.Need-loop-holds Inv-loop μ-loop
 unfolding commonHeader
@@ -42,8 +42,8 @@ returns : tie.Need-returns Inv-loop μ-loop
 returns c =
     let a = c .before .before .before .before .before .before .before .args in
     let l = c .before .before .before .before .before .loop in
-    let e = read-refused (exactly 8 (getD (a .kind ∷ theora) (l .i) 0) 2 (a .packet .now) (l .place)) (c .before .before .before .read-exactly .ensures) (c .before .k .given .1) in
-    sym (ap asEnd (l .inv .1 ∙ spelled-refused (a .kind ∷ theora) (l .i) (a .packet .now) (l .place) (omega arith) e))
+    let e = read-refused (exactly 8 (getD (a .mark ∷ theora) (l .i) 0) 2 (a .packet .now) (l .place)) (c .before .before .before .read-exactly .ensures) (c .before .k .given .1) in
+    sym (ap asEnd (l .inv .1 ∙ spelled-refused (a .mark ∷ theora) (l .i) (a .packet .now) (l .place) (omega arith) e))
 
 add-i : tie.Need-add-i Inv-loop μ-loop
 add-i c = search needs
@@ -55,8 +55,8 @@ loop-again : tie.Need-loop-again Inv-loop μ-loop
 loop-again c =
     let a = c .before .before .before .before .before .before .before .args in
     let l = c .before .before .before .before .before .loop in
-    let e = read-got (exactly 8 (getD (a .kind ∷ theora) (l .i) 0) 2 (a .packet .now) (l .place)) (c .before .before .before .read-exactly .ensures) (c .before .next .given .1) in
-    (omega arith, l .inv .1 ∙ spelled-next (a .kind ∷ theora) (l .i) (a .packet .now) (l .place) (omega arith) e)
+    let e = read-got (exactly 8 (getD (a .mark ∷ theora) (l .i) 0) 2 (a .packet .now) (l .place)) (c .before .before .before .read-exactly .ensures) (c .before .next .given .1) in
+    (omega arith, l .inv .1 ∙ spelled-next (a .mark ∷ theora) (l .i) (a .packet .now) (l .place) (omega arith) e)
 
 returns-2 : tie.Need-returns-2 Inv-loop μ-loop
 unfolding spelled

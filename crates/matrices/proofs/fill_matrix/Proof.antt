@@ -15,14 +15,14 @@ use Rattle.matrices.proofs.fill_matrix.Statement.{statement}
 use Rattle.matrices.proofs.fill_matrix.Tie as tie
 
 -- the value at the coefficient c
-abbrev rule : List ℕ → (first second : ℕ) → Range → (kind qi dc ac c : ℕ) → ℕ
-rule p first second r kind qi dc ac c = valueAt kind dc ac r qi c (number p (first + c * 8) 8) (number p (second + c * 8) 8)
+abbrev rule : List ℕ → (first second : ℕ) → Range → (qti qi dc ac c : ℕ) → ℕ
+rule p first second r qti qi dc ac c = valueAt qti dc ac r qi c (number p (first + c * 8) 8) (number p (second + c * 8) 8)
 
 abbrev Inv-loop : tie.InvT-loop
-Inv-loop packet first second range kind qi dc ac out₀ c₀ out c = (1 ≤ c) × (c ≤ 64) × (length out ≡ 64) × ((j : ℕ) → j < c → getD out j 0 ≡ rule packet first second range kind qi dc ac j)
+Inv-loop packet first second range qti qi dc ac out₀ c₀ out c = (1 ≤ c) × (c ≤ 64) × (length out ≡ 64) × ((j : ℕ) → j < c → getD out j 0 ≡ rule packet first second range qti qi dc ac j)
 
 abbrev μ-loop : tie.MeasureT-loop
-μ-loop packet first second range kind qi dc ac out₀ c₀ out c = 64 - c
+μ-loop packet first second range qti qi dc ac out₀ c₀ out c = 64 - c
 
 value-at-requires : tie.Need-value-at-requires Inv-loop μ-loop
 value-at-requires c κs = let a = c .before .before .pre in (a .0, a .1, a .2, a .3, omega arith)
@@ -36,7 +36,7 @@ loop-holds c =
       omega arith,
       omega arith,
       simp length-set (c .before .before .before .pre .4),
-      λ j h. let z : j ≡ 0 = omega arith in rw z (getD-set-same (a .out .now) 0 (c .value-at .result) 0 (omega (arith, c .before .before .before .pre .4)) ∙ c .value-at .ensures ∙ value-dc (a .kind) (a .dc) (a .ac) (a .range) (a .qi) 0 _ _ refl),
+      λ j h. let z : j ≡ 0 = omega arith in rw z (getD-set-same (a .out .now) 0 (c .value-at .result) 0 (omega (arith, c .before .before .before .pre .4)) ∙ c .value-at .ensures ∙ value-dc (a .qti) (a .dc) (a .ac) (a .range) (a .qi) 0 _ _ refl),
     )
 
 value-at-requires-2 : tie.Need-value-at-requires-2 Inv-loop μ-loop
@@ -65,7 +65,7 @@ loop-again c =
       simp length-set (l .inv .2),
       below-more _ k
           (λ j h. getD-set-other (l .out) k j (c .value-at2 .result) 0 (λ z. omega arith) ∙ l .inv .3 j h)
-          (getD-set-same (l .out) k (c .value-at2 .result) 0 (omega (arith, l .inv .2)) ∙ c .value-at2 .ensures ∙ value-ac (a .kind) (a .dc) (a .ac) (a .range) (a .qi) k _ _ (λ z. omega (arith, l .inv .0))),
+          (getD-set-same (l .out) k (c .value-at2 .result) 0 (omega (arith, l .inv .2)) ∙ c .value-at2 .ensures ∙ value-ac (a .qti) (a .dc) (a .ac) (a .range) (a .qi) k _ _ (λ z. omega (arith, l .inv .0))),
     )
 
 same-length : tie.Need-same-length Inv-loop μ-loop
@@ -75,7 +75,7 @@ returns : tie.Need-returns Inv-loop μ-loop
 returns c =
     let a = c .before .before .before .before .before .args in
     let l = c .before .loop in
-    tabulated-is (rule (a .packet .now) (a .first) (a .second) (a .range) (a .kind) (a .qi) (a .dc) (a .ac)) 64 (l .out) (l .inv .2) (λ j h. l .inv .3 j (omega (arith, c .loop-test .left)))
+    tabulated-is (rule (a .packet .now) (a .first) (a .second) (a .range) (a .qti) (a .qi) (a .dc) (a .ac)) 64 (l .out) (l .inv .2) (λ j h. l .inv .3 j (omega (arith, c .loop-test .left)))
 
 pub fill-matrix-spec : {M : Type 1} → statement M
 fill-matrix-spec =

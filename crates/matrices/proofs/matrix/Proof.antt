@@ -25,15 +25,15 @@ range-of-requires c κs =
     let g = c .before .before .before .before .before .pre in
     let l = a .t2 in
     let q = g .1 .0 in (
-      omega (arith, sizes-long (a .packet .now) l q (g .1 .1) (a .kind) (a .plane) (a .qi) (g .2) (g .3) (g .4)),
-      enough (a .packet .now) l q (g .1 .1) (a .kind) (a .plane) (a .qi) (g .2) (g .3) (g .4),
+      omega (arith, sizes-long (a .packet .now) l q (g .1 .1) (a .qti) (a .plane) (a .qi) (g .2) (g .3) (g .4)),
+      enough (a .packet .now) l q (g .1 .1) (a .qti) (a .plane) (a .qi) (g .2) (g .3) (g .4),
       omega arith,
     )
 
 -- what is known of the range and of the base matrices at its ends
 facts : (c : tie.After-range-of)
     → let a = c .before .before .before .before .before .before .args in
-    let k = (3 * a .kind + a .plane) * 64 in
+    let k = (3 * a .qti + a .plane) * 64 in
     let r = c .range-of .result in
     let i = a .t2 .indices in
     (r .number < 63) × InRange r (a .qi) × (a .t2 .place + getD i (k + r .number) 0 * 512 + 512 ≤ bits (a .packet .now)) × (a .t2 .place + getD i (k + r .number + 1) 0 * 512 + 512 ≤ bits (a .packet .now))
@@ -43,13 +43,13 @@ facts c =
     let l = a .t2 in
     let q = g .1 .0 in
     let h = g .1 .1 in
-    let k = (3 * a .kind + a .plane) * 64 in
+    let k = (3 * a .qti + a .plane) * 64 in
     let r = c .range-of .result in
     let e : k + r .number + 1 ≡ k + (r .number + 1) = omega arith in (
-      number-few (a .packet .now) l q h (a .kind) (a .plane) (a .qi) (g .2) (g .3) (g .4) r (c .range-of .ensures),
-      in-range (a .packet .now) l q h (a .kind) (a .plane) (a .qi) (g .2) (g .3) (g .4) r (c .range-of .ensures),
-      base-room (a .packet .now) l q h (a .kind) (a .plane) (a .qi) (g .2) (g .3) (g .4) r (c .range-of .ensures) (r .number) (omega arith) (getD (l .indices) (k + r .number) 0) refl,
-      base-room (a .packet .now) l q h (a .kind) (a .plane) (a .qi) (g .2) (g .3) (g .4) r (c .range-of .ensures) (r .number + 1) (omega arith) (getD (l .indices) (k + r .number + 1) 0) (ap (λ (x : ℕ). getD (l .indices) x 0) e),
+      number-few (a .packet .now) l q h (a .qti) (a .plane) (a .qi) (g .2) (g .3) (g .4) r (c .range-of .ensures),
+      in-range (a .packet .now) l q h (a .qti) (a .plane) (a .qi) (g .2) (g .3) (g .4) r (c .range-of .ensures),
+      base-room (a .packet .now) l q h (a .qti) (a .plane) (a .qi) (g .2) (g .3) (g .4) r (c .range-of .ensures) (r .number) (omega arith) (getD (l .indices) (k + r .number) 0) refl,
+      base-room (a .packet .now) l q h (a .qti) (a .plane) (a .qi) (g .2) (g .3) (g .4) r (c .range-of .ensures) (r .number + 1) (omega arith) (getD (l .indices) (k + r .number + 1) 0) (ap (λ (x : ℕ). getD (l .indices) x 0) e),
     )
 
 add-one : tie.Need-add-one
@@ -118,11 +118,11 @@ returns c =
     let a = c .before .before .before .before .before .before .before .before .before .before .before .before .before .before .args in
     let g = c .before .before .before .before .before .before .before .before .before .before .before .before .before .before .pre in
     let l = a .t2 in
-    let k = (3 * a .kind + a .plane) * 64 in
+    let k = (3 * a .qti + a .plane) * 64 in
     let r = c .before .before .before .before .before .before .before .before .range-of in
     let e : k + r .result .number + 1 ≡ k + (r .result .number + 1) = omega arith in
     c .before .before .fill-matrix .ensures
-    ∙ matrix-is (a .packet .now) l q h (a .kind) (a .plane) (a .qi) (g .2) (g .3) (g .4) (r .result) (r .ensures)
+    ∙ matrix-is (a .packet .now) l q h (a .qti) (a .plane) (a .qi) (g .2) (g .3) (g .4) (r .result) (r .ensures)
     (getD (l .indices) (k + r .result .number) 0) (getD (l .indices) (k + r .result .number + 1) 0) refl (ap (λ (x : ℕ). getD (l .indices) x 0) e) (getD (l .«dc_scale») (a .qi) 0) (getD (l .«ac_scale») (a .qi) 0) refl refl
 
 pub matrix-spec : {M : Type 1} → statement M

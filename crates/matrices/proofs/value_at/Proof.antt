@@ -43,7 +43,7 @@ returns c =
     let a = c .before .before .before .before .before .before .args in
     c .scale-value .ensures
     ∙ ap (λ (m : ℕ). scaled m (a .scale) (c .before .before .interpolate .result)) (c .before .least .ensures .0)
-    ∙ ap (λ (v : ℕ). scaled (minimum (a .kind) (a .c)) (a .scale) v)
+    ∙ ap (λ (v : ℕ). scaled (minimum (a .qti) (a .c)) (a .scale) v)
     (c .before .before .interpolate .ensures .0
     ∙ ap (λ (x : ℕ). interpolated (a .range) (a .qi) x (c .before .before .before .byte-at2 .result)) (c .before .before .before .before .byte-at .ensures)
     ∙ ap (λ (x : ℕ). interpolated (a .range) (a .qi) (number (a .packet .now) (a .first + a .c * 8) 8) x) (c .before .before .before .byte-at2 .ensures))

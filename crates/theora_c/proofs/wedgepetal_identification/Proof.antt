@@ -2,7 +2,7 @@
 use borrow.Author.Needs.{needs}
 use mathlib.Core.Path.{ap, _∙_}
 use borrow.Author.Tests.{eqb-true}
-use Rattle.headers.proofs.Fitting.{and-both}
+use Rattle.bitstream.proofs.ListLaws.{and-both}
 use Rattle.theora_c.specs.Face.{sessionReturned, identificationCall}
 use Rattle.theora_c.proofs.wedgepetal_identification.Statement.{statement}
 use Rattle.theora_c.proofs.wedgepetal_identification.Tie as tie

@@ -25,7 +25,7 @@ same-length c = search needs
 returns : tie.Need-returns
 returns c =
     let a = c .before .before .before .before .before .before .before .before .before .before .before .args in
-    matrix-made (a .table .now) _ _ (a .matrix .now) (a .kind) (a .plane) (a .qi) refl (c .before .before .before .before .before .before .matrix .ensures) (c .before .before .before .before .before .before .before .before .if1 .taken) (c .before .before .return-matrix .ensures)
+    matrix-made (a .table .now) _ _ (a .matrix .now) (a .qti) (a .plane) (a .qi) refl (c .before .before .before .before .before .before .matrix .ensures) (c .before .before .before .before .before .before .before .before .if1 .taken) (c .before .before .return-matrix .ensures)
 
 returns-2 : tie.Need-returns-2
 unfolding matrixCall

@@ -10,7 +10,7 @@ use mir.Syntax.{w16}
 use Rattle.numeric.proofs.Known.{back}
 use Rattle.bitstream.specs.Reading.{Outcome, got}
 use Rattle.token.specs.Token.{Meaning}
-use Rattle.tokens.specs.Tokens.{State, stateOf}
+use Rattle.tokens.specs.Tokens.{TokenState, stateOf}
 use Rattle.tokens.specs.Answer.{outcomeOf, acted}
 use Rattle.tokens.proofs.Entries.{said}
 use Rattle.tokens.proofs.Ways.{is-end, is-zeros, is-value, is-refused, run-pos, unfinished-some, act-end, act-zeros, zeros-past, act-value, value-past, on-refusal, on-state}
@@ -18,13 +18,13 @@ use Rattle.tokens.proofs.act_on.Statement.{statement}
 use Rattle.tokens.proofs.act_on.Tie as tie
 
 module _ (c : tie.Start) where
-  abbrev s : State
+  abbrev s : TokenState
   s = stateOf (c .args .positions .now) (c .args .lasts .now) (c .args .coefs .now) (c .args .run) (c .args .tokens)
 
   abbrev read : Outcome Meaning
   read = outcomeOf (c .args .token)
 
-  abbrev all : Outcome State
+  abbrev all : Outcome TokenState
   all = acted (c .args .k) (c .args .b) (c .args .at) s read
 
   acts : {o : Outcome Meaning} → read ≡ o → all ≡ acted (c .args .k) (c .args .b) (c .args .at) s o

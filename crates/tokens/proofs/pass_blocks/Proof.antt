@@ -11,7 +11,7 @@ use borrow.Rule.Slice.PartMut.{mid-len}
 use Rattle.bitstream.specs.Reading.{Outcome}
 use Rattle.huffman.specs.Tree.{Tree}
 use Rattle.huffman.specs.Code.{treeOf}
-use Rattle.tokens.specs.Tokens.{State, stateOf, pass}
+use Rattle.tokens.specs.Tokens.{TokenState, stateOf, pass}
 use Rattle.tokens.specs.Answer.{room, Shape, Below, dueOf}
 use Rattle.tokens.proofs.Goes.{AllBelow, pass-goes}
 use Rattle.tokens.proofs.Due.{below-part, below-due, part-got, part-refused}
@@ -32,7 +32,7 @@ abbrev μ-loop : tie.MeasureT-loop
 
 -- the state that the turn has, the tree, the part of the list, those of it that stand at k, and the outcome of their visits
 module _ (c : tie.After-visit-blocks-arg4 Inv-loop μ-loop) where
-  abbrev s : State
+  abbrev s : TokenState
   s = stateOf (c .before .before .before .before .before .before .before .before .before .before .before .before .loop .positions) (c .before .before .before .before .before .before .before .before .before .before .before .before .loop .lasts) (c .before .before .before .before .before .before .before .before .before .before .before .before .loop .coefs) (c .before .before .before .before .before .before .before .before .before .before .before .before .loop .left) (c .before .before .before .before .before .before .before .before .before .before .before .before .loop .count)
 
   abbrev tree : Tree
@@ -50,7 +50,7 @@ module _ (c : tie.After-visit-blocks-arg4 Inv-loop μ-loop) where
   below : AllBelow (length (c .before .before .before .before .before .before .before .before .before .before .before .before .loop .positions)) ds
   below = below-due (length (c .before .before .before .before .before .before .before .before .before .before .before .before .loop .positions)) (c .before .before .before .before .before .before .before .before .before .before .before .before .before .before .before .before .before .before .before .before .args .k) (c .before .before .before .before .before .before .before .before .before .before .before .before .loop .positions) part (below-part (length (c .before .before .before .before .before .before .before .before .before .before .before .before .loop .positions)) (c .before .before .before .before .before .before .before .before .before .before .before .before .loop .j) (c .before .before .before .before .before .before .before .before .before .before .part-end .result - c .before .before .before .before .before .before .before .before .before .before .before .before .loop .j) (c .before .before .before .before .before .before .before .before .before .before .before .before .before .before .before .before .before .before .before .before .args .blocks .now) (rw (c .before .before .before .before .before .before .before .before .before .before .before .before .loop .inv .1) (all-below (length (c .before .before .before .before .before .before .before .before .before .before .before .before .before .before .before .before .before .before .before .before .args .positions .now)) (c .before .before .before .before .before .before .before .before .before .before .before .before .before .before .before .before .before .before .before .before .args .blocks .now) (c .before .before .before .before .before .before .before .before .before .before .before .before .before .before .before .before .before .before .before .before .pre .1 .2))))
 
-  abbrev o : Outcome State
+  abbrev o : Outcome TokenState
   o = pass tree (c .before .before .before .before .before .before .before .before .before .before .before .before .before .before .before .before .before .before .before .before .args .k) ds s (c .before .before .before .before .before .before .before .before .before .before .before .before .before .before .before .before .before .before .before .before .args .packet .now) (c .before .before .before .before .before .before .before .before .before .before .before .before .loop .place)
 
   same : pass tree (c .before .before .before .before .before .before .before .before .before .before .before .before .before .before .before .before .before .before .before .before .args .k) (take (c .before .before .before .before .before .before .gather .result) (c .before .before .before .before .before .before .gather .last .1 .1 .1 .0)) s (c .before .before .before .before .before .before .before .before .before .before .before .before .before .before .before .before .before .before .before .before .args .packet .now) (c .before .before .before .before .before .before .before .before .before .before .before .before .loop .place) ≡ o

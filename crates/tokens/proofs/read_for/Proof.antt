@@ -5,7 +5,7 @@ use native.Mathlib.Omega.{arith}
 use mathlib.Core.Path.{_≡_, sym, ap, _∙_}
 use Rattle.huffman.specs.Code.{treeOf}
 use Rattle.token.specs.Answer.{asToken}
-use Rattle.tokens.specs.Tokens.{State, stateOf}
+use Rattle.tokens.specs.Tokens.{TokenState, stateOf}
 use Rattle.tokens.specs.Answer.{tokenBy}
 use Rattle.tokens.proofs.Ways.{on-same}
 use Rattle.tokens.proofs.Entries.{entry-row, entry-bits, entry-token, read-acts}
@@ -13,7 +13,7 @@ use Rattle.tokens.proofs.read_for.Statement.{statement}
 use Rattle.tokens.proofs.read_for.Tie as tie
 
 module _ (c : tie.Start) where
-  abbrev s : State
+  abbrev s : TokenState
   s = stateOf (c .args .positions .now) (c .args .lasts .now) (c .args .coefs .now) (c .args .run) (c .args .tokens)
 
 entry-at-requires : tie.Need-entry-at-requires

@@ -8,7 +8,7 @@ use lib.ListN.{length, take, drop}
 use lib.Seq.{length-take-le}
 use Rattle.bitstream.specs.Reading.{Outcome, got}
 use Rattle.huffman.specs.Tree.{Tree}
-use Rattle.tokens.specs.Tokens.{State, stateOf, pass, choicesOf, table}
+use Rattle.tokens.specs.Tokens.{TokenState, stateOf, pass, choicesOf, table}
 use Rattle.tokens.specs.Answer.{treesOf, treeAt}
 use Rattle.tokens.proofs.Goes.{pass-goes}
 use Rattle.tokens.proofs.Positions.{position-refused, position-got, table-is, all-below}
@@ -17,7 +17,7 @@ use Rattle.tokens.proofs.read_position.Statement.{statement}
 use Rattle.tokens.proofs.read_position.Tie as tie
 
 module _ (c : tie.Start) where
-  abbrev s : State
+  abbrev s : TokenState
   s = stateOf (c .args .positions .now) (c .args .lasts .now) (c .args .coefs .now) (c .args .run) (c .args .tokens)
 
   abbrev lumas : List ℕ
@@ -28,7 +28,7 @@ module _ (c : tie.Start) where
 
 -- luma's pass, by the table that the code takes, and by that of the definition
 module _ (c : tie.After-group-of) where
-  abbrev one : Outcome State
+  abbrev one : Outcome TokenState
   one = let a = c .before .before .before .before .before .before .before .before .args in pass (treeAt (a .nodes .now) (16 * c .group-of .result + a .y)) (a .k) (lumas (c .before .before .before .before .before .before .before .before)) (s (c .before .before .before .before .before .before .before .before)) (a .packet .now) (a .at)
 
   by-table : let a = c .before .before .before .before .before .before .before .before .args in pass (table (treesOf (a .nodes .now)) (a .k) (a .y)) (a .k) (lumas (c .before .before .before .before .before .before .before .before)) (s (c .before .before .before .before .before .before .before .before)) (a .packet .now) (a .at) ≡ one
@@ -38,7 +38,7 @@ module _ (c : tie.After-group-of) where
 
 -- luma's pass went well
 module _ (c : tie.After-pass-table-arg8) where
-  abbrev s₂ : State
+  abbrev s₂ : TokenState
   s₂ = let w = c .before .before .before .before .before .before .before .before .before .before .before .before .pass-table in let v = c .before .before .before .before .before .one .given .0 in stateOf (w .last .1 .1 .1 .1 .1 .1 .1 .1 .1 .0) (w .last .1 .1 .1 .1 .1 .1 .1 .1 .1 .1 .0) (w .last .1 .1 .1 .1 .1 .1 .1 .1 .1 .1 .1 .0) (v .1 .0) (v .1 .1 .0)
 
   first : let a = c .before .before .before .before .before .before .before .before .before .before .before .before .before .before .before .before .before .before .before .before .before .before .before .before .before .args in pass (table (treesOf (a .nodes .now)) (a .k) (a .y)) (a .k) (lumas (c .before .before .before .before .before .before .before .before .before .before .before .before .before .before .before .before .before .before .before .before .before .before .before .before .before)) (s (c .before .before .before .before .before .before .before .before .before .before .before .before .before .before .before .before .before .before .before .before .before .before .before .before .before)) (a .packet .now) (a .at) ≡ got s₂ (c .before .before .before .before .before .one .given .0 .0)

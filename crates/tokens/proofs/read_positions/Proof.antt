@@ -8,7 +8,7 @@ use mathlib.Core.List.{List}
 use lib.ListN.{length, take, drop}
 use Rattle.bitstream.specs.Reading.{Outcome, got}
 use Rattle.huffman.specs.Tree.{Tree}
-use Rattle.tokens.specs.Tokens.{State, stateOf, Choices, choicesOf, choices, atPosition, positionsFrom, ranks}
+use Rattle.tokens.specs.Tokens.{TokenState, stateOf, Choices, choicesOf, choices, atPosition, positionsFrom, ranks}
 use Rattle.tokens.specs.Answer.{treesOf, room, Current}
 use Rattle.tokens.proofs.Goes.{position-goes, room-most}
 use Rattle.tokens.proofs.Groups.{current-start, current-chosen, current-on}
@@ -31,7 +31,7 @@ abbrev μ-loop : tie.MeasureT-loop
 
 -- a turn: the state, the choices, and all blocks
 module _ (c : tie.In-loop Inv-loop μ-loop) where
-  abbrev s : State
+  abbrev s : TokenState
   s = let l = c .before .loop in stateOf (l .positions) (l .lasts) (l .coefs) (l .left) (l .count)
 
   abbrev ch : Choices
@@ -65,7 +65,7 @@ module _ (c : tie.After-luma-lookup Inv-loop μ-loop) where
 
 -- the position is read by the two lists
 module _ (c : tie.After-read-position-arg4 Inv-loop μ-loop) where
-  abbrev o : Outcome State
+  abbrev o : Outcome TokenState
   o =
       let l = c .before .before .before .before .before .before .before .before .before .before .before .before .before .before .before .before .before .loop in
       let a = c .before .before .before .before .before .before .before .before .before .before .before .before .before .before .before .before .before .before .before .before .before .before .before .args in

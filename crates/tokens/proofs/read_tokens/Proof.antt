@@ -6,7 +6,7 @@ use mathlib.Core.Path.{_≡_, sym, ap, _∙_}
 use lib.ListN.{length, take, drop, length-append}
 use lib.Seq.{length-take-le, take-at}
 use Rattle.bitstream.specs.Reading.{Outcome}
-use Rattle.tokens.specs.Tokens.{State, stateOf, choicesOf, positionsFrom, ranks, start}
+use Rattle.tokens.specs.Tokens.{TokenState, stateOf, choicesOf, positionsFrom, ranks, start}
 use Rattle.tokens.specs.Answer.{treesOf}
 use Rattle.tokens.proofs.Fronts.{fits-positions, fits-lasts, fits-coefs, front-length, front-shape, front-open, front-ranks, front-start, untouched, on-refused-tokens, on-tokens, tokens-got, tokens-refused}
 use Rattle.tokens.proofs.Ways.{visit-done, visit-refused}
@@ -15,7 +15,7 @@ use Rattle.tokens.proofs.read_tokens.Tie as tie
 
 module _ (c : tie.Start) where
   -- what the positions give, from the fronts of the slices
-  abbrev o : Outcome State
+  abbrev o : Outcome TokenState
   o =
       let a = c .args in
       positionsFrom (treesOf (a .nodes .now)) (ranks 0 (a .luma)) (ranks (a .luma) (length (take (a .count) (a .positions .now)) - a .luma)) 64 0 (choicesOf 0 0)

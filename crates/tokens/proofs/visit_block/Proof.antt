@@ -5,13 +5,13 @@ use mathlib.Core.Path.{sym, ap, _∙_}
 use lib.ListN.{set}
 use Rattle.bitstream.specs.Reading.{got}
 use Rattle.huffman.specs.Code.{treeOf}
-use Rattle.tokens.specs.Tokens.{State, stateOf}
+use Rattle.tokens.specs.Tokens.{TokenState, stateOf}
 use Rattle.tokens.proofs.Ways.{visit-other, visit-run, visit-token, on-state, on-same}
 use Rattle.tokens.proofs.visit_block.Statement.{statement}
 use Rattle.tokens.proofs.visit_block.Tie as tie
 
 module _ (c : tie.Start) where
-  abbrev s : State
+  abbrev s : TokenState
   s = stateOf (c .args .positions .now) (c .args .lasts .now) (c .args .coefs .now) (c .args .run) (c .args .tokens)
 
 slice-read-p : tie.Need-slice-read-p

@@ -8,7 +8,7 @@ use lib.ListN.{length, getD, drop}
 use Rattle.bitstream.specs.Reading.{Outcome}
 use Rattle.huffman.specs.Tree.{Tree}
 use Rattle.huffman.specs.Code.{treeOf}
-use Rattle.tokens.specs.Tokens.{State, stateOf, visit, pass}
+use Rattle.tokens.specs.Tokens.{TokenState, stateOf, visit, pass}
 use Rattle.tokens.specs.Answer.{room}
 use Rattle.tokens.proofs.Goes.{visit-goes}
 use Rattle.tokens.proofs.Ways.{visit-done, visit-refused, pass-none, pass-got, pass-refused, on-refused, on-state}
@@ -26,13 +26,13 @@ abbrev μ-loop : tie.MeasureT-loop
 
 -- the state that the turn has, the tree, and the visit's outcome
 module _ (c : tie.After-visit-block-arg3 Inv-loop μ-loop) where
-  abbrev s : State
+  abbrev s : TokenState
   s = let l = c .before .before .before .before .before .before .loop in stateOf (l .positions) (l .lasts) (l .coefs) (l .left) (l .count)
 
   abbrev tree : Tree
   tree = treeOf (c .before .before .before .before .before .before .before .before .before .before .before .before .before .before .args .nodes .now)
 
-  abbrev o : Outcome State
+  abbrev o : Outcome TokenState
   o = let l = c .before .before .before .before .before .before .loop in let a = c .before .before .before .before .before .before .before .before .before .before .before .before .before .before .args in visit tree (a .k) (getD (a .blocks .now) (l .j) 0) s (a .packet .now) (l .place)
 
 all-rows-requires : tie.Need-all-rows-requires Inv-loop μ-loop

@@ -11,7 +11,7 @@ use Rattle.geometry.proofs.PlaneOrders.{macro-order}
 use Rattle.geometry.proofs.SizeLaws.{sizes-small}
 use Rattle.block_record.specs.Memory.{AllPacked}
 use Rattle.vectors.specs.Motion.{zeroVector}
-use Rattle.vectors.specs.Vectors.{State, macroBlock, macroBlocks}
+use Rattle.vectors.specs.Vectors.{VectorState, macroBlock, macroBlocks}
 use Rattle.vectors.specs.Memory.{stateOf}
 use Rattle.vectors.proofs.Motions.{zero-small}
 use Rattle.vectors.proofs.Records.{this, each-done, each-end, each-on, macro-through, step-next, step-refused, on-each, on-each-refused}
@@ -39,7 +39,7 @@ stepped : (c : tie.After-known-told2 Inv-loop μ-loop) → let a = c .before .be
 stepped c = let w = c .before .before .before .before .before .read-macro-block in let g = step-next (w .last .1 .1 .1 .1 .1 .1 .1 .1 .1 .1 .0) _ (w .ensures .0) (w .ensures .1) (c .before .step2 .given .1) in (sym (here (c .before .before .before .before .before)) ∙ g .0, g .1)
 
 kept-small : (c : tie.After-known-told2 Inv-loop μ-loop) → let v = c .before .step2 .given .0 in VectorInRange (v .0) × VectorInRange (v .1 .0)
-kept-small c = let a = c .before .before .before .before .before .before .before .before .before .before .before .before .before .before .before .before .args in let l = c .before .before .before .before .before .before .before .before .before .before .loop in let u = macro-through (a .format) (a .w) (a .h) (a .code) _ _ (stateOf (l .records) (l .last) (l .last2)) (a .packet .now) (l .place) (l .inv .2) (l .inv .3) (stepped c .0) in subst (λ (t : State). VectorInRange (t .last) × VectorInRange (t .last2)) (u .2) (u .1 .last, u .1 .last2)
+kept-small c = let a = c .before .before .before .before .before .before .before .before .before .before .before .before .before .before .before .before .args in let l = c .before .before .before .before .before .before .before .before .before .before .loop in let u = macro-through (a .format) (a .w) (a .h) (a .code) _ _ (stateOf (l .records) (l .last) (l .last2)) (a .packet .now) (l .place) (l .inv .2) (l .inv .3) (stepped c .0) in subst (λ (t : VectorState). VectorInRange (t .last) × VectorInRange (t .last2)) (u .2) (u .1 .last, u .1 .last2)
 
 loop-holds : tie.Need-loop-holds Inv-loop μ-loop
 loop-holds c = let a = c .before .before .before .before .before .args in let n = length (a .modes .now) in let z : n ≡ n - 0 = omega arith in let e = sym (c .before .zero-vector .ensures) in let e2 = sym (c .zero-vector2 .ensures) in (refl, search needs, subst VectorInRange e zero-small, subst VectorInRange e2 zero-small, c .before .before .before .before .before .pre .5, λ i. macroBlocks (a .format) (a .w) (a .h) (a .code) (a .modes .now) (z i) 0 (stateOf (a .records .now) (e i) (e2 i)) (a .packet .now) (a .at))

@@ -1,7 +1,7 @@
-// The super blocks of a plane of w by h blocks as tiles of 4 by 4, and the walk inside one.
+// The super blocks of a plane of w by h blocks as squares of 4 by 4, and the walk inside one.
 ghost use mathlib.Core.Path.{_≡_};
 ghost use Prim.Native.Nat.{ℕ, _+_, _*_, _/_, _≤_, _<_, min};
-ghost use Rattle.geometry.specs.Tile.{reach, SpotOf};
+ghost use Rattle.geometry.specs.Square.{reach, SpotOf};
 ghost use Rattle.geometry.specs.Order.{blockWalk};
 ghost use Rattle.geometry.specs.Rank.{rankIn, inCorner};
 use crate::Place;
@@ -12,14 +12,14 @@ pub(crate) fn lesser(a: u64, b: u64) -> u64
     if a < b { a } else { b }
 }
 
-// The tile that holds (x, y): the number of its first place, and how much of it lies in the plane.
-pub(crate) struct Tile {
+// The square that holds (x, y): the number of its first place, and how much of it lies in the plane.
+pub(crate) struct Square {
     pub first: u64,
     pub u: u64,
     pub v: u64,
 }
 
-pub(crate) fn tile_of(w: u64, h: u64, x: u64, y: u64) -> Tile
+pub(crate) fn square_of(w: u64, h: u64, x: u64, y: u64) -> Square
     requires { ⌜ (x < w) × (y < h) × (w ≤ 131070) × (h ≤ 131070) ⌝ }
     ensures { λ r. ⌜ (r .u ≡ reach 4 w (x / 4)) × (r .v ≡ reach 4 h (y / 4)) × (r .first ≡ 4 * (y / 4) * w + 4 * (x / 4) * r .v) ⌝ }
 {
@@ -27,14 +27,14 @@ pub(crate) fn tile_of(w: u64, h: u64, x: u64, y: u64) -> Tile
     let b = 4 * (y / 4);
     let u = lesser(4, w - a);
     let v = lesser(4, h - b);
-    Tile {
+    Square {
         first: b * w + a * v,
         u: u,
         v: v,
     }
 }
 
-// The tile that holds number i: where it begins, how much of it lies in the plane, and what is left of i.
+// The square that holds number i: where it begins, how much of it lies in the plane, and what is left of i.
 pub(crate) struct Spot {
     pub a: u64,
     pub b: u64,
@@ -43,7 +43,7 @@ pub(crate) struct Spot {
     pub rest: u64,
 }
 
-pub(crate) fn tile_at(w: u64, h: u64, i: u64) -> Spot
+pub(crate) fn square_at(w: u64, h: u64, i: u64) -> Spot
     requires { ⌜ (i < h * w) × (w ≤ 131070) × (h ≤ 131070) ⌝ }
     ensures { λ r. ⌜ SpotOf 4 w h i (r .a) (r .b) (r .u) (r .v) (r .rest) ⌝ }
 {

@@ -1,10 +1,10 @@
--- `geometry::tiles::tile_of` meets its contract. Assumes nothing.
+-- `geometry::squares::square_of` meets its contract. Assumes nothing.
 use Prim.Native.Nat.{_*_, _/_, _≤_}
 use native.Mathlib.Omega.{arith}
 use Rattle.geometry.proofs.Products.{plane-small}
 use borrow.Author.Needs.{needs}
-use Rattle.geometry.proofs.tiles.tile_of.Statement.{statement}
-use Rattle.geometry.proofs.tiles.tile_of.Tie as tie
+use Rattle.geometry.proofs.squares.square_of.Statement.{statement}
+use Rattle.geometry.proofs.squares.square_of.Tie as tie
 
 module _ (c : tie.After-lesser2) where
   below : let a = c .before .before .args in 4 * (a .y / 4) * a .w ≤ 17179344900
@@ -43,8 +43,8 @@ add-t11 c = let n = below c in let m = beside c in search needs
 returns : tie.Need-returns
 returns c = search needs
 
-pub tile-of-spec : {M : Type 1} → statement M
-tile-of-spec =
+pub square-of-spec : {M : Type 1} → statement M
+square-of-spec =
     tie.close
     (tie.spec
     mul-a

@@ -1,10 +1,10 @@
--- `geometry::tiles::tile_at` meets its contract. Assumes nothing.
+-- `geometry::squares::square_at` meets its contract. Assumes nothing.
 use Prim.Native.Nat.{_*_, _/_, _%_, _<_}
 use native.Mathlib.Omega.{arith}
 use Rattle.geometry.proofs.Spots.{wide, low, left-by}
 use borrow.Author.Needs.{needs}
-use Rattle.geometry.proofs.tiles.tile_at.Statement.{statement}
-use Rattle.geometry.proofs.tiles.tile_at.Tie as tie
+use Rattle.geometry.proofs.squares.square_at.Statement.{statement}
+use Rattle.geometry.proofs.squares.square_at.Tie as tie
 
 start : (c : tie.Start) → (0 < c .args .w) × (4 * (c .args .i / (4 * c .args .w)) < c .args .h)
 start c =
@@ -59,8 +59,8 @@ rem-t9 c = let n = next (c .before) in omega arith
 returns : tie.Need-returns
 returns c = search needs
 
-pub tile-at-spec : {M : Type 1} → statement M
-tile-at-spec =
+pub square-at-spec : {M : Type 1} → statement M
+square-at-spec =
     tie.close
     (tie.spec
     mul-b

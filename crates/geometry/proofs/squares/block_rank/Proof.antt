@@ -1,11 +1,11 @@
--- `geometry::tiles::block_rank` meets its contract. Assumes nothing.
+-- `geometry::squares::block_rank` meets its contract. Assumes nothing.
 use native.Mathlib.Omega.{arith}
 use Rattle.geometry.specs.Order.{blockWalk}
 use Rattle.geometry.proofs.Tables.{blockRank}
 use Rattle.geometry.proofs.TableLaws.{ranks, block-ranks}
 use borrow.Author.Needs.{needs}
-use Rattle.geometry.proofs.tiles.block_rank.Statement.{statement}
-use Rattle.geometry.proofs.tiles.block_rank.Tie as tie
+use Rattle.geometry.proofs.squares.block_rank.Statement.{statement}
+use Rattle.geometry.proofs.squares.block_rank.Tie as tie
 
 mul-k : tie.Need-mul-k
 mul-k c = search needs

@@ -1,12 +1,12 @@
--- `geometry::tiles::block_in_corner` meets its contract. Assumes nothing.
+-- `geometry::squares::block_in_corner` meets its contract. Assumes nothing.
 use Prim.Native.Nat.{_<_}
 use native.Mathlib.Omega.{arith}
 use Rattle.geometry.specs.Order.{blockWalk}
 use Rattle.geometry.proofs.Tables.{blockCorner}
 use Rattle.geometry.proofs.TableLaws.{corners, block-corners, corner-some}
 use borrow.Author.Needs.{needs}
-use Rattle.geometry.proofs.tiles.block_in_corner.Statement.{statement}
-use Rattle.geometry.proofs.tiles.block_in_corner.Tie as tie
+use Rattle.geometry.proofs.squares.block_in_corner.Statement.{statement}
+use Rattle.geometry.proofs.squares.block_in_corner.Tie as tie
 
 some : (c : tie.Start) → (0 < c .args .u) × (0 < c .args .v) × (c .args .i < 16)
 some c = corner-some 4 (c .args .u) (c .args .v) (c .args .i) (c .pre .0) (c .pre .1) (c .pre .2)
