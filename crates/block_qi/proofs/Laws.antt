@@ -21,14 +21,14 @@ use Rattle.runs.proofs.Strings.{string-bits}
 use Rattle.block_record.specs.declared.BlockRecord.{BlockRecord}
 use Rattle.block_record.specs.Record.{uncoded, withQiIndex}
 use Rattle.block_record.proofs.MemoryLaws.{AllInRange, in-range-at, in-range-set}
-use Rattle.block_qi.specs.BlockQi.{indexAt, atStep, raised, oneStep, steps, blockQi}
+use Rattle.block_qi.specs.BlockQi.{indexAt, atStep, raised, oneStep, qiSteps, blockQi}
 
 step-lawful : (q : ℕ) (coded : List ℕ) (rs : List BlockRecord) → Lawful (oneStep q coded rs)
 unfolding oneStep
 step-lawful q coded rs = bind-lawful (bitString-lawful Long (atStep q coded rs)) (λ bits. pure-lawful _)
 
-steps-lawful : (n q : ℕ) (coded : List ℕ) (rs : List BlockRecord) → Lawful (steps n q coded rs)
-unfolding steps
+steps-lawful : (n q : ℕ) (coded : List ℕ) (rs : List BlockRecord) → Lawful (qiSteps n q coded rs)
+unfolding qiSteps
 steps-lawful zero q coded rs = pure-lawful rs
 steps-lawful (suc n) q coded rs = bind-lawful (step-lawful q coded rs) (steps-lawful n (q + 1) coded)
 
@@ -41,8 +41,8 @@ step-inside : {d : ℕ} (q : ℕ) (coded : List ℕ) (rs : List BlockRecord) →
 unfolding oneStep
 step-inside q coded rs = bind-inside (bitString-inside Long (atStep q coded rs)) (λ bits. pure-inside _)
 
-steps-inside : {d : ℕ} (n q : ℕ) (coded : List ℕ) (rs : List BlockRecord) → Inside d (steps n q coded rs)
-unfolding steps
+steps-inside : {d : ℕ} (n q : ℕ) (coded : List ℕ) (rs : List BlockRecord) → Inside d (qiSteps n q coded rs)
+unfolding qiSteps
 steps-inside zero q coded rs = pure-inside rs
 steps-inside (suc n) q coded rs = bind-inside (step-inside q coded rs) (steps-inside n (q + 1) coded)
 
@@ -56,8 +56,8 @@ module _ {ks : List ℕ} (four : among ks 4 ≡ true) (twelve : among ks 12 ≡ 
   unfolding oneStep
   step-refuses q coded rs = bind-refuses (bitString-refuses four twelve Long (atStep q coded rs)) (λ bits. pure-refuses _)
 
-  steps-refuses : (n q : ℕ) (coded : List ℕ) (rs : List BlockRecord) → Refuses ks (steps n q coded rs)
-  unfolding steps
+  steps-refuses : (n q : ℕ) (coded : List ℕ) (rs : List BlockRecord) → Refuses ks (qiSteps n q coded rs)
+  unfolding qiSteps
   steps-refuses zero q coded rs = pure-refuses rs
   steps-refuses (suc n) q coded rs = bind-refuses (step-refuses q coded rs) (steps-refuses n (q + 1) coded)
 
@@ -79,8 +79,8 @@ step-spends : (q : ℕ) (coded : List ℕ) (rs : List BlockRecord) → Spends (l
 unfolding oneStep
 step-spends q coded rs = spends-more (omega (arith, at-most q coded rs)) (bind-spends {b = 0} (bitString-spends Long (atStep q coded rs)) (λ bits. pure-spends _))
 
-steps-spends : (n q : ℕ) (coded : List ℕ) (rs : List BlockRecord) → Spends (n * (length coded * 19)) (steps n q coded rs)
-unfolding steps
+steps-spends : (n q : ℕ) (coded : List ℕ) (rs : List BlockRecord) → Spends (n * (length coded * 19)) (qiSteps n q coded rs)
+unfolding qiSteps
 steps-spends zero q coded rs = rw zero-mul (pure-spends rs)
 steps-spends (suc n) q coded rs = spends-more (rw suc-mul (omega arith)) (bind-spends (step-spends q coded rs) (steps-spends n (q + 1) coded))
 
@@ -110,11 +110,11 @@ module _ (P : List BlockRecord → Type 0) (q : ℕ) (keeps : (rs : List BlockRe
 
 module _ (P : List BlockRecord → Type 0) (coded : List ℕ) where
   steps-keep : (keeps : (q : ℕ) → q ≤ 1 → (rs : List BlockRecord) (b bit : ℕ) → bit < 2 → P rs → P (set rs b (withQiIndex (q + bit) (getD rs b uncoded))))
-      → (n q : ℕ) → q + n ≤ 2 → (rs : List BlockRecord) (p : List ℕ) (i : ℕ) (rs′ : List BlockRecord) (e : ℕ) → P rs → steps n q coded rs p i ≡ got rs′ e → P rs′
-  unfolding steps oneStep
+      → (n q : ℕ) → q + n ≤ 2 → (rs : List BlockRecord) (p : List ℕ) (i : ℕ) (rs′ : List BlockRecord) (e : ℕ) → P rs → qiSteps n q coded rs p i ≡ got rs′ e → P rs′
+  unfolding qiSteps oneStep
   steps-keep keeps zero q l rs p i rs′ e h g = subst P (cc) h
   steps-keep keeps (suc n) q l rs p i rs′ e h g =
-      let u = bind-got (oneStep q coded rs) (steps n (q + 1) coded) p i g in
+      let u = bind-got (oneStep q coded rs) (qiSteps n (q + 1) coded) p i g in
       let v = bind-got (bitString Long (atStep q coded rs)) (λ bits. pure (raised q coded bits rs)) p i (u .2) in
       let z : raised q coded (v .0) rs ≡ u .0 = cc in
       steps-keep keeps n (q + 1) (omega arith) (u .0) p (u .1) rs′ e
@@ -153,11 +153,11 @@ module _ (coded : List ℕ) where
   most-set : (q : ℕ) (rs : List BlockRecord) (b bit : ℕ) → bit < 2 → Most (q + 1) rs → Most (q + 1) (set rs b (withQiIndex (q + bit) (getD rs b uncoded)))
   most-set q rs b bit l a m = set-cases (λ r. r .«qi_index» ≤ q + 1) rs b m (withQiIndex (q + bit) (getD rs b uncoded)) uncoded (λ _. omega arith) (a m)
 
-  steps-most : (n q : ℕ) (rs : List BlockRecord) (p : List ℕ) (i : ℕ) (rs′ : List BlockRecord) (e : ℕ) → Most q rs → steps n q coded rs p i ≡ got rs′ e → Most (q + n) rs′
-  unfolding steps oneStep
+  steps-most : (n q : ℕ) (rs : List BlockRecord) (p : List ℕ) (i : ℕ) (rs′ : List BlockRecord) (e : ℕ) → Most q rs → qiSteps n q coded rs p i ≡ got rs′ e → Most (q + n) rs′
+  unfolding qiSteps oneStep
   steps-most zero q rs p i rs′ e a g m = let z : rs ≡ rs′ = cc in omega (arith, a m, ap (λ (s : List BlockRecord). indexAt s m) z)
   steps-most (suc n) q rs p i rs′ e a g m =
-      let u = bind-got (oneStep q coded rs) (steps n (q + 1) coded) p i g in
+      let u = bind-got (oneStep q coded rs) (qiSteps n (q + 1) coded) p i g in
       let v = bind-got (bitString Long (atStep q coded rs)) (λ bits. pure (raised q coded bits rs)) p i (u .2) in
       let z : raised q coded (v .0) rs ≡ u .0 = cc in
       let k = raised-keeps (Most (q + 1)) q (most-set q) coded (v .0) rs (string-bits Long (atStep q coded rs) p i (v .2)) (λ m. omega (arith, a m)) in

@@ -23,7 +23,7 @@ use Rattle.block_record.specs.Packed.{packed, unpacked}
 use Rattle.block_record.specs.Memory.{AllPacked, recordsOf}
 use Rattle.block_record.proofs.Laws.{unpacked-packed}
 use Rattle.block_record.proofs.MemoryLaws.{is-packed, packed-at, packed-set, packed-records, record-at, records-set}
-use Rattle.block_qi.specs.BlockQi.{indexAt, atStep, raised, oneStep, steps, blockQi}
+use Rattle.block_qi.specs.BlockQi.{indexAt, atStep, raised, oneStep, qiSteps, blockQi}
 use Rattle.block_qi.specs.Answer.{KeptRecords}
 
 -- ---- how many are at the step
@@ -128,26 +128,26 @@ module _ (q : ℕ) (coded : List ℕ) (rs : List BlockRecord) (p : List ℕ) (i 
   step-got f = rw f
 
   module _ (n : ℕ) where
-    steps-suc-refused : {k e : ℕ} → oneStep q coded rs p i ≡ refused k e → steps (suc n) q coded rs p i ≡ refused k e
-    unfolding steps
+    steps-suc-refused : {k e : ℕ} → oneStep q coded rs p i ≡ refused k e → qiSteps (suc n) q coded rs p i ≡ refused k e
+    unfolding qiSteps
     steps-suc-refused f = rw f
 
-    steps-suc-got : {rs′ : List BlockRecord} {e : ℕ} → oneStep q coded rs p i ≡ got rs′ e → steps (suc n) q coded rs p i ≡ steps n (q + 1) coded rs′ p e
-    unfolding steps
+    steps-suc-got : {rs′ : List BlockRecord} {e : ℕ} → oneStep q coded rs p i ≡ got rs′ e → qiSteps (suc n) q coded rs p i ≡ qiSteps n (q + 1) coded rs′ p e
+    unfolding qiSteps
     steps-suc-got f = rw f
 
   module _ (qis : ℕ) where
-    pub steps-refused : q + 1 < qis → {k e : ℕ} → oneStep q coded rs p i ≡ refused k e → steps (qis - (q + 1)) q coded rs p i ≡ refused k e
-    steps-refused l f = let z : qis - (q + 1) ≡ suc (qis - (q + 1 + 1)) = omega arith in ap (λ (n : ℕ). steps n q coded rs p i) z ∙ steps-suc-refused (qis - (q + 1 + 1)) f
+    pub steps-refused : q + 1 < qis → {k e : ℕ} → oneStep q coded rs p i ≡ refused k e → qiSteps (qis - (q + 1)) q coded rs p i ≡ refused k e
+    steps-refused l f = let z : qis - (q + 1) ≡ suc (qis - (q + 1 + 1)) = omega arith in ap (λ (n : ℕ). qiSteps n q coded rs p i) z ∙ steps-suc-refused (qis - (q + 1 + 1)) f
 
-    pub steps-on : q + 1 < qis → {rs′ : List BlockRecord} {e : ℕ} → oneStep q coded rs p i ≡ got rs′ e → steps (qis - (q + 1)) q coded rs p i ≡ steps (qis - (q + 1 + 1)) (q + 1) coded rs′ p e
-    steps-on l f = let z : qis - (q + 1) ≡ suc (qis - (q + 1 + 1)) = omega arith in ap (λ (n : ℕ). steps n q coded rs p i) z ∙ steps-suc-got (qis - (q + 1 + 1)) f
+    pub steps-on : q + 1 < qis → {rs′ : List BlockRecord} {e : ℕ} → oneStep q coded rs p i ≡ got rs′ e → qiSteps (qis - (q + 1)) q coded rs p i ≡ qiSteps (qis - (q + 1 + 1)) (q + 1) coded rs′ p e
+    steps-on l f = let z : qis - (q + 1) ≡ suc (qis - (q + 1 + 1)) = omega arith in ap (λ (n : ℕ). qiSteps n q coded rs p i) z ∙ steps-suc-got (qis - (q + 1 + 1)) f
 
-    pub steps-done : qis ≤ q + 1 → steps (qis - (q + 1)) q coded rs p i ≡ got rs i
-    unfolding steps
+    pub steps-done : qis ≤ q + 1 → qiSteps (qis - (q + 1)) q coded rs p i ≡ got rs i
+    unfolding qiSteps
     steps-done l = let z : qis - (q + 1) ≡ 0 = omega arith in rw z
 
-pub steps-start : (qis : ℕ) (coded : List ℕ) (rs : List BlockRecord) (p : List ℕ) (i : ℕ) → blockQi qis coded rs p i ≡ steps (qis - (0 + 1)) 0 coded rs p i
+pub steps-start : (qis : ℕ) (coded : List ℕ) (rs : List BlockRecord) (p : List ℕ) (i : ℕ) → blockQi qis coded rs p i ≡ qiSteps (qis - (0 + 1)) 0 coded rs p i
 unfolding blockQi
 steps-start qis coded rs p i = refl
 

@@ -33,10 +33,10 @@ oneStep q coded records = do
   pure (raised q coded bits records)
 
 -- n steps, from step q on
-unfoldable pub steps : ℕ → ℕ → List ℕ → List BlockRecord → Parse (List BlockRecord)
-steps zero q coded records = pure records
-steps (suc n) q coded records = bind (oneStep q coded records) (steps n (q + 1) coded)
+unfoldable pub qiSteps : ℕ → ℕ → List ℕ → List BlockRecord → Parse (List BlockRecord)
+qiSteps zero q coded records = pure records
+qiSteps (suc n) q coded records = bind (oneStep q coded records) (qiSteps n (q + 1) coded)
 
 -- "Block qi: with more than one": n qi have n - 1 steps
 unfoldable pub blockQi : ℕ → List ℕ → List BlockRecord → Parse (List BlockRecord)
-blockQi n coded records = steps (n - 1) 0 coded records
+blockQi n coded records = qiSteps (n - 1) 0 coded records

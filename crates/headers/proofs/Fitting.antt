@@ -8,6 +8,7 @@ use lib.ListN.{length, getD}
 use lib.Dec.{lit<}
 use mathlib.Core.Bool.{Bool, true, false, _&&_, false≢true, and-true, and-assoc}
 use borrow.Author.Tests.{ltb-true, lt-ltb}
+use Rattle.bitstream.proofs.ListLaws.{and-both}
 use Rattle.headers.specs.declared.Fields.{Fields}
 use Rattle.headers.specs.declared.Session.{Session}
 use Rattle.headers.specs.Fits.{all, widthsFit, rangesHold, withinShift, sessionFits}
@@ -26,11 +27,6 @@ chain-and a (b ∷ bs) = chain-and (a && b) bs ∙ and-assoc a b (all bs)
 pub chain-all : (b : Bool) (bs : List Bool) → chain b bs ≡ all (b ∷ bs)
 unfolding all
 chain-all b bs = chain-and b bs
-
--- two tests that hold
-pub and-both : (a b : Bool) → (a && b) ≡ true → (a ≡ true) × (b ≡ true)
-and-both true b h = (refl, h)
-and-both false b h = absurd (false≢true h)
 
 -- a list of tests that hold: each of them
 pub all-at : (bs : List Bool) (k : ℕ) → all bs ≡ true → k < length bs → getD bs k false ≡ true

@@ -122,7 +122,7 @@ pub fn read_common_header(packet: &[u8], at: usize, mark: u32) -> End
     let mut place = at;
     let mut i = 0;
     while i < 7 {
-        match read_exactly(packet, place, 8, wanted[i], 2) {
+        match read_exactly(packet, place, 8, wanted[i], bitstream::OTHER_HEADER) {
             Field::Got(_, next) => place = next,
             Field::Refused(k, e) => return End::Refused(k, e),
         }
@@ -135,11 +135,11 @@ fn read_version(packet: &[u8], at: usize) -> Field
     requires { ⌜ length (now packet) ≤ longest ⌝ }
     ensures { λ r. ⌜ r ≡ asField (version (now (packet .entry)) at) ⌝ }
 {
-    let vmaj = match read_exactly(packet, at, 8, 3, 3) {
+    let vmaj = match read_exactly(packet, at, 8, 3, bitstream::OTHER_VERSION) {
         Field::Got(is, next) => Value { is, next },
         Field::Refused(k, e) => return Field::Refused(k, e),
     };
-    let vmin = match read_exactly(packet, vmaj.next, 8, 2, 3) {
+    let vmin = match read_exactly(packet, vmaj.next, 8, 2, bitstream::OTHER_VERSION) {
         Field::Got(is, next) => Value { is, next },
         Field::Refused(k, e) => return Field::Refused(k, e),
     };
@@ -284,7 +284,7 @@ fn read_coding(packet: &[u8], at: usize) -> CodingAnswer
         Field::Got(is, next) => Value { is, next },
         Field::Refused(k, e) => return CodingAnswer::Refused(k, e),
     };
-    let zero_bits = match read_exactly(packet, pf.next, 3, 0, 6) {
+    let zero_bits = match read_exactly(packet, pf.next, 3, 0, bitstream::BAD_FORMAT) {
         Field::Got(is, next) => Value { is, next },
         Field::Refused(k, e) => return CodingAnswer::Refused(k, e),
     };

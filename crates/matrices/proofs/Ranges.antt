@@ -14,7 +14,7 @@ use Rattle.quantization.specs.Parameters.{Ranges}
 use Rattle.quantization.specs.Layout.{padded}
 use Rattle.quantization.specs.Sound.{total, Sound}
 use Rattle.quantization.proofs.Soundness.{total-append}
-use Rattle.matrices.specs.Matrix.{rangeFrom, rangeOf, rangeAt, InRange}
+use Rattle.matrices.specs.Matrix.{rangeFrom, rangeOf, InRange}
 use Rattle.matrices.specs.declared.Range.{Range}
 
 pub total-more : (l : List ℕ) (k : ℕ) → k < length l → total (take (k + 1) l) ≡ total (take k l) + getD l k 0

@@ -1,11 +1,9 @@
 -- What the functions on single values compute. Assumes nothing.
-use Prim.Native.Nat.{ℕ, _+_, _-_, _*_, _/_, _%_, _^_, _≤_, _<_}
+use Prim.Native.Nat.{ℕ, _+_, _-_, _*_, _/_, _≤_, _<_}
 use native.Mathlib.Omega.{arith}
 use native.Mathlib.Nat.{mul-le-mul, div-le-self}
 use mathlib.Core.Path.{_≡_, ap, _∙_, subst}
-use mathlib.Core.List.{List}
 use lib.Arith.{digits-div}
-use lib.ListN.{getD}
 use borrow.Author.Tests.{eq-eqb, ne-eqb}
 use Rattle.matrices.specs.Matrix.{InRange, interpolated, minimum, scaled, valueAt}
 use Rattle.matrices.specs.declared.Range.{Range}

@@ -53,10 +53,6 @@ k-lit n t = k-nat n n (le-refl n) t
 abbrev pub k-neg : {w : Width} (k : ℕ) → T (ltb k (2 ^ hbits w)) → Known w (negsuc k) (suc k)
 k-neg {w} k t = k-of (record { sfits = ltb→lt k (2 ^ hbits w) t }) (size (le-refl (suc k)))
 
--- a larger bound
-abbrev pub k-up : {w : Width} {z : ℤ} {a : ℕ} (b : ℕ) → Known w z a → T (leb a b) → Known w z b
-k-up {a = a} b p t = record { n = p .n; reads = p .reads; bound = size-up (p .bound) (leb→le a b t) }
-
 -- the same number, written another way
 abbrev pub k-is : {w : Width} {y z : ℤ} {b : ℕ} → Known w y b → y ≡ z → Known w z b
 k-is {b = b} p e = record { n = p .n; reads = p .reads ∙ e; bound = subst (λ (v : ℤ). Size v b) e (p .bound) }

@@ -57,9 +57,3 @@ ext (pos a) (pos b) e = let k : a ≡ b = omega arith in ap pos k
 ext (pos a) (negsuc b) e = absurd (omega arith)
 ext (negsuc a) (pos b) e = absurd (omega arith)
 ext (negsuc a) (negsuc b) e = let k : a ≡ b = omega arith in ap negsuc k
-
-pub less : (x y : ℤ) → ltZ x y ≡ true → up x + dn y < up y + dn x
-less (pos a) (pos b) e = let h = ltb-true a b e in omega arith
-less (pos a) (negsuc b) e = absurd (subst T (sym e) tt)
-less (negsuc a) (pos b) e = omega arith
-less (negsuc a) (negsuc b) e = let h = ltb-true b a e in omega arith

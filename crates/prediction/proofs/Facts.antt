@@ -33,7 +33,7 @@ use Rattle.block_record.specs.declared.Prediction.{Prediction}
 use Rattle.block_record.specs.declared.Prediction.the-variants.{None, Previous, Golden}
 use Rattle.prediction.specs.declared.Fetches.{Fetches}
 use Rattle.prediction.specs.declared.Start.the-variants.{At, Outside}
-use Rattle.prediction.specs.Motion.{subsampledAcross, subsampledUp, steps, down, upward, inside, fetch}
+use Rattle.prediction.specs.Motion.{subsampledAcross, subsampledUp, steps, down, roundedUp, inside, fetch}
 use Rattle.prediction.specs.Predicted.{mean, fetched, moved, predicted, summed}
 use Rattle.prediction.specs.Block.{Small, Lies, fetchesOf, withResidual, meanAt, RowByRow, meanOf, startOf}
 
@@ -43,13 +43,13 @@ unfolding down
 quot-down d (pos n) = refl
 quot-down d (negsuc n) = refl
 
-pub quot-up : (d k : ℕ) (z : ℤ) → d ≡ suc k → ltZ z (pos 0) ≡ false → quotZ (z +ℤ pos k) (pos d) ≡ upward d z
-unfolding upward
+pub quot-up : (d k : ℕ) (z : ℤ) → d ≡ suc k → ltZ z (pos 0) ≡ false → quotZ (z +ℤ pos k) (pos d) ≡ roundedUp d z
+unfolding roundedUp
 quot-up d k (pos n) e t = let h : n + k ≡ n + (d - 1) = omega arith in ap (λ (m : ℕ). pos (m / d)) h
 quot-up d k (negsuc n) e t = absurd (subst T t tt)
 
-pub quot-up-minus : (d k : ℕ) (z : ℤ) → d ≡ suc (suc k) → ltZ z (pos 0) ≡ true → quotZ (z -ℤ pos (suc k)) (pos d) ≡ upward d z
-unfolding upward
+pub quot-up-minus : (d k : ℕ) (z : ℤ) → d ≡ suc (suc k) → ltZ z (pos 0) ≡ true → quotZ (z -ℤ pos (suc k)) (pos d) ≡ roundedUp d z
+unfolding roundedUp
 quot-up-minus d k (pos n) e t = absurd (let h = ltb-true n 0 t in omega arith)
 quot-up-minus d k (negsuc n) e t = let h : suc (suc (n + k)) ≡ suc n + (d - 1) = omega arith in ap (λ (m : ℕ). negℤ (pos (m / d))) h
 
@@ -233,8 +233,8 @@ module _ (f : PixelFormat) (w h : ℕ) (b : Block) where
       let n = steps (subsampledUp f (b .plane)) in
       let x₁ = shift (8 * b .x) c (down m (v .x)) in
       let y₁ = shift (8 * b .y) r (down n (v .y)) in
-      let x₂ = shift (8 * b .x) c (upward m (v .x)) in
-      let y₂ = shift (8 * b .y) r (upward n (v .y)) in
+      let x₂ = shift (8 * b .x) c (roundedUp m (v .x)) in
+      let y₂ = shift (8 * b .y) r (roundedUp n (v .y)) in
       (λ i. meanAt (e i) s (g i) c r) ∙ (λ i. mean (fetch (planeOf f w h (b .plane)) s (x₁ i) (y₁ i)) (fetch (planeOf f w h (b .plane)) s (x₂ i) (y₂ i)))
 
   module _ (golden previous : List ℕ) (residual : List ℤ) (p : Prediction) where

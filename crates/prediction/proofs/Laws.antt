@@ -10,13 +10,13 @@ use Rattle.geometry.specs.declared.PixelFormat.{PixelFormat}
 use Rattle.geometry.specs.declared.PixelFormat.the-variants.{Chroma420, Chroma422, Chroma444}
 use Rattle.geometry.specs.declared.Block.{Block}
 use Rattle.block_record.specs.declared.Vector.{Vector}
-use Rattle.prediction.specs.Motion.{subsampledAcross, subsampledUp, steps, down, upward, inside}
+use Rattle.prediction.specs.Motion.{subsampledAcross, subsampledUp, steps, down, roundedUp, inside}
 use Rattle.prediction.specs.Predicted.{mean, fetched, moved}
 use Rattle.prediction.proofs.Facts.{mean-same}
 
 -- ---- a whole number of samples is rounded to itself, up or down
-pub whole-component : (subsampled : Bool) (z : ℤ) → natAbs z % steps subsampled ≡ 0 → upward (steps subsampled) z ≡ down (steps subsampled) z
-unfolding upward down
+pub whole-component : (subsampled : Bool) (z : ℤ) → natAbs z % steps subsampled ≡ 0 → roundedUp (steps subsampled) z ≡ down (steps subsampled) z
+unfolding roundedUp down
 whole-component true (pos n) h = let e : (n + 3) / 4 ≡ n / 4 = omega arith in ap pos e
 whole-component false (pos n) h = let e : (n + 1) / 2 ≡ n / 2 = omega arith in ap pos e
 whole-component true (negsuc n) h = let e : (suc n + 3) / 4 ≡ suc n / 4 = omega arith in ap (λ (m : ℕ). negℤ (pos m)) e
@@ -37,8 +37,8 @@ whole f w h s b v c r hx hy =
 
 -- ---- worked examples; -(n + 1) is `negsuc n`
 -- -3 halves: -1 and -2; 5 quarters: 1 and 2; -4 quarters: -1 twice
-rounded : (down 2 (negsuc 2) ≡ negsuc 0) × (upward 2 (negsuc 2) ≡ negsuc 1) × (down 4 (pos 5) ≡ pos 1) × (upward 4 (pos 5) ≡ pos 2) × (down 4 (negsuc 3) ≡ negsuc 0) × (upward 4 (negsuc 3) ≡ negsuc 0)
-unfolding down upward
+rounded : (down 2 (negsuc 2) ≡ negsuc 0) × (roundedUp 2 (negsuc 2) ≡ negsuc 1) × (down 4 (pos 5) ≡ pos 1) × (roundedUp 4 (pos 5) ≡ pos 2) × (down 4 (negsuc 3) ≡ negsuc 0) × (roundedUp 4 (negsuc 3) ≡ negsuc 0)
+unfolding down roundedUp
 rounded = (refl, refl, refl, refl, refl, refl)
 
 -- a side of 16 samples: -5, 3 and 20 are clamped to 0, 3 and 15

@@ -14,7 +14,7 @@ use Rattle.block_record.specs.declared.Vector.{Vector}
 use Rattle.prediction.specs.declared.Fetches.{Fetches}
 use Rattle.prediction.specs.declared.Start.{Start}
 use Rattle.prediction.specs.declared.Start.the-variants.{At, Outside}
-use Rattle.prediction.specs.Motion.{subsampledAcross, subsampledUp, steps, down, upward, fetch}
+use Rattle.prediction.specs.Motion.{subsampledAcross, subsampledUp, steps, down, roundedUp, fetch}
 use Rattle.prediction.specs.Predicted.{mean}
 
 -- a plane that has samples, at most as many as a frame's can have
@@ -38,8 +38,8 @@ fetchesOf f b v =
     record {
       x1 = pos (8 * b .x) +ℤ down m (v .x);
       y1 = pos (8 * b .y) +ℤ down n (v .y);
-      x2 = pos (8 * b .x) +ℤ upward m (v .x);
-      y2 = pos (8 * b .y) +ℤ upward n (v .y);
+      x2 = pos (8 * b .x) +ℤ roundedUp m (v .x);
+      y2 = pos (8 * b .y) +ℤ roundedUp n (v .y);
     }
 
 -- not farther from a plane than a vector leads

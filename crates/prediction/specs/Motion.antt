@@ -34,8 +34,8 @@ onMagnitude g (negsuc n) = negℤ (pos (g (suc n)))
 unfoldable pub down : ℕ → ℤ → ℤ
 down d = onMagnitude (λ n. n / d)
 
-unfoldable pub upward : ℕ → ℤ → ℤ
-upward d = onMagnitude (λ n. (n + (d - 1)) / d)
+unfoldable pub roundedUp : ℕ → ℤ → ℤ
+roundedUp d = onMagnitude (λ n. (n + (d - 1)) / d)
 
 -- "Fetches clamp to the plane": the nearest number from 0 to size - 1
 unfoldable pub inside : ℕ → ℤ → ℕ

@@ -10,7 +10,7 @@ use Rattle.geometry.specs.Sizes.{planeOf}
 use Rattle.block_record.specs.declared.Vector.{Vector}
 use Rattle.block_record.specs.declared.Prediction.{Prediction}
 use Rattle.block_record.specs.declared.Prediction.the-variants.{None, Previous, Golden}
-use Rattle.prediction.specs.Motion.{subsampledAcross, subsampledUp, steps, down, upward, fetch}
+use Rattle.prediction.specs.Motion.{subsampledAcross, subsampledUp, steps, down, roundedUp, fetch}
 
 -- "the floor of the mean"
 abbrev pub mean : ℕ → ℕ → ℕ
@@ -26,7 +26,7 @@ module _ (f : PixelFormat) (w h : ℕ) where
   moved s b v c r =
       let m = steps (subsampledAcross f (b .plane)) in
       let n = steps (subsampledUp f (b .plane)) in
-      mean (fetched s b (down m (v .x)) (down n (v .y)) c r) (fetched s b (upward m (v .x)) (upward n (v .y)) c r)
+      mean (fetched s b (down m (v .x)) (down n (v .y)) c r) (fetched s b (roundedUp m (v .x)) (roundedUp n (v .y)) c r)
 
   -- "128 for none"; else from previous or golden, by the vector
   unfoldable pub predicted : (golden previous : List ℕ) → Prediction → Block → ℕ → ℕ → ℕ

@@ -15,7 +15,7 @@ ghost use Rattle.geometry.specs.Frame.{InFrame};
 ghost use Rattle.geometry.specs.Sample.{sampleAt};
 ghost use Rattle.block_record.specs.Record.{VectorInRange, PredictionInRange};
 ghost use Rattle.ways.specs.Corner.{rowAt, blockAt};
-ghost use Rattle.prediction.specs.Motion.{subsampledAcross, subsampledUp, steps, down, upward, inside, fetch};
+ghost use Rattle.prediction.specs.Motion.{subsampledAcross, subsampledUp, steps, down, roundedUp, inside, fetch};
 ghost use Rattle.prediction.specs.Predicted.{mean, summed};
 ghost use Rattle.prediction.specs.Block.{Small, Lies, Near, fetchesOf, meanAt, RowByRow, nearBy, meanOf, withResidual, startOf};
 
@@ -77,9 +77,9 @@ fn down(subsampled: bool, z: i32) -> i32
 }
 
 // Its magnitude rounded up.
-fn upward(subsampled: bool, z: i32) -> i32
+fn rounded_up(subsampled: bool, z: i32) -> i32
     requires { ⌜ natAbs z ≤ 31 ⌝ }
-    ensures { λ r. ⌜ (r ≡ upward (steps subsampled) z) × (natAbs r ≤ 31) ⌝ }
+    ensures { λ r. ⌜ (r ≡ roundedUp (steps subsampled) z) × (natAbs r ≤ 31) ⌝ }
 {
     if subsampled {
         if z < 0 {
@@ -96,11 +96,11 @@ fn upward(subsampled: bool, z: i32) -> i32
 // Where a fetch begins along an axis on which the block is number `at`, the component's magnitude rounded up or down.
 fn begin(subsampled: bool, more: bool, at: u64, z: i32) -> i32
     requires { ⌜ (at < 131070) × (natAbs z ≤ 31) ⌝ }
-    ensures { λ r. ⌜ (r ≡ pos (8 * at) +ℤ cond more (upward (steps subsampled) z) (down (steps subsampled) z)) × (natAbs r ≤ 1048591) ⌝ }
+    ensures { λ r. ⌜ (r ≡ pos (8 * at) +ℤ cond more (roundedUp (steps subsampled) z) (down (steps subsampled) z)) × (natAbs r ≤ 1048591) ⌝ }
 {
     let from = (8 * at) as i32;
     if more {
-        return from + upward(subsampled, z);
+        return from + rounded_up(subsampled, z);
     }
     from + down(subsampled, z)
 }

@@ -1,13 +1,13 @@
 -- Clamping brings a result no further from the clamped fraction: `clamped-closer`. So the bytes too lie within 6/10: `red-clamped` ..
 -- Assumes nothing.
-use Prim.Native.Nat.{ℕ, zero, suc, _+_, _*_, _≤_, _<_, min}
+use Prim.Native.Nat.{ℕ, zero, suc, _+_, _*_, _≤_, min}
 use native.Mathlib.Nat.{zero-mul, zero-min, mul-le-mul-left, mul-le-mul-right, le-trans, le-of-eq, min-eq-left, min-eq-right}
 use native.Mathlib.Omega.{arith}
-use mathlib.Core.Path.{_≡_, refl, sym, ap, _∙_, subst}
+use mathlib.Core.Path.{_≡_, refl, sym, ap, _∙_}
 use mathlib.Core.Bool.{Bool, true, false}
 use lib.Dec.{leb}
 use borrow.Author.Tests.{leb-true, leb-false}
-use lib.IntN.{ℤ, pos, negsuc, negℤ, _+ℤ_, _-ℤ_, _*ℤ_, natAbs}
+use lib.IntN.{ℤ, pos, negsuc, negℤ, _-ℤ_, _*ℤ_, natAbs}
 use Rattle.numeric.specs.Clamp.{clamp255}
 use Rattle.numeric.proofs.Linear.{up, dn, parts-add, up-neg, dn-neg}
 use Rattle.rgb.specs.Pixel.{redSteps, greenSteps, blueSteps}

@@ -1,8 +1,8 @@
 -- Facts for the loops over pixels. Assumes nothing.
-use Prim.Native.Nat.{ℕ, zero, suc, _+_, _*_, _/_, _%_, _≤_, _<_}
+use Prim.Native.Nat.{ℕ, zero, suc, _+_, _*_, _/_, _%_, _≤_}
 use native.Mathlib.Nat.{zero-mul, suc-mul}
 use native.Mathlib.Omega.{arith}
-use mathlib.Core.Path.{_≡_, refl, sym, ap, _∙_, subst}
+use mathlib.Core.Path.{_≡_, refl, sym, ap, _∙_}
 use mathlib.Core.List.{List, [], _∷_, _++_, map, append-nil, append-assoc}
 use lib.IntN.{ℤ, pos, _+ℤ_, +ℤ-assoc, +ℤ-comm}
 use lib.ListN.{length, getD, take, drop, set, length-append, length-set}
@@ -11,7 +11,7 @@ use Rattle.numeric.specs.Clamp.{clamp255}
 use Rattle.geometry.specs.declared.PixelFormat.{PixelFormat}
 use Rattle.geometry.specs.Order.{inTurn}
 use Rattle.geometry.proofs.Lists.{turn-same, turn-add}
-use Rattle.output.specs.Output.{leftBy, gives, spliced}
+use Rattle.output.specs.Output.{spliced}
 use Rattle.output.proofs.Splices.{spliced-first, spliced-next}
 use Rattle.rgb.specs.declared.Chroma.{Chroma}
 use Rattle.rgb.specs.Pixel.{chromaOf, sumOf, toByte, colours}

@@ -1,9 +1,9 @@
 -- Rounding to the nearest, over any divisor: `round-nearest`. Each entry of a table is a nearest integer to its rule: `entry-nearest`.
 -- A signed number z stands as `up z` less `dn z` (`numeric`, Linear). Assumes nothing.
-use Prim.Native.Nat.{ℕ, zero, suc, _+_, _*_, _/_, _%_, _≤_, _<_}
+use Prim.Native.Nat.{ℕ, suc, _+_, _*_, _≤_, _<_}
 use native.Mathlib.Nat.{div-mul-le-self, div-add-mod', mod-lt, zero-mul, mul-add}
 use native.Mathlib.Omega.{arith}
-use mathlib.Core.Path.{_≡_, refl, sym, ap, _∙_}
+use mathlib.Core.Path.{_≡_, ap}
 use lib.IntN.{ℤ, pos, negsuc, negℤ, _-ℤ_, _*ℤ_, natAbs}
 use Rattle.numeric.specs.Divide.{nearest, roundOver}
 use Rattle.numeric.proofs.Linear.{up, dn, parts-add, up-neg, dn-neg, up-mul, dn-mul}

@@ -1,13 +1,13 @@
 -- Before clamping red, green and blue lie within 6/10 of the exact fractions: `red-tenths`, `green-tenths`, `blue-tenths`, for all Y, Cb and Cr.
 -- Clamping brings nothing further apart: `clamped-apart`. Assumes nothing.
-use Prim.Native.Nat.{ℕ, zero, suc, _+_, _*_, _≤_, _<_, min}
+use Prim.Native.Nat.{ℕ, suc, _+_, _*_, _≤_, _<_}
 use native.Mathlib.Nat.{zero-mul}
 use native.Mathlib.Omega.{arith}
-use mathlib.Core.Path.{_≡_, refl, sym, ap, _∙_}
-use lib.IntN.{ℤ, pos, negsuc, negℤ, _+ℤ_, _-ℤ_, _*ℤ_, natAbs, *ℤ-comm}
+use mathlib.Core.Path.{_≡_, sym, ap, _∙_}
+use lib.IntN.{ℤ, pos, negsuc, negℤ, _+ℤ_, _-ℤ_, _*ℤ_, *ℤ-comm}
 use Rattle.numeric.specs.Divide.{floorShift}
 use Rattle.numeric.proofs.Linear.{up, dn, parts-add, up-neg, dn-neg, up-mul, dn-mul}
-use Rattle.rgb.specs.Rule.{Rule, units, luma, redCr, greenCb, greenCr, blueCb, entry}
+use Rattle.rgb.specs.Rule.{Rule, units, luma, greenCb, greenCr, entry}
 use Rattle.rgb.specs.Pixel.{sumOf, stepsOf, redSteps, greenSteps, blueSteps}
 use Rattle.rgb.specs.Exact.{less, redOver, redExact, greenOver, greenExact, blueOver, blueExact, WithinSixTenths}
 use Rattle.rgb.proofs.Nearest.{round-upper, round-lower, apart-by}

@@ -6,7 +6,7 @@ use lib.ListN.{length}
 use borrow.Author.Tests.{eq-eqb, ne-eqb}
 use Rattle.headers.specs.declared.Session.{Session}
 use Rattle.output.specs.Output.{leftBy}
-use Rattle.theora_c.specs.Face.{sessionOf, listsNumber}
+use Rattle.session_list.specs.List.{sessionOf, listsNumber}
 use Rattle.rgb.specs.Picture.{pictureFor}
 use Rattle.rgb_c.specs.Face.{rgbLeft}
 

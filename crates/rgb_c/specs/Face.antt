@@ -1,4 +1,4 @@
--- The face for C: what the call returns and leaves. Sessions are lists of numbers, as in `theora_c`.
+-- The face for C: what the call returns and leaves. Sessions are lists of numbers, as `session_list` has them.
 use Prim.Native.Nat.{ℕ}
 use mathlib.Core.List.{List, [], _∷_}
 use lib.Dec.{eqb}
@@ -7,7 +7,7 @@ use Rattle.bitstream.specs.Reading.{choose}
 use Rattle.output.specs.declared.Written.{Written}
 use Rattle.output.specs.declared.Written.the-variants.{Bytes, Refused}
 use Rattle.output.specs.Output.{leftBy, asWritten}
-use Rattle.theora_c.specs.Face.{Returned, gives, sessionOf, listsNumber, onList}
+use Rattle.session_list.specs.List.{Returned, gives, sessionOf, listsNumber, onList}
 use Rattle.rgb.specs.Picture.{pictureFor}
 
 -- 0 and the number of bytes; or the number of the refusal, and the list as it was

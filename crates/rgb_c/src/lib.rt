@@ -2,7 +2,7 @@
 use output::Written;
 ghost use mathlib.Core.Path.{_≡_};
 ghost use lib.ListN.{length};
-ghost use Rattle.theora_c.specs.Face.{gives};
+ghost use Rattle.session_list.specs.List.{gives};
 ghost use Rattle.rgb_c.specs.Face.{writtenReturned, rgbCall, rgbLeft};
 
 // What an answer returns and leaves in a list of one number: how many bytes were written.
@@ -30,10 +30,10 @@ pub extern "C" fn wedgepetal_rgb(
     ensures { λ r. ⌜ gives r (now (written .exit)) ≡ rgbCall (now (session .entry)) (now (planes .entry)) (length (now (out .entry))) (now (written .entry)) ⌝ }
     ensures { λ _. ⌜ now (out .exit) ≡ rgbLeft (now (session .entry)) (now (planes .entry)) (now (out .entry)) (length (now (written .entry))) ⌝ }
 {
-    let k = theora_c::lists_refusal(session, written.len(), 1);
+    let k = session_list::lists_refusal(session, written.len(), 1);
     if k == 0 {
         return return_written(
-            rgb::convert(theora_c::session_of(session), planes, out),
+            rgb::convert(session_list::session_of(session), planes, out),
             written,
         );
     }

@@ -1,14 +1,13 @@
 -- Facts for a loop over rows. Assumes nothing.
-use Prim.Native.Nat.{ℕ, zero, suc, _+_, _-_, _*_, _≤_, _<_}
+use Prim.Native.Nat.{ℕ, suc, _+_, _-_, _*_, _≤_, _<_}
 use native.Mathlib.Nat.{mul-le-mul-right, suc-mul, add-mul, le-trans, le-of-eq}
 use native.Mathlib.Omega.{arith}
-use mathlib.Core.Path.{_≡_, refl, sym, ap, _∙_}
-use mathlib.Core.List.{List, [], _∷_, _++_}
+use mathlib.Core.Path.{_≡_, sym, ap, _∙_}
+use mathlib.Core.List.{List, _++_}
 use lib.ListN.{length, take}
 use lib.Seq.{length-take-le, take-append-add, take-at}
 use borrow.Rule.Slice.PartMut.{putMid, postOf}
 use Rattle.geometry.specs.Order.{inTurn}
-use Rattle.output.specs.Output.{part}
 
 -- a row more fits
 pub row-fits : (r rows row : ℕ) → r < rows → r * row + row ≤ rows * row

@@ -1,16 +1,11 @@
 -- What the calls return and leave, by what their lists are. Assumes nothing.
 use Prim.Native.Nat.{ℕ}
 use mathlib.Core.Path.{_≡_, refl, sym, ap, _∙_}
-use mathlib.Core.Bool.{Bool, true, false}
-use mathlib.Core.List.{List, [], _∷_}
-use native.Mathlib.Omega.{arith}
-use lib.Dec.{eqb}
-use lib.ListN.{length, set}
-use borrow.Author.Tests.{eq-eqb, ne-eqb, eqb-true}
-use Rattle.bitstream.specs.Reading.{choose}
+use mathlib.Core.List.{List}
+use lib.ListN.{length}
+use borrow.Author.Tests.{eq-eqb, ne-eqb}
 use Rattle.headers.specs.declared.Session.{Session}
-use Rattle.headers.specs.Fits.{sessionFits}
-use Rattle.session_list.specs.List.{sessionOf}
+use Rattle.session_list.specs.List.{Returned, gives, sessionOf, listsNumber}
 use Rattle.output.specs.declared.Written.{Written}
 use Rattle.output.specs.Output.{Output, leftBy, asWritten}
 use Rattle.y4m.specs.declared.FilmAnswer.{FilmAnswer}
@@ -18,58 +13,24 @@ use Rattle.y4m.specs.Film.{Holds, asFilm, planesBy}
 use Rattle.settings.specs.declared.Settings.{Settings}
 use Rattle.settings.specs.declared.Loaded.{Loaded}
 use Rattle.settings.specs.Settings.{settingsText, asLoaded, read}
-use Rattle.scoring_c.specs.Face.{Returned, gives, listsNumber, behind, wroteReturned, filmReturned, filmCall, planesLeft, settingsOf, textCall, loadedReturned, readCall}
+use Rattle.scoring_c.specs.Face.{behind, wroteReturned, filmReturned, filmCall, planesLeft, settingsOf, textCall, loadedReturned, readCall}
 
 module _ (session : List ℕ) (room : ℕ) where
-  pub other-length : (length session ≡ 19 → ⊥) → 1 ≡ listsNumber session room
-  unfolding listsNumber
-  other-length z = rw (ne-eqb (length session) 19 z)
-
-  module _ (long : length session ≡ 19) (s : Session) (e : s ≡ sessionOf session) where
-    pub no-session : sessionFits s ≡ false → 8 ≡ listsNumber session room
-    unfolding listsNumber
-    no-session h = rw (eq-eqb (length session) 19 long, ap sessionFits (sym e) ∙ h)
-
-    pub one-number : sessionFits s ≡ true → room ≡ 1 → 0 ≡ listsNumber session room
-    unfolding listsNumber
-    one-number h r = rw (eq-eqb (length session) 19 long, ap sessionFits (sym e) ∙ h, eq-eqb room 1 r)
-
-    pub other-room : sessionFits s ≡ true → (room ≡ 1 → ⊥) → 1 ≡ listsNumber session room
-    unfolding listsNumber
-    other-room h r = rw (eq-eqb (length session) 19 long, ap sessionFits (sym e) ∙ h, ne-eqb room 1 r)
-
-  -- lists that are not refused have their lengths
-  by-lists : (a b c : Bool) → eqb (length session) 19 ≡ a → eqb room 1 ≡ c → _≡_ {A = ℕ} (choose a (choose b (choose c 0 1) 8) 1) 0 → (length session ≡ 19) × (room ≡ 1)
-  by-lists true true true x z h = (eqb-true (length session) 19 x, eqb-true room 1 z)
-  by-lists true true false x z h = absurd (omega arith)
-  by-lists true false c x z h = absurd (omega arith)
-  by-lists false b c x z h = absurd (omega arith)
-
-  pub lists-hold : (k : ℕ) → k ≡ listsNumber session room → k ≡ 0 → (length session ≡ 19) × (room ≡ 1)
-  unfolding listsNumber
-  lists-hold k e z = by-lists (eqb (length session) 19) (sessionFits (sessionOf session)) (eqb room 1) refl refl (sym e ∙ z)
-
   module _ (call : Session → Output) (list out : List ℕ) where
     -- a refusal for the lists
-    pub lists-refused : (k : ℕ) → k ≡ listsNumber session room → (k ≡ 0 → ⊥)
+    pub lists-refused : (k : ℕ) → k ≡ listsNumber 1 session room → (k ≡ 0 → ⊥)
         → (gives k list ≡ wroteReturned list (asWritten (behind session room call))) × (out ≡ leftBy (behind session room call) out)
     unfolding behind
-    lists-refused k e z = rw (ne-eqb (listsNumber session room) 0 (λ h. z (e ∙ h))) (ap (λ (m : ℕ). gives m list) e, refl)
+    lists-refused k e z = rw (ne-eqb (listsNumber 1 session room) 0 (λ h. z (e ∙ h))) (ap (λ (m : ℕ). gives m list) e, refl)
 
     -- the call itself
-    pub lists-pass : (k : ℕ) → k ≡ listsNumber session room → k ≡ 0 → (s : Session) → s ≡ sessionOf session
+    pub lists-pass : (k : ℕ) → k ≡ listsNumber 1 session room → k ≡ 0 → (s : Session) → s ≡ sessionOf session
         → (w : Written) (new : List ℕ) (x : Returned) → w ≡ asWritten (call s) → new ≡ leftBy (call s) out → x ≡ wroteReturned list w
         → (x ≡ wroteReturned list (asWritten (behind session room call))) × (new ≡ leftBy (behind session room call) out)
     unfolding behind
     lists-pass k e z s es w new x a l t =
-        rw (eq-eqb (listsNumber session room) 0 (sym e ∙ z))
+        rw (eq-eqb (listsNumber 1 session room) 0 (sym e ∙ z))
         (t ∙ ap (wroteReturned list) (a ∙ ap (λ (y : Session). asWritten (call y)) es), l ∙ ap (λ (y : Session). leftBy (call y) out) es)
-
--- a list of one number that is set
-pub one-set : (l : List ℕ) (n : ℕ) → length l ≡ 1 → set l 0 n ≡ n ∷ []
-one-set [] n h = absurd (omega arith)
-one-set (x ∷ []) n h = refl
-one-set (x ∷ y ∷ l) n h = absurd (omega arith)
 
 -- ---- reading a stream
 module _ (old planes : List ℕ) (h : Holds) where

@@ -6,8 +6,7 @@ use lib.ListN.{length, getD}
 use Rattle.bitstream.specs.Reading.{choose}
 use Rattle.bitstream.specs.Numbers.{wrongLength}
 use Rattle.headers.specs.declared.Session.{Session}
-use Rattle.headers.specs.Fits.{sessionFits}
-use Rattle.session_list.specs.List.{sessionOf}
+use Rattle.session_list.specs.List.{Returned, gives, sessionOf, listsNumber}
 use Rattle.output.specs.declared.Written.{Written}
 use Rattle.output.specs.declared.Written.the-variants.{Bytes, Refused}
 use Rattle.output.specs.Output.{Output}
@@ -19,22 +18,9 @@ use Rattle.settings.specs.declared.Loaded.{Loaded}
 use Rattle.settings.specs.declared.Verdict.{Verdict}
 use Rattle.settings.specs.Settings.{settingsText}
 
--- what a call returns, and what the list lent for its answer holds afterwards
-pub record Returned : Type 0 where
-  pub number : ℕ
-  pub left : List ℕ
-
--- 0 and the answer's numbers; or the number of a refusal, and the list as it was
-abbrev pub gives : ℕ → List ℕ → Returned
-gives k l = record { number = k; left = l }
-
--- by what the lists of a call on a session are refused; 0 says by nothing
-unfoldable pub listsNumber : List ℕ → ℕ → ℕ
-listsNumber session room = choose (eqb (length session) 19) (choose (sessionFits (sessionOf session)) (choose (eqb room 1) 0 1) 8) 1
-
 -- a call on a session, behind the test of its lists
 unfoldable pub behind : List ℕ → ℕ → (Session → Output) → Output
-behind session room call = choose (eqb (listsNumber session room) 0) (call (sessionOf session)) (Output.refused (listsNumber session room))
+behind session room call = choose (eqb (listsNumber 1 session room) 0) (call (sessionOf session)) (Output.refused (listsNumber 1 session room))
 
 abbrev pub streamCall : List ℕ → List ℕ → ℕ → ℕ → Output
 streamCall session frames room list = behind session list (λ s. streamFor s frames room)
@@ -58,7 +44,7 @@ filmReturned old (FilmAnswer.Refused k e) = gives k old
 
 -- another length of the list is 1, before all else
 unfoldable pub filmCall : List ℕ → FilmAnswer → Returned
-filmCall old answer = choose (eqb (length old) 8) (filmReturned old answer) (gives 1 old)
+filmCall old answer = choose (eqb (length old) 8) (filmReturned old answer) (gives wrongLength old)
 
 unfoldable pub planesLeft : ℕ → Holds → List ℕ → List ℕ
 planesLeft list film planes = choose (eqb list 8) (planesBy film planes) planes
@@ -79,4 +65,4 @@ abbrev pub loadedReturned : List ℕ → Loaded → Returned
 loadedReturned old answer = toldBy old (answer .settings) (answer .verdict)
 
 unfoldable pub readCall : List ℕ → Loaded → Returned
-readCall old answer = choose (eqb (length old) 4) (loadedReturned old answer) (gives 1 old)
+readCall old answer = choose (eqb (length old) 4) (loadedReturned old answer) (gives wrongLength old)

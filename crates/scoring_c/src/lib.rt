@@ -10,25 +10,8 @@ ghost use lib.ListN.{length};
 ghost use Rattle.output.specs.Output.{leftBy, asWritten};
 ghost use Rattle.y4m.specs.Film.{filmIn, asFilm};
 ghost use Rattle.settings.specs.Settings.{asLoaded, read};
-ghost use Rattle.scoring_c.specs.Face.{gives, listsNumber, wroteReturned, filmReturned, loadedReturned, streamCall, headerCall, frameCall, planesLeft, filmCall, settingsOf, textCall, readCall};
-
-// By what the lists of a call on a session are refused, 0 if by nothing: 1 for a session's list of another length, 8 for its fields, then 1 for
-// another length of the list for the answer than 1.
-fn lists_refusal(session: &[u64], room: usize) -> u32
-    ensures { λ r. ⌜ r ≡ listsNumber (now (session .entry)) room ⌝ }
-{
-    if session.len() != 19 {
-        return 1;
-    }
-    let s = session_list::session_of(session);
-    if headers::session_fits(s) {
-        if room == 1 {
-            return 0;
-        }
-        return 1;
-    }
-    8
-}
+ghost use Rattle.session_list.specs.List.{gives};
+ghost use Rattle.scoring_c.specs.Face.{wroteReturned, filmReturned, loadedReturned, streamCall, headerCall, frameCall, planesLeft, filmCall, settingsOf, textCall, readCall};
 
 // Tells how many bytes were written.
 fn tell(answer: Written, list: &mut [u64]) -> u32
@@ -109,7 +92,7 @@ pub extern "C" fn wedgepetal_y4m_write(
     ensures { λ r. ⌜ gives r (now (bytes .exit)) ≡ wroteReturned (now (bytes .entry)) (asWritten (streamCall (now (session .entry)) (now (frames .entry)) (length (now (out .entry))) (length (now (bytes .entry))))) ⌝ }
     ensures { λ _. ⌜ now (out .exit) ≡ leftBy (streamCall (now (session .entry)) (now (frames .entry)) (length (now (out .entry))) (length (now (bytes .entry)))) (now (out .entry)) ⌝ }
 {
-    let refusal = lists_refusal(session, bytes.len());
+    let refusal = session_list::lists_refusal(session, bytes.len(), 1);
     if refusal != 0 {
         return refusal;
     }
@@ -123,7 +106,7 @@ pub extern "C" fn wedgepetal_y4m_header(session: &[u64], out: &mut [u8], bytes: 
     ensures { λ r. ⌜ gives r (now (bytes .exit)) ≡ wroteReturned (now (bytes .entry)) (asWritten (headerCall (now (session .entry)) (length (now (out .entry))) (length (now (bytes .entry))))) ⌝ }
     ensures { λ _. ⌜ now (out .exit) ≡ leftBy (headerCall (now (session .entry)) (length (now (out .entry))) (length (now (bytes .entry)))) (now (out .entry)) ⌝ }
 {
-    let refusal = lists_refusal(session, bytes.len());
+    let refusal = session_list::lists_refusal(session, bytes.len(), 1);
     if refusal != 0 {
         return refusal;
     }
@@ -142,7 +125,7 @@ pub extern "C" fn wedgepetal_y4m_frame(
     ensures { λ r. ⌜ gives r (now (bytes .exit)) ≡ wroteReturned (now (bytes .entry)) (asWritten (frameCall (now (session .entry)) (now (planes .entry)) (length (now (out .entry))) (length (now (bytes .entry))))) ⌝ }
     ensures { λ _. ⌜ now (out .exit) ≡ leftBy (frameCall (now (session .entry)) (now (planes .entry)) (length (now (out .entry))) (length (now (bytes .entry)))) (now (out .entry)) ⌝ }
 {
-    let refusal = lists_refusal(session, bytes.len());
+    let refusal = session_list::lists_refusal(session, bytes.len(), 1);
     if refusal != 0 {
         return refusal;
     }
@@ -157,7 +140,7 @@ pub extern "C" fn wedgepetal_y4m_read(stream: &[u8], planes: &mut [u8], film: &m
     ensures { λ _. ⌜ now (planes .exit) ≡ planesLeft (length (now (film .entry))) (filmIn (now (stream .entry)) (length (now (planes .entry)))) (now (planes .entry)) ⌝ }
 {
     if film.len() != 8 {
-        return 1;
+        return bitstream::WRONG_LENGTH;
     }
     tell_film(y4m::read(stream, planes), film)
 }
@@ -174,10 +157,10 @@ pub extern "C" fn wedgepetal_settings_write(
     ensures { λ _. ⌜ now (out .exit) ≡ leftBy (textCall version (now (list .entry)) (length (now (out .entry))) (length (now (bytes .entry)))) (now (out .entry)) ⌝ }
 {
     if list.len() != 4 {
-        return 1;
+        return bitstream::WRONG_LENGTH;
     }
     if bytes.len() != 1 {
-        return 1;
+        return bitstream::WRONG_LENGTH;
     }
     let s = settings_of(list);
     tell(settings::write(version, s, out), bytes)
@@ -189,7 +172,7 @@ pub extern "C" fn wedgepetal_settings_read(version: u64, text: &[u8], list: &mut
     ensures { λ r. ⌜ gives r (now (list .exit)) ≡ readCall (now (list .entry)) (asLoaded (settingsOf (now (list .entry))) (read version (now (text .entry)))) ⌝ }
 {
     if list.len() != 4 {
-        return 1;
+        return bitstream::WRONG_LENGTH;
     }
     let s = settings_of(list);
     tell_settings(settings::read(version, text, s), list)

@@ -3,7 +3,7 @@ use headers::Fields;
 use headers::Session;
 ghost use mathlib.Core.Path.{_≡_};
 ghost use lib.ListN.{length};
-ghost use Rattle.session_list.specs.List.{sessionOf};
+ghost use Rattle.session_list.specs.List.{sessionOf, listsNumber};
 
 // The session that a list of 19 numbers says.
 pub fn session_of(list: &[u64]) -> Session
@@ -33,4 +33,22 @@ pub fn session_of(list: &[u64]) -> Session
         key_frames: list[17],
         others: list[18],
     }
+}
+
+// By what the lists of a call on a session are refused before it is made, 0 if by nothing: 1 for a session's list of another length; where the list
+// for the answer has another length than the one wanted, 8 for the session's fields, then 1. Where it has that length the call itself finds 8.
+pub fn lists_refusal(session: &[u64], room: usize, wanted: usize) -> u32
+    ensures { λ r. ⌜ r ≡ listsNumber wanted (now (session .entry)) room ⌝ }
+{
+    if session.len() != 19 {
+        return bitstream::WRONG_LENGTH;
+    }
+    if room == wanted {
+        return 0;
+    }
+    let s = session_of(session);
+    if headers::session_fits(s) {
+        return bitstream::WRONG_LENGTH;
+    }
+    bitstream::NOT_GENUINE
 }

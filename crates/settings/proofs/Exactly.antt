@@ -1,22 +1,21 @@
 -- The theorems of settings texts: there and back, one text for each value, and which refusal is given when. Assumes nothing.
-use Prim.Native.Nat.{ℕ, zero, suc, _+_, _≤_, _<_, _^_}
+use Prim.Native.Nat.{ℕ, _≤_}
 use native.Mathlib.Omega.{arith}
 use mathlib.Core.Path.{_≡_, refl, sym, ap, _∙_}
 use mathlib.Core.Bool.{Bool, true, false, _&&_, _||_, false≢true}
-use mathlib.Core.List.{List, [], _∷_, _++_}
+use mathlib.Core.List.{List, []}
 use mathlib.Core.Logic.{_⊎_, inl, inr}
 use lib.Dec.{eqb}
 use borrow.Author.Tests.{eqb-true}
 use lib.ListN.{length, take}
 use Rattle.bitstream.specs.Reading.{choose}
-use Rattle.text.specs.Decimal.{decimal}
 use Rattle.text.specs.Same.{same}
 use Rattle.text.proofs.Steps.{decimal-most}
 use Rattle.text.proofs.Texts.{same-refl, same-eq}
 use Rattle.settings.specs.declared.Settings.{Settings}
-use Rattle.settings.specs.Settings.{settingsFit, holds, versionKey, tileKey, firstKey, lastKey, planeKey, line, lastLine, linesThen, textOf, saidIn, isTextOf, isText, Outcome, is, refused, textFound, beginsVersion2, read}
-use Rattle.settings.proofs.Readings.{Short, said-1, said-2, text-only, read-1, read-2, read-2-of-1}
-use Rattle.settings.proofs.Lines.{Fit, fit, line-length}
+use Rattle.settings.specs.Settings.{settingsFit, holds, versionKey, tileKey, firstKey, lastKey, planeKey, line, lastLine, linesThen, textOf, saidIn, isText, is, refused, textFound, beginsVersion2, read}
+use Rattle.settings.proofs.Readings.{Short, text-only, read-1, read-2, read-2-of-1}
+use Rattle.settings.proofs.Lines.{fit, line-length}
 
 short : (s : Settings) → settingsFit s ≡ true → Short s
 short s h = let f = fit s h in record { tile = omega (arith, f .tile); first = omega (arith, f .first, f .last); last = omega (arith, f .last); plane = omega (arith, f .plane) }

@@ -7,7 +7,7 @@ use Rattle.output.specs.Output.{Output}
 use Rattle.text.specs.Decimal.{decimal, trimmed, digits, scan}
 use Rattle.text.specs.Same.{same}
 use Rattle.settings.specs.declared.Settings.{Settings}
-use Rattle.settings.specs.Settings.{settingsFit, holds, versionKey, tileKey, firstKey, lastKey, planeKey, linesThen, textOf, saidIn, isTextOf, Outcome, is, refused, beginsVersion2, read, settingsText}
+use Rattle.settings.specs.Settings.{settingsFit, holds, versionKey, tileKey, firstKey, lastKey, planeKey, linesThen, textOf, saidIn, isTextOf, is, refused, beginsVersion2, read, settingsText}
 
 -- tile 8, shots 0 to 9
 abbrev small : ℕ → Settings

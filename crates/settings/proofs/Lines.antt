@@ -1,10 +1,9 @@
 -- The lines of a text as they are written, and what they say by their places. Assumes nothing.
-use Prim.Native.Nat.{ℕ, zero, suc, _+_, _≤_, _<_, _^_}
+use Prim.Native.Nat.{ℕ, _+_, _≤_}
 use native.Mathlib.Omega.{arith}
 use mathlib.Core.Path.{_≡_, refl, sym, ap, _∙_}
 use mathlib.Core.Bool.{Bool, true, false, _&&_, _||_, false≢true}
-use mathlib.Core.List.{List, [], _∷_, _++_, append-assoc, append-nil}
-use mathlib.Core.Logic.{_⊎_, inl, inr}
+use mathlib.Core.List.{List, [], _∷_, _++_, append-assoc}
 use lib.Dec.{eqb, leb}
 use borrow.Author.Tests.{eq-eqb, ne-eqb, eqb-true, eqb-false, leb-true}
 use lib.ListN.{length, take, drop, length-append}
@@ -19,10 +18,8 @@ use Rattle.text.proofs.Texts.{and-left, and-right}
 use Rattle.settings.specs.declared.Settings.{Settings}
 use Rattle.settings.specs.declared.Found.{Found}
 use Rattle.settings.specs.declared.Found.the-variants.{Is, Not}
-use Rattle.settings.specs.declared.Loaded.{Loaded}
-use Rattle.settings.specs.declared.Verdict.{Verdict}
 use Rattle.settings.specs.declared.Verdict.the-variants.{Accepted, Refused}
-use Rattle.settings.specs.Settings.{settingsFit, holds, versionKey, tileKey, firstKey, lastKey, planeKey, line, lastLine, linesThen, firstLines, textOf, onLine, behind, saidIn, isTextOf, isText, Outcome, is, refused, textFound, beginsVersion2, read, asFound, asLoaded, settingsText}
+use Rattle.settings.specs.Settings.{settingsFit, holds, versionKey, tileKey, firstKey, lastKey, planeKey, line, linesThen, firstLines, textOf, onLine, behind, saidIn, isTextOf, isText, Outcome, is, refused, textFound, beginsVersion2, read, asFound, asLoaded, settingsText}
 
 -- ---- values in range
 pub record Fit (s : Settings) : Type 0 where

@@ -1,19 +1,16 @@
 -- A text is read as what was written, and nothing else is read. Assumes nothing.
-use mathlib.Core.Path.{_≡_, refl, sym, ap, _∙_, subst}
-use mathlib.Core.Bool.{Bool, true, false, _&&_, _||_, false≢true}
+use mathlib.Core.Path.{_≡_, refl, sym, ap, _∙_}
+use mathlib.Core.Bool.{Bool, true, false, _&&_}
 use mathlib.Core.List.{List, [], _∷_, _++_}
-use Prim.Native.Nat.{ℕ, zero, suc, _+_, _*_, _^_, _≤_, _<_}
+use Prim.Native.Nat.{ℕ, _+_, _^_, _<_}
 use native.Mathlib.Omega.{arith}
-use borrow.Author.Tests.{leb-true, eqb-true, eq-eqb}
-use lib.Dec.{eqb, leb}
-use lib.ListN.{length, take, drop}
-use Rattle.bitstream.specs.Reading.{choose}
-use Rattle.text.specs.Decimal.{Scanned, scanned, decimal, number}
+use lib.ListN.{length, drop}
+use Rattle.text.specs.Decimal.{scanned, decimal, number}
 use Rattle.text.specs.Same.{same}
 use Rattle.text.proofs.Decimals.{number-decimal}
 use Rattle.text.proofs.Texts.{same-refl, same-eq, and-left, and-right}
 use Rattle.settings.specs.declared.Settings.{Settings}
-use Rattle.settings.specs.Settings.{settingsFit, holds, versionKey, tileKey, firstKey, lastKey, planeKey, line, lastLine, linesThen, textOf, onLine, behind, saidIn, isTextOf, isText, Outcome, is, refused, textFound, beginsVersion2, read}
+use Rattle.settings.specs.Settings.{settingsFit, versionKey, tileKey, firstKey, lastKey, planeKey, line, linesThen, textOf, onLine, saidIn, isTextOf, isText, is, beginsVersion2, read}
 
 -- ---- a line that was written is read
 drop-key : (key t : List ℕ) → drop (length key) (key ++ t) ≡ t

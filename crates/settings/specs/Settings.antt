@@ -13,7 +13,6 @@ use Rattle.settings.specs.declared.Settings.{Settings}
 use Rattle.settings.specs.declared.Found.{Found}
 use Rattle.settings.specs.declared.Found.the-variants.{Is, Not}
 use Rattle.settings.specs.declared.Loaded.{Loaded}
-use Rattle.settings.specs.declared.Verdict.{Verdict}
 use Rattle.settings.specs.declared.Verdict.the-variants.{Accepted, Refused}
 
 -- "Tile is 8, 16 or 32; shot_last is 0 to 999,999 and shot_first 0 to that"; plane "0 to 2"

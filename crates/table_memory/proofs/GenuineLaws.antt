@@ -10,6 +10,7 @@ use Rattle.bitstream.specs.Bits.{number}
 use Rattle.bitstream.specs.Reading.{Outcome, got, refused, Parse}
 use Rattle.bitstream.proofs.Laws.{Lawful}
 use Rattle.bitstream.proofs.Spends.{Spends}
+use Rattle.bitstream.proofs.ListLaws.{and-both}
 use Rattle.table_memory.specs.Kept.{kept, clearFrom}
 use Rattle.table_memory.specs.Genuine.{Bytes, endsClear, Leaves, genuine}
 use Rattle.table_memory.proofs.KeptLaws.{kept-length, kept-bytes, kept-back, kept-agree, kept-self, clear-bits, bits-clear, zeros-number}
@@ -17,14 +18,10 @@ use Rattle.table_memory.proofs.KeptLaws.{kept-length, kept-bytes, kept-
 untrue : {X : Type 0} → false ≡ true → X
 untrue h = let z : _≡_ {A = ℕ} 0 1 = cc in absurd (omega arith)
 
-both : (t u : Bool) → (t && u) ≡ true → (t ≡ true) × (u ≡ true)
-both true u h = (refl, h)
-both false u h = untrue h
-
 module _ {A : Type 0} (m : Parse A) (n : ℕ) where
   genuine-outcome : (t : List ℕ) → genuine m n t ≡ true → (length t ≡ n) × (a : A) × (e : ℕ) × (m t 0 ≡ got a e) × (clearFrom t e ≡ true)
   unfolding genuine
-  genuine-outcome t h = let b = both _ _ h in let g = go (m t 0) refl (b .1) in (eqb-true _ _ (b .0), g .0, g .1, g .2, g .3)
+  genuine-outcome t h = let b = and-both _ _ h in let g = go (m t 0) refl (b .1) in (eqb-true _ _ (b .0), g .0, g .1, g .2, g .3)
     where
       go : (o : Outcome A) → m t 0 ≡ o → endsClear t o ≡ true → (a : A) × (e : ℕ) × (m t 0 ≡ got a e) × (clearFrom t e ≡ true)
       go (got a e) s c = (a, e, s, c)

@@ -1,15 +1,15 @@
 -- A number that was written is read: `number-decimal`. Assumes nothing.
-use mathlib.Core.Path.{_≡_, refl, sym, ap, _∙_, subst}
+use mathlib.Core.Path.{_≡_, refl, ap, _∙_, subst}
 use mathlib.Core.Bool.{Bool, true, false}
 use mathlib.Core.List.{List, [], _∷_, _++_}
 use Prim.Native.Nat.{ℕ, zero, suc, _+_, _*_, _-_, _/_, _%_, _^_, _≤_, _<_}
 use native.Mathlib.Omega.{arith}
 use native.Mathlib.Nat.{mod-lt, div-add-mod, div-lt-iff-lt-mul, pow-suc}
-use lib.Dec.{eqb, leb}
+use lib.Dec.{eqb}
 use borrow.Author.Tests.{le-leb, eqb-true}
 use lib.ListN.{length, length-append}
 use Rattle.bitstream.specs.Reading.{choose}
-use Rattle.text.specs.Decimal.{digits, trimmed, decimal, isDigit, Scanned, scanned, scan, number}
+use Rattle.text.specs.Decimal.{digits, trimmed, decimal, isDigit, scanned, scan, number}
 
 -- what digits say, behind a number that was read so far
 unfoldable pub valueOf : ℕ → List ℕ → ℕ

@@ -1,6 +1,6 @@
 -- Worked examples, by computation.
 use mathlib.Core.Path.{_≡_, refl}
-use mathlib.Core.List.{List, [], _∷_}
+use mathlib.Core.List.{[], _∷_}
 use Rattle.text.specs.Decimal.{digits, trimmed, decimal, scanned, scan, number}
 
 -- no leading zeros, and 0 has one digit

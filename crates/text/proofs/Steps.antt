@@ -1,16 +1,15 @@
 -- How the loops over digits go. Assumes nothing.
 use mathlib.Core.Path.{_≡_, refl, sym, ap, _∙_, subst}
-use mathlib.Core.Bool.{Bool, true, false, _&&_}
+use mathlib.Core.Bool.{true, false}
 use mathlib.Core.List.{List, [], _∷_, _++_}
 use Prim.Native.Nat.{ℕ, zero, suc, _+_, _*_, _-_, _/_, _%_, _^_, _≤_, _<_}
 use native.Mathlib.Omega.{arith}
-use native.Mathlib.Nat.{mod-lt, mod-eq-of-lt, div-eq-of-lt, div-lt-iff-lt-mul, le-div-iff-mul-le, div-div-eq-div-mul, mul-div-cancel, one-le-pow, pow-suc, pow-succ', pow-le-pow-right, one-mul}
+use native.Mathlib.Nat.{mod-eq-of-lt, div-eq-of-lt, div-lt-iff-lt-mul, le-div-iff-mul-le, div-div-eq-div-mul, mul-div-cancel, one-le-pow, pow-suc, pow-succ', pow-le-pow-right, one-mul}
 use native.Mathlib.Numerals.{add-one}
 use lib.Dec.{eqb, leb}
 use borrow.Author.Tests.{leb-true, ne-eqb}
-use lib.ListN.{length, getD, take, drop, set, drop-of-length-le}
+use lib.ListN.{length, getD, drop, set, drop-of-length-le}
 use lib.Seq.{drop-cons}
-use Rattle.bitstream.specs.Reading.{choose}
 use Rattle.output.specs.Output.{spliced}
 use Rattle.output.proofs.Splices.{spliced-none, spliced-last}
 use Rattle.text.specs.Decimal.{digits, trimmed, decimal, isDigit, Scanned, scanned, scan, number, FoundAt}

@@ -1,11 +1,11 @@
 -- Bytes behind a packet. Assumes nothing.
-use Prim.Native.Nat.{ℕ, _≤_, _<_}
+use Prim.Native.Nat.{ℕ, _≤_}
 use native.Mathlib.Omega.{arith}
-use mathlib.Core.Path.{_≡_, refl, sym, ap, ap₂, _∙_, subst}
+use mathlib.Core.Path.{_≡_, refl, sym, ap, _∙_, subst}
 use mathlib.Core.List.{List, [], _∷_, _++_, map}
 use mathlib.Core.Bool.{Bool, true, false}
 use lib.Dec.{eqb}
-use lib.ListN.{length, take, length-append}
+use lib.ListN.{length, length-append}
 use Rattle.bitstream.specs.Bits.{bits, bitAt, number}
 use Rattle.bitstream.specs.Reading.{Outcome, got, refused, Parse, after, choose, field, judged}
 use Rattle.bitstream.proofs.Laws.{Lawful, got-more, refused-more, agree-more}
@@ -26,9 +26,9 @@ use Rattle.frame_packet.specs.Frame.{Frame, frame, framePacket, repeatFrame}
 use Rattle.frame_packet.proofs.Laws.{frame-lawful, packet-some}
 use Rattle.reading.specs.Answer.{Asked, counted, readBy, read, answerFor}
 use Rattle.decoding.specs.Answer.{State, Done, Way, done, newBy}
-use Rattle.theora.specs.Call.{Call, call, lengthsHold, outcomeOf, memoryAfter, byRules}
-use Rattle.theora.specs.Demand.{Turn, turn, turns}
-use Rattle.theora.specs.Padding.{Settled, withMore, SettledCall, Padding, paddedBy, AllSettled, Left, leftIn, ListsPadded, PaddingHolds}
+use Rattle.theora.specs.Call.{Call, lengthsHold, outcomeOf, memoryAfter, byRules}
+use Rattle.theora.specs.Demand.{turn, turns}
+use Rattle.theora.specs.Padding.{Settled, withMore, SettledCall, paddedBy, AllSettled, Left, leftIn, ListsPadded, PaddingHolds}
 
 module _ (more : List ℕ) where
   -- ---- any lawful parser

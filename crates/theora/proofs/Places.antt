@@ -1,23 +1,23 @@
 -- Where the place of a refusal lies, and which refusals have one. Assumes nothing.
 use Prim.Native.Nat.{ℕ, _≤_}
 use native.Mathlib.Omega.{arith}
-use mathlib.Core.Path.{_≡_, refl, sym, ap, _∙_}
+use mathlib.Core.Path.{_≡_, refl, sym, _∙_}
 use mathlib.Core.Bool.{Bool, true, false, _||_, false≢true}
 use mathlib.Core.List.{List, [], _∷_}
 use lib.Dec.{eqb}
 use borrow.Author.Tests.{eqb-true}
 use Rattle.bitstream.specs.Bits.{bits}
 use Rattle.bitstream.specs.Lists.{among}
-use Rattle.bitstream.specs.Reading.{Outcome, got, refused, choose}
+use Rattle.bitstream.specs.Reading.{refused, choose}
 use Rattle.bitstream.proofs.Inside.{place-inside}
 use Rattle.headers.proofs.Groups.{identification-inside, identification-refuses}
 use Rattle.headers.specs.Fits.{sessionFits}
 use Rattle.headers.specs.Sizes.{format}
-use Rattle.setup.specs.Header.{Setup, setupHeader}
+use Rattle.setup.specs.Header.{setupHeader}
 use Rattle.setup.specs.Table.{tableBytes, setupOutcome}
 use Rattle.setup.proofs.Laws.{setup-inside, setup-refuses}
 use Rattle.frame_packet.proofs.Laws.{packetNumbers, packet-inside, packet-refuses}
-use Rattle.reading.specs.Answer.{Asked, read}
+use Rattle.reading.specs.Answer.{read}
 use Rattle.reading.proofs.Places.{read-refused}
 use Rattle.decoding.specs.Answer.{State}
 use Rattle.theora.specs.Call.{Call, lengthsHold, outcomeOf}

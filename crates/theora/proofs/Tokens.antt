@@ -2,7 +2,6 @@
 use Prim.Native.Nat.{ℕ}
 use mathlib.Core.Path.{_≡_, refl, sym, ap, _∙_}
 use mathlib.Core.Bool.{Bool, true, false}
-use mathlib.Core.List.{List, []}
 use Rattle.bitstream.specs.Reading.{Outcome, got, refused, choose}
 use Rattle.bitstream.proofs.Fields.{no-mix}
 use Rattle.headers.specs.Fits.{sessionFits}
@@ -11,12 +10,11 @@ use Rattle.frame_packet.specs.Frame.{Frame, framePacket}
 use Rattle.frame_packet.proofs.Fits.{packet-fits}
 use Rattle.frame_packet.proofs.Fits.{packet-repeat}
 use Rattle.frame_packet.proofs.Examples.{ones-all}
-use Rattle.reading.specs.declared.FrameAnswer.{FrameAnswer}
 use Rattle.reading.specs.Answer.{Asked, staysCounted, read, answerFor}
 use Rattle.reading.proofs.Places.{outcome-by, read-got}
 use Rattle.decoding.specs.Answer.{State}
 use Rattle.theora.specs.Call.{Call, lengthsHold, outcomeOf, byRules}
-use Rattle.theora.specs.Tokens.{TokensOf, TokensCounted, TokensReached}
+use Rattle.theora.specs.Tokens.{TokensCounted, TokensReached}
 
 -- an accepted call read its packet, and the session's numbers stay
 pub outcome-got : (st : State) (c : Call) {a : Asked} {e : ℕ} → outcomeOf st c ≡ got a e

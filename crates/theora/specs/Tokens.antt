@@ -2,7 +2,7 @@
 use Prim.Native.Nat.{ℕ, _*_, _≤_}
 use mathlib.Core.Path.{_≡_}
 use mathlib.Core.Bool.{false}
-use mathlib.Core.List.{List, [], _∷_}
+use mathlib.Core.List.{[], _∷_}
 use lib.ListN.{length, replicate}
 use Rattle.bitstream.specs.Reading.{got}
 use Rattle.geometry.specs.declared.PixelFormat.the-variants.{Chroma420}

@@ -1,18 +1,19 @@
 -- The face for C: sessions and answers as lists of numbers, and what each call returns and leaves.
 use Prim.Native.Nat.{ℕ}
-use mathlib.Core.Bool.{Bool, true, false, not, _&&_}
+use mathlib.Core.Bool.{Bool, true, false, _&&_}
 use mathlib.Core.List.{List, [], _∷_}
 use lib.Dec.{eqb}
-use lib.ListN.{length, getD, set}
+use lib.ListN.{length}
 use Rattle.bitstream.specs.Reading.{choose}
+use Rattle.bitstream.specs.Numbers.{wrongLength, notGenuine}
 use Rattle.geometry.specs.declared.FrameSizes.{FrameSizes}
 use Rattle.geometry.specs.Frame.{block}
 use Rattle.headers.specs.declared.Session.{Session}
 use Rattle.headers.specs.declared.IdentificationAnswer.{IdentificationAnswer}
 use Rattle.headers.specs.declared.SizesAnswer.{SizesAnswer}
 use Rattle.headers.specs.Identification.{identification, asIdentification}
-use Rattle.headers.specs.Fits.{sessionFits}
 use Rattle.headers.specs.Sizes.{sessionSizes}
+use Rattle.session_list.specs.List.{Returned, gives, Answered, answers, onList}
 use Rattle.setup.specs.declared.SetupAnswer.{SetupAnswer}
 use Rattle.setup.specs.Table.{tableBytes, setupOutcome, asSetupAnswer, tableAfter, isTable}
 use Rattle.queries.specs.declared.BlockAnswer.{BlockAnswer}
@@ -22,63 +23,20 @@ use Rattle.queries.specs.declared.MatrixAnswer.{MatrixAnswer}
 use Rattle.queries.specs.Found.{Found, is, absent, refused}
 use Rattle.queries.specs.Setup.{tableLimit, tableMatrix}
 use Rattle.queries.specs.Orders.{blockAt, blockNumber, macroBlockAt, macroBlockNumber, macroBlockOf, sampleOffset, asBlock, asPlace, asNumber}
-use Rattle.frame_header.specs.declared.Header.{Header}
-use Rattle.frame_header.specs.declared.Kind.{Kind}
-use Rattle.frame_header.specs.declared.Kind.the-variants.{Intra, Inter, Repeat}
-use Rattle.ways.specs.Ways.{firstWay}
-use Rattle.reading.specs.declared.Verdict.{Verdict}
-use Rattle.reading.specs.Answer.{answerNumbers}
 use Rattle.theora.specs.declared.WorkAnswer.{WorkAnswer}
 use Rattle.work_memory.specs.declared.WorkLengths.{WorkLengths}
-use Rattle.work_memory.specs.Memory.{Memory}
 use Rattle.theora.specs.Lengths.{workLengths}
-use Rattle.decoding.specs.Answer.{State, Done, state}
-use Rattle.theora.specs.Call.{Call, byRules}
-
--- what a call returns, and what the list lent for its answer holds afterwards
-pub record Returned : Type 0 where
-  pub number : ℕ
-  pub left : List ℕ
-
--- 0 and the answer's numbers; or the number of a refusal, and the list as it was
-abbrev pub gives : ℕ → List ℕ → Returned
-gives k l = record { number = k; left = l }
 
 -- "references: 0 is no, any other number is yes"
 abbrev pub flag : Bool → ℕ
 flag true = 1
 flag false = 0
 
--- a session as 19 numbers, and 19 numbers as a session
+-- a session as 19 numbers; `session_list` has the way back
 unfoldable pub numbersOf : Session → List ℕ
 numbersOf s =
     s .fields .vrev ∷ s .fields .fmbw ∷ s .fields .fmbh ∷ s .fields .picw ∷ s .fields .pich ∷ s .fields .picx ∷ s .fields .picy ∷ s .fields .frn ∷ s .fields .frd ∷ s .fields .parn ∷ s .fields .pard ∷ s .fields .cs
     ∷ s .fields .nombr ∷ s .fields .qual ∷ s .fields .kfgshift ∷ s .fields .pf ∷ flag (s .references) ∷ s .«key_frames» ∷ s .others ∷ []
-
-unfoldable pub sessionOf : List ℕ → Session
-sessionOf l = record {
-  fields = record {
-    vrev = getD l 0 0;
-    fmbw = getD l 1 0;
-    fmbh = getD l 2 0;
-    picw = getD l 3 0;
-    pich = getD l 4 0;
-    picx = getD l 5 0;
-    picy = getD l 6 0;
-    frn = getD l 7 0;
-    frd = getD l 8 0;
-    parn = getD l 9 0;
-    pard = getD l 10 0;
-    cs = getD l 11 0;
-    nombr = getD l 12 0;
-    qual = getD l 13 0;
-    kfgshift = getD l 14 0;
-    pf = getD l 15 0;
-  };
-  references = not (eqb (getD l 16 0) 0);
-  «key_frames» = getD l 17 0;
-  others = getD l 18 0;
-}
 
 -- the sizes as 16 numbers
 unfoldable pub sizeNumbers : FrameSizes → List ℕ
@@ -87,15 +45,6 @@ sizeNumbers n =
     ∷ n .luma .across ∷ n .luma .up ∷ n .luma .offset ∷ n .luma .length
     ∷ n .cb .across ∷ n .cb .up ∷ n .cb .offset ∷ n .cb .length
     ∷ n .cr .across ∷ n .cr .up ∷ n .cr .offset ∷ n .cr .length ∷ []
-
--- what a call returns, and what the two lists hold afterwards that are lent to it to be written: what it is about (a session, table memory) and the numbers of its answer
-pub record Answered : Type 0 where
-  pub number : ℕ
-  pub lent : List ℕ
-  pub left : List ℕ
-
-abbrev pub answers : ℕ → (lent left : List ℕ) → Answered
-answers k lent left = record { number = k; lent = lent; left = left }
 
 -- what each case of an answer returns and leaves; 255 says that the frame has no such thing. A header's place is 0 where it is accepted
 abbrev pub sessionReturned : List ℕ → IdentificationAnswer → Answered
@@ -124,22 +73,11 @@ numberReturned old (NumberAnswer.Refused k) = gives k old
 
 -- "a lent length differs from the published one" is 1: in a call without a session before all else
 abbrev pub sized : Bool → List ℕ → Returned → Returned
-sized lengths old x = choose lengths x (gives 1 old)
+sized lengths old x = choose lengths x (gives wrongLength old)
 
 -- the identification call: a packet, and the lists of the session and of the place. "a lent length differs from the published one" is 1, and then nothing is written
 unfoldable pub identificationCall : (packet session place : List ℕ) → Answered
-identificationCall packet session place = choose (eqb (length session) 19 && eqb (length place) 1) (sessionReturned session (asIdentification (identification packet 0))) (answers 1 session place)
-
--- by what the lists of a call on a session are refused before it is made, 0 if by nothing. A session's list of another length than 19 is 1: there is no
--- session to judge. A list for the answer that has not the n numbers wanted is 1 behind "that" (the identification part of 8); where it has them, the call itself says 8
-unfoldable pub listsNumber : (n : ℕ) → (session : List ℕ) → (room : ℕ) → ℕ
-listsNumber n session room = choose (eqb (length session) 19) (choose (eqb room n) 0 (choose (sessionFits (sessionOf session)) 1 8)) 1
-
--- the calls on a session, whose answer has n numbers
-unfoldable pub onList : ℕ → List ℕ → List ℕ → (Session → Returned) → Returned
-onList n session old call =
-    let k = listsNumber n session (length old) in
-    choose (eqb k 0) (call (sessionOf session)) (gives k old)
+identificationCall packet session place = choose (eqb (length session) 19 && eqb (length place) 1) (sessionReturned session (asIdentification (identification packet 0))) (answers wrongLength session place)
 
 -- the sizes of a session's frames
 abbrev pub sizesCall : List ℕ → List ℕ → Returned
@@ -175,11 +113,11 @@ setupReturned after SetupAnswer.Accepted = answers 0 after (0 ∷ [])
 setupReturned after (SetupAnswer.Refused k e) = answers k after (e ∷ [])
 
 unfoldable pub setupCall : (packet table place : List ℕ) → Answered
-setupCall packet table place = choose (eqb (length place) 1) (setupReturned (tableAfter table packet) (asSetupAnswer (setupOutcome (length table) packet))) (answers 1 table place)
+setupCall packet table place = choose (eqb (length place) 1) (setupReturned (tableAfter table packet) (asSetupAnswer (setupOutcome (length table) packet))) (answers wrongLength table place)
 
 -- "no accepted setup packet leaves this table memory" is 8, after 1
 unfoldable pub tableCall : List ℕ → ℕ
-tableCall table = choose (eqb (length table) tableBytes) (choose (isTable table) 0 8) 1
+tableCall table = choose (eqb (length table) tableBytes) (choose (isTable table) 0 notGenuine) wrongLength
 
 -- the loop limit of a qi: 1 for another length, 8 for a memory that is not genuine, 255 for no such qi, in this order
 unfoldable pub limitCall : List ℕ → ℕ → List ℕ → Returned
@@ -201,7 +139,6 @@ matrixFound old (refused k) = gives k old
 unfoldable pub matrixCall : List ℕ → ℕ → ℕ → ℕ → List ℕ → Returned
 matrixCall table type plane qi old = sized (eqb (length old) 64) old (matrixFound old (tableMatrix table type plane qi))
 
--- ---- frames
 -- the lengths of work memory as 11 numbers
 unfoldable pub lengthNumbers : WorkLengths → List ℕ
 lengthNumbers l =
@@ -214,43 +151,3 @@ lengthsReturned old (WorkAnswer.Refused k) = gives k old
 -- the lengths of work memory for a session's frames
 abbrev pub workLengthsCall : List ℕ → List ℕ → Returned
 workLengthsCall session old = onList 11 session old (λ s. lengthsReturned old (workLengths s))
-
--- an intra frame sets the reference flag, other packets leave it: the flag's number, from what it was
-abbrev pub referenceNumber : Kind → ℕ → ℕ
-referenceNumber Intra old = 1
-referenceNumber Inter old = old
-referenceNumber Repeat old = old
-
--- the session's list after an accepted packet of a kind, which leaves the session s
-abbrev pub sessionNumbers : Kind → Session → List ℕ → List ℕ
-sessionNumbers kind s session = set (set (set session 16 (referenceNumber kind (getD session 16 0))) 17 (s .«key_frames»)) 18 (s .others)
-
--- the numbers of the answer, also of a refusal; the session with its flag and its two numbers set anew, or as it was
-abbrev pub verdictReturned : (session : List ℕ) → Header → Session → Verdict → Answered
-verdictReturned session h s (Verdict.Accepted t) = answers 0 (sessionNumbers (h .kind) s session) (answerNumbers (Verdict.Accepted t) h)
-verdictReturned session h s (Verdict.Refused k e) = answers k session (answerNumbers (Verdict.Refused k e) h)
-
--- the same, and all else that is lent to be written: new and work memory
-pub record FrameReturned : Type 0 where
-  pub answered : Answered
-  pub new : List ℕ
-  pub memory : Memory
-
-abbrev pub frameGives : Answered → (new : List ℕ) → Memory → FrameReturned
-frameGives a new memory = record { answered = a; new = new; memory = memory }
-
--- the state of a call: the session that its list says, golden and previous
-abbrev pub stateOf : (session golden previous : List ℕ) → State
-stateOf session golden previous = state (sessionOf session) golden previous
-
--- what the rules leave, as a frame call returns it
-abbrev pub doneReturned : (session : List ℕ) → Done → FrameReturned
-doneReturned session d = frameGives (verdictReturned session (d .answer .header) (d .answer .session) (d .answer .verdict)) (d .new) (d .memory)
-
--- a frame call: the lists of the session and of the answer, then the rules
-unfoldable pub frameCall : (session old golden previous : List ℕ) → Call → FrameReturned
-frameCall session old golden previous c =
-    let k = listsNumber 8 session (length old) in
-    choose (eqb k 0)
-    (doneReturned session (byRules firstWay (stateOf session golden previous) c))
-    (frameGives (answers k session old) (c .new) (c .memory))

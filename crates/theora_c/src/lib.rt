@@ -1,6 +1,4 @@
-// The face for C and other languages: include/wedgepetal.h says what each call is for.
-use frame_header::Kind;
-use headers::Fields;
+// The face for C and other languages, but for the frame call: include/wedgepetal.h says what each call is for.
 use headers::IdentificationAnswer;
 use headers::Session;
 use headers::SizesAnswer;
@@ -8,15 +6,12 @@ use queries::BlockAnswer;
 use queries::MatrixAnswer;
 use queries::NumberAnswer;
 use queries::PlaceAnswer;
-use reading::FrameAnswer;
-use reading::Verdict;
 use setup::SetupAnswer;
 use theora::WorkAnswer;
 ghost use mathlib.Core.Path.{_≡_};
 ghost use lib.ListN.{length};
-ghost use Rattle.theora_c.specs.Face.{gives, flag, sessionOf, listsNumber, sessionReturned, sizesReturned, blockReturned, placeReturned, numberReturned, identificationCall, sizesCall, blockAtCall, blockNumberCall, macroBlockAtCall, macroBlockNumberCall, macroBlockOfCall, sampleOffsetCall, setupCall, tableCall, limitCall, matrixReturned, matrixCall, lengthsReturned, workLengthsCall, referenceNumber, answers, verdictReturned, frameGives, frameCall};
-ghost use Rattle.work_memory.specs.Memory.{memory};
-ghost use Rattle.theora.specs.Call.{call};
+ghost use Rattle.session_list.specs.List.{gives, answers};
+ghost use Rattle.theora_c.specs.Face.{flag, sessionReturned, sizesReturned, blockReturned, placeReturned, numberReturned, identificationCall, sizesCall, blockAtCall, blockNumberCall, macroBlockAtCall, macroBlockNumberCall, macroBlockOfCall, sampleOffsetCall, setupCall, tableCall, limitCall, matrixReturned, matrixCall, lengthsReturned, workLengthsCall};
 
 // ---- lists of numbers
 
@@ -24,54 +19,6 @@ fn flag_number(b: bool) -> u64
     ensures { λ r. ⌜ r ≡ flag b ⌝ }
 {
     if b { 1 } else { 0 }
-}
-
-// The session that a list of 19 numbers says.
-pub fn session_of(list: &[u64]) -> Session
-    requires { ⌜ length (now list) ≡ 19 ⌝ }
-    ensures { λ r. ⌜ r ≡ sessionOf (now (list .entry)) ⌝ }
-{
-    Session {
-        fields: Fields {
-            vrev: list[0],
-            fmbw: list[1],
-            fmbh: list[2],
-            picw: list[3],
-            pich: list[4],
-            picx: list[5],
-            picy: list[6],
-            frn: list[7],
-            frd: list[8],
-            parn: list[9],
-            pard: list[10],
-            cs: list[11],
-            nombr: list[12],
-            qual: list[13],
-            kfgshift: list[14],
-            pf: list[15],
-        },
-        references: list[16] != 0,
-        key_frames: list[17],
-        others: list[18],
-    }
-}
-
-// By what the lists of a call on a session are refused before it is made, 0 if by nothing: 1 for a session's list of another length; where the list
-// for the answer has another length than the one wanted, 8 for the session's fields, then 1. Where it has that length the call itself finds 8.
-pub fn lists_refusal(session: &[u64], room: usize, wanted: usize) -> u32
-    ensures { λ r. ⌜ r ≡ listsNumber wanted (now (session .entry)) room ⌝ }
-{
-    if session.len() != 19 {
-        return 1;
-    }
-    if room == wanted {
-        return 0;
-    }
-    let s = session_of(session);
-    if headers::session_fits(s) {
-        return 1;
-    }
-    8
 }
 
 // Stores the numbers of an accepted call, which returns 0.
@@ -247,40 +194,6 @@ fn return_lengths(answer: WorkAnswer, list: &mut [u64]) -> u32
     }
 }
 
-// ---- the answer of a frame
-
-// The reference number of a session after an accepted frame.
-fn reference_number(kind: Kind, before: u64) -> u64
-    ensures { λ r. ⌜ r ≡ referenceNumber kind before ⌝ }
-{
-    match kind {
-        Kind::Intra => 1,
-        Kind::Inter => before,
-        Kind::Repeat => before,
-    }
-}
-
-fn return_frame(answer: FrameAnswer, session: &mut [u64], list: &mut [u64]) -> u32
-    requires { ⌜ (length (now session) ≡ 19) × (length (now list) ≡ 8) ⌝ }
-    ensures { λ r. ⌜ answers r (now (session .exit)) (now (list .exit)) ≡ verdictReturned (now (session .entry)) (answer .header) (answer .session) (answer .verdict) ⌝ }
-{
-    let header = answer.header;
-    let kind = header.kind;
-    let next = answer.session;
-    let verdict = answer.verdict;
-    reading::store_answer(verdict, header, list);
-    match verdict {
-        Verdict::Accepted(_) => {
-            let before = session[16];
-            session[16] = reference_number(kind, before);
-            session[17] = next.key_frames;
-            session[18] = next.others;
-            0
-        }
-        Verdict::Refused(k, _) => k,
-    }
-}
-
 // ---- the calls
 
 // Reads an identification header; session receives the fresh session, place the bit place of a refusal.
@@ -295,7 +208,7 @@ pub extern "C" fn wedgepetal_identification(
     if (session.len() == 19) & (place.len() == 1) {
         return return_session(theora::identification(packet), session, place);
     }
-    1
+    bitstream::WRONG_LENGTH
 }
 
 // The sizes of a session's frames.
@@ -303,9 +216,9 @@ pub extern "C" fn wedgepetal_identification(
 pub extern "C" fn wedgepetal_sizes(session: &[u64], sizes: &mut [u64]) -> u32
     ensures { λ r. ⌜ gives r (now (sizes .exit)) ≡ sizesCall (now (session .entry)) (now (sizes .entry)) ⌝ }
 {
-    let k = lists_refusal(session, sizes.len(), 16);
+    let k = session_list::lists_refusal(session, sizes.len(), 16);
     if k == 0 {
-        return return_sizes(theora::sizes(session_of(session)), sizes);
+        return return_sizes(theora::sizes(session_list::session_of(session)), sizes);
     }
     k
 }
@@ -315,9 +228,12 @@ pub extern "C" fn wedgepetal_sizes(session: &[u64], sizes: &mut [u64]) -> u32
 pub extern "C" fn wedgepetal_block_at(session: &[u64], number: u64, block: &mut [u64]) -> u32
     ensures { λ r. ⌜ gives r (now (block .exit)) ≡ blockAtCall (now (session .entry)) number (now (block .entry)) ⌝ }
 {
-    let k = lists_refusal(session, block.len(), 3);
+    let k = session_list::lists_refusal(session, block.len(), 3);
     if k == 0 {
-        return return_block(queries::block_at(session_of(session), number), block);
+        return return_block(
+            queries::block_at(session_list::session_of(session), number),
+            block,
+        );
     }
     k
 }
@@ -333,10 +249,10 @@ pub extern "C" fn wedgepetal_block_number(
 ) -> u32
     ensures { λ r. ⌜ gives r (now (number .exit)) ≡ blockNumberCall (now (session .entry)) plane x y (now (number .entry)) ⌝ }
 {
-    let k = lists_refusal(session, number.len(), 1);
+    let k = session_list::lists_refusal(session, number.len(), 1);
     if k == 0 {
         return return_number(
-            queries::block_number(session_of(session), plane, x, y),
+            queries::block_number(session_list::session_of(session), plane, x, y),
             number,
         );
     }
@@ -348,9 +264,12 @@ pub extern "C" fn wedgepetal_block_number(
 pub extern "C" fn wedgepetal_macro_block_at(session: &[u64], number: u64, place: &mut [u64]) -> u32
     ensures { λ r. ⌜ gives r (now (place .exit)) ≡ macroBlockAtCall (now (session .entry)) number (now (place .entry)) ⌝ }
 {
-    let k = lists_refusal(session, place.len(), 2);
+    let k = session_list::lists_refusal(session, place.len(), 2);
     if k == 0 {
-        return return_place(queries::macro_block_at(session_of(session), number), place);
+        return return_place(
+            queries::macro_block_at(session_list::session_of(session), number),
+            place,
+        );
     }
     k
 }
@@ -365,10 +284,10 @@ pub extern "C" fn wedgepetal_macro_block_number(
 ) -> u32
     ensures { λ r. ⌜ gives r (now (number .exit)) ≡ macroBlockNumberCall (now (session .entry)) x y (now (number .entry)) ⌝ }
 {
-    let k = lists_refusal(session, number.len(), 1);
+    let k = session_list::lists_refusal(session, number.len(), 1);
     if k == 0 {
         return return_number(
-            queries::macro_block_number(session_of(session), x, y),
+            queries::macro_block_number(session_list::session_of(session), x, y),
             number,
         );
     }
@@ -386,10 +305,10 @@ pub extern "C" fn wedgepetal_macro_block_of(
 ) -> u32
     ensures { λ r. ⌜ gives r (now (place .exit)) ≡ macroBlockOfCall (now (session .entry)) plane x y (now (place .entry)) ⌝ }
 {
-    let k = lists_refusal(session, place.len(), 2);
+    let k = session_list::lists_refusal(session, place.len(), 2);
     if k == 0 {
         return return_place(
-            queries::macro_block_of(session_of(session), plane, x, y),
+            queries::macro_block_of(session_list::session_of(session), plane, x, y),
             place,
         );
     }
@@ -409,10 +328,10 @@ pub extern "C" fn wedgepetal_sample_offset(
 ) -> u32
     ensures { λ r. ⌜ gives r (now (offset .exit)) ≡ sampleOffsetCall (now (session .entry)) plane x y column row (now (offset .entry)) ⌝ }
 {
-    let k = lists_refusal(session, offset.len(), 1);
+    let k = session_list::lists_refusal(session, offset.len(), 1);
     if k == 0 {
         return return_number(
-            queries::sample_offset(session_of(session), plane, x, y, column, row),
+            queries::sample_offset(session_list::session_of(session), plane, x, y, column, row),
             offset,
         );
     }
@@ -425,7 +344,7 @@ pub extern "C" fn wedgepetal_setup(packet: &[u8], table: &mut [u8], place: &mut 
     ensures { λ r. ⌜ answers r (now (table .exit)) (now (place .exit)) ≡ setupCall (now (packet .entry)) (now (table .entry)) (now (place .entry)) ⌝ }
 {
     if place.len() != 1 {
-        return 1;
+        return bitstream::WRONG_LENGTH;
     }
     match theora::setup(packet, table) {
         SetupAnswer::Accepted => {
@@ -448,9 +367,9 @@ pub extern "C" fn wedgepetal_table(table: &[u8]) -> u32
         if setup::table_is_genuine(table) {
             return 0;
         }
-        return 8;
+        return bitstream::NOT_GENUINE;
     }
-    1
+    bitstream::WRONG_LENGTH
 }
 
 // The loop limit of a qi.
@@ -461,7 +380,7 @@ pub extern "C" fn wedgepetal_loop_limit(table: &[u8], qi: u64, limit: &mut [u64]
     if limit.len() == 1 {
         return return_number(queries::loop_limit(table, qi), limit);
     }
-    1
+    bitstream::WRONG_LENGTH
 }
 
 // The quantization matrix of a type, a plane and a qi.
@@ -480,7 +399,7 @@ pub extern "C" fn wedgepetal_matrix(
         let answer = queries::matrix(table, qti, plane, qi, &mut numbers);
         return return_matrix(answer, &numbers, matrix);
     }
-    1
+    bitstream::WRONG_LENGTH
 }
 
 // The lengths of work memory for a session's frames.
@@ -488,60 +407,12 @@ pub extern "C" fn wedgepetal_matrix(
 pub extern "C" fn wedgepetal_work_lengths(session: &[u64], lengths: &mut [u64]) -> u32
     ensures { λ r. ⌜ gives r (now (lengths .exit)) ≡ workLengthsCall (now (session .entry)) (now (lengths .entry)) ⌝ }
 {
-    let k = lists_refusal(session, lengths.len(), 11);
+    let k = session_list::lists_refusal(session, lengths.len(), 11);
     if k == 0 {
-        return return_lengths(theora::work_lengths(session_of(session)), lengths);
-    }
-    k
-}
-
-// Decodes a frame packet into new.
-#[no_mangle]
-pub extern "C" fn wedgepetal_frame(
-    session: &mut [u64],
-    packet: &[u8],
-    table: &[u8],
-    records: &mut [u32],
-    coded: &mut [u64],
-    coefs: &mut [i16],
-    dc: &mut [i16],
-    lasts: &mut [u8],
-    flags: &mut [u8],
-    bits: &mut [u8],
-    supers: &mut [u8],
-    modes: &mut [u8],
-    active: &mut [u64],
-    golden: &[u8],
-    previous: &[u8],
-    new: &mut [u8],
-    answer: &mut [u64],
-) -> u32
-    ensures { λ r. ⌜ frameGives (answers r (now (session .exit)) (now (answer .exit))) (now (new .exit)) (memory (now (records .exit)) (now (coded .exit)) (now (coefs .exit)) (now (dc .exit)) (now (lasts .exit)) (now (flags .exit)) (now (bits .exit)) (now (supers .exit)) (now (modes .exit)) (now (active .exit)))
-        ≡ frameCall (now (session .entry)) (now (answer .entry)) (now (golden .entry)) (now (previous .entry))
-        (call (now (packet .entry)) (now (table .entry)) (memory (now (records .entry)) (now (coded .entry)) (now (coefs .entry)) (now (dc .entry)) (now (lasts .entry)) (now (flags .entry)) (now (bits .entry)) (now (supers .entry)) (now (modes .entry)) (now (active .entry))) (now (new .entry))) ⌝ }
-{
-    let k = lists_refusal(session, answer.len(), 8);
-    if k == 0 {
-        let s = session_of(session);
-        let done = theora::frame(
-            s,
-            packet,
-            table,
-            records,
-            coded,
-            coefs,
-            dc,
-            lasts,
-            flags,
-            bits,
-            supers,
-            modes,
-            active,
-            golden,
-            previous,
-            new,
+        return return_lengths(
+            theora::work_lengths(session_list::session_of(session)),
+            lengths,
         );
-        return return_frame(done, session, answer);
     }
     k
 }

@@ -29,12 +29,12 @@ abbrev pub C7 : ℕ
 C7 = 12785
 
 -- "each product >>16"
-unfoldable pub times : ℕ → ℤ → ℤ
-times c x = floorShift (x *ℤ pos c) 16
+unfoldable pub upperProduct : ℕ → ℤ → ℤ
+upperProduct c x = floorShift (x *ℤ pos c) 16
 
 -- "cut before each C4 product"
 unfoldable pub timesC4 : ℤ → ℤ
-timesC4 x = times C4 (cut x)
+timesC4 x = upperProduct C4 (cut x)
 
 -- "a=C4(x0+x4), b=C4(x0−x4), c=C6x2−C2x6, d=C2x2+C6x6, e=C7x1−C1x7, k=C3x5−C5x3, g=C5x5+C3x3, h=C1x1+C7x7; then E=e+k, K=C4(e−k), H=h+g, G=C4(h−g)"
 module _ (l : Line) where
@@ -45,22 +45,22 @@ module _ (l : Line) where
   b = timesC4 (l .x0 -ℤ l .x4)
 
   unfoldable pub c : ℤ
-  c = times C6 (l .x2) -ℤ times C2 (l .x6)
+  c = upperProduct C6 (l .x2) -ℤ upperProduct C2 (l .x6)
 
   unfoldable pub d : ℤ
-  d = times C2 (l .x2) +ℤ times C6 (l .x6)
+  d = upperProduct C2 (l .x2) +ℤ upperProduct C6 (l .x6)
 
   unfoldable pub e : ℤ
-  e = times C7 (l .x1) -ℤ times C1 (l .x7)
+  e = upperProduct C7 (l .x1) -ℤ upperProduct C1 (l .x7)
 
   unfoldable pub k : ℤ
-  k = times C3 (l .x5) -ℤ times C5 (l .x3)
+  k = upperProduct C3 (l .x5) -ℤ upperProduct C5 (l .x3)
 
   unfoldable pub g : ℤ
-  g = times C5 (l .x5) +ℤ times C3 (l .x3)
+  g = upperProduct C5 (l .x5) +ℤ upperProduct C3 (l .x3)
 
   unfoldable pub h : ℤ
-  h = times C1 (l .x1) +ℤ times C7 (l .x7)
+  h = upperProduct C1 (l .x1) +ℤ upperProduct C7 (l .x7)
 
   abbrev pub E : ℤ
   E = e +ℤ k

@@ -6,7 +6,7 @@ ghost use Prim.Native.Nat.{ℕ, _+_, _*_, _/_, _%_, _≤_, _<_};
 ghost use lib.IntN.{pos, _+ℤ_, _-ℤ_};
 ghost use lib.ListN.{length, getD, replicate};
 ghost use Rattle.numeric.specs.Cut.{cut};
-ghost use Rattle.transform.specs.Line.{times, timesC4, firstTerms, lastTerms, outputs, transformedLine};
+ghost use Rattle.transform.specs.Line.{upperProduct, timesC4, firstTerms, lastTerms, outputs, transformedLine};
 ghost use Rattle.transform.specs.Block.{lineAt, putLine, transformLine, rows, columns, inverse};
 ghost use Rattle.transform.specs.Residual.{zigZag, dequantized, dcOnly, rounded, tabulated, values, residual};
 
@@ -45,8 +45,8 @@ pub struct Terms {
 }
 
 // Lines are computed in 16 bits throughout, and a factor from 32768 on is 65536 less: then eight columns go together, in vectors of 16 bits.
-fn times(c: u16, x: i16) -> i16
-    ensures { λ r. ⌜ r ≡ times c x ⌝ }
+fn upper_product(c: u16, x: i16) -> i16
+    ensures { λ r. ⌜ r ≡ upperProduct c x ⌝ }
 {
     let w = x as i32;
     if c < 32768 {
@@ -58,7 +58,7 @@ fn times(c: u16, x: i16) -> i16
 fn times_c4(x: i32) -> i16
     ensures { λ r. ⌜ r ≡ timesC4 x ⌝ }
 {
-    times(C4, numeric::cut16(x))
+    upper_product(C4, numeric::cut16(x))
 }
 
 fn sum(x: i16, y: i16) -> i16
@@ -74,15 +74,15 @@ fn difference(x: i16, y: i16) -> i16
 }
 
 fn weighted_sum(c: u16, x: i16, d: u16, y: i16) -> i16
-    ensures { λ r. ⌜ r ≡ cut (times c x +ℤ times d y) ⌝ }
+    ensures { λ r. ⌜ r ≡ cut (upperProduct c x +ℤ upperProduct d y) ⌝ }
 {
-    sum(times(c, x), times(d, y))
+    sum(upper_product(c, x), upper_product(d, y))
 }
 
 fn weighted_difference(c: u16, x: i16, d: u16, y: i16) -> i16
-    ensures { λ r. ⌜ r ≡ cut (times c x -ℤ times d y) ⌝ }
+    ensures { λ r. ⌜ r ≡ cut (upperProduct c x -ℤ upperProduct d y) ⌝ }
 {
-    difference(times(c, x), times(d, y))
+    difference(upper_product(c, x), upper_product(d, y))
 }
 
 // What outputs 0 to 3, and 7 to 4, begin with.
@@ -117,8 +117,8 @@ fn last_terms(l: Line) -> Terms
     let k = weighted_difference(C3, x5, C5, x3);
     let g = weighted_sum(C5, x5, C3, x3);
     let h = weighted_sum(C1, x1, C7, x7);
-    let k4 = times(C4, difference(e, k));
-    let g4 = times(C4, difference(h, g));
+    let k4 = upper_product(C4, difference(e, k));
+    let g4 = upper_product(C4, difference(h, g));
     Terms {
         t0: sum(h, g),
         t1: sum(g4, k4),

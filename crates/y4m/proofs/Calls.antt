@@ -1,20 +1,19 @@
 -- What the writing calls answer and leave, test by test. Assumes nothing.
-use Prim.Native.Nat.{ℕ, zero, suc, _+_, _*_, _-_, _/_, _%_, _≤_, _<_}
+use Prim.Native.Nat.{ℕ, _+_, _*_, _-_, _/_, _%_, _≤_, _<_}
 use native.Mathlib.Omega.{arith}
-use mathlib.Core.Path.{_≡_, refl, sym, ap, _∙_, subst}
-use mathlib.Core.Bool.{Bool, true, false}
+use mathlib.Core.Path.{_≡_, sym, ap, _∙_, subst}
+use mathlib.Core.Bool.{true, false}
 use mathlib.Core.List.{List}
 use borrow.Author.Tests.{eq-eqb, ne-eqb}
 use lib.ListN.{length}
-use Rattle.bitstream.specs.Reading.{choose}
 use Rattle.headers.specs.declared.Session.{Session}
 use Rattle.headers.specs.Fits.{sessionFits}
 use Rattle.output.specs.Output.{refused, leftBy, within, asWritten, spliced}
 use Rattle.output.specs.declared.Written.the-variants.{Bytes}
-use Rattle.output.proofs.Splices.{written-whole, written-nothing}
+use Rattle.output.proofs.Splices.{written-whole}
 use Rattle.y4m.specs.declared.Numbers.{Numbers}
 use Rattle.y4m.specs.Stream.{numbersOf, headerText, frameBytes, frameText, framesText, streamText, countOf, streamWith, streamFor, headerFor, frameWith, frameFor}
-use Rattle.y4m.specs.Film.{numbersFit, step}
+use Rattle.y4m.specs.Film.{step}
 use Rattle.y4m.proofs.FrameLaws.{count-fits, stream-length, stream-written, room-enough, room-short}
 
 module _ (s : Session) where

@@ -4,7 +4,7 @@ use mathlib.Core.Path.{_≡_, refl}
 use mathlib.Core.Bool.{Bool, true, false}
 use mathlib.Core.List.{List, [], _∷_, _++_}
 use lib.ListN.{length, take, replicate}
-use Rattle.geometry.specs.declared.PixelFormat.the-variants.{Chroma420, Chroma422, Chroma444}
+use Rattle.geometry.specs.declared.PixelFormat.the-variants.{Chroma420}
 use Rattle.geometry.specs.Order.{inTurn}
 use Rattle.geometry.specs.Sizes.{blocksOf, blocksBefore, total}
 use Rattle.headers.specs.declared.Session.{Session}

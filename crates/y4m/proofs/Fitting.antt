@@ -1,15 +1,15 @@
 -- Numbers of a header that fit, and what follows for the sizes of frames. Assumes nothing.
-use Prim.Native.Nat.{ℕ, zero, suc, _+_, _*_, _/_, _%_, _≤_, _<_}
+use Prim.Native.Nat.{ℕ, _*_, _/_, _%_, _≤_, _<_}
 use native.Mathlib.Omega.{arith}
-use native.Mathlib.Nat.{mul-pos, mul-div-right}
-use mathlib.Core.Path.{_≡_, refl, sym, ap, _∙_, subst}
-use mathlib.Core.Bool.{Bool, true, false, _&&_, _||_, false≢true}
+use native.Mathlib.Nat.{mul-pos}
+use mathlib.Core.Path.{_≡_, refl}
+use mathlib.Core.Bool.{Bool, true, false, _&&_, _||_}
 use mathlib.Core.Logic.{_⊎_, inl, inr}
 use lib.Dec.{eqb, leb}
 use borrow.Author.Tests.{eqb-true, leb-true}
 use Rattle.geometry.specs.declared.PixelFormat.{PixelFormat}
 use Rattle.geometry.specs.declared.PixelFormat.the-variants.{Chroma420, Chroma422, Chroma444}
-use Rattle.geometry.specs.Sizes.{blocksOf, blocksEach, macroBlocksOf}
+use Rattle.geometry.specs.Sizes.{blocksEach, macroBlocksOf}
 use Rattle.geometry.proofs.SizeLaws.{blocks-each, sizes-small}
 use Rattle.headers.specs.Sizes.{formatOf}
 use Rattle.text.proofs.Texts.{and-left, and-right}

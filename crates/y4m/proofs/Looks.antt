@@ -1,11 +1,11 @@
 -- What a look at a stream comes to, test by test. Assumes nothing.
-use Prim.Native.Nat.{ℕ, zero, suc, _+_, _*_, _-_, _/_, _%_, _≤_, _<_}
+use Prim.Native.Nat.{ℕ, _+_, _*_, _-_, _/_, _%_, _≤_, _<_}
 use native.Mathlib.Omega.{arith}
 use native.Mathlib.Nat.{div-mul-le-self, le-div-iff-mul-le, div-lt-iff-lt-mul}
 use mathlib.Core.Path.{_≡_, refl, sym, ap, _∙_, subst}
-use mathlib.Core.Bool.{Bool, true, false, _&&_, false≢true}
-use mathlib.Core.List.{List, _++_}
-use lib.Dec.{eqb, leb}
+use mathlib.Core.Bool.{Bool, true, false, _&&_}
+use mathlib.Core.List.{List}
+use lib.Dec.{eqb}
 use borrow.Author.Tests.{eq-eqb, ne-eqb, le-leb, lt-leb}
 use lib.ListN.{length, take, drop, length-take, length-drop}
 use Rattle.bitstream.specs.Reading.{choose}
@@ -17,7 +17,6 @@ use Rattle.y4m.specs.declared.Numbers.{Numbers}
 use Rattle.y4m.specs.declared.Looked.{Looked}
 use Rattle.y4m.specs.declared.Looked.the-variants.{Frames, Other}
 use Rattle.y4m.specs.declared.FilmAnswer.{FilmAnswer}
-use Rattle.y4m.specs.declared.FilmAnswer.the-variants.{Is, Refused}
 use Rattle.y4m.specs.Stream.{headerText, frameBytes}
 use Rattle.y4m.specs.Film.{numbersIn, filmIn, numbersFit, isHeader, headerEnd, bodyOf, step, framesOf, marked, isStreamOf, looked, planesOf, Holds, holds, refused, filmWith, asFilm, planesBy}
 use Rattle.y4m.proofs.Fitting.{bytes-some}

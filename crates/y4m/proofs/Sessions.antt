@@ -1,12 +1,11 @@
 -- Sessions and the numbers of their streams. The one file that opens number 8. Assumes nothing.
-use Prim.Native.Nat.{ℕ, zero, suc, _+_, _*_, _-_, _/_, _%_, _^_, _≤_, _<_}
+use Prim.Native.Nat.{ℕ, zero, suc, _*_, _-_, _/_, _%_, _^_, _≤_, _<_}
 use native.Mathlib.Omega.{arith}
-use native.Mathlib.Nat.{mul-div-right}
-use mathlib.Core.Path.{_≡_, refl, sym, ap, _∙_}
+use mathlib.Core.Path.{_≡_, refl, sym}
 use mathlib.Core.Bool.{Bool, true, false, not, _&&_, _||_}
-use mathlib.Core.List.{List, [], _∷_}
-use mathlib.Core.Logic.{_⊎_, inl, inr}
-use lib.Dec.{eqb, leb, ltb, lit<}
+use mathlib.Core.List.{[], _∷_}
+use mathlib.Core.Logic.{inl, inr}
+use lib.Dec.{eqb, ltb, lit<}
 use borrow.Author.Tests.{ltb-true, lt-ltb, eqb-true, eqb-false, eq-eqb, ne-eqb, le-leb, not-true}
 use Rattle.bitstream.specs.Reading.{choose}
 use Rattle.headers.specs.declared.Fields.{Fields}
@@ -17,7 +16,7 @@ use Rattle.headers.proofs.Fitting.{all-at}
 use Rattle.y4m.specs.declared.Numbers.{Numbers}
 use Rattle.y4m.specs.Stream.{aspect, numbersOf}
 use Rattle.y4m.specs.Film.{sizeFits, rateFits, aspectFits, formatFits, numbersFit}
-use Rattle.y4m.proofs.Fitting.{Size, Between, Aspects, Format, Fit, fit}
+use Rattle.y4m.proofs.Fitting.{Between, Aspects, Format, Fit, fit}
 
 fits-both : (s : Session) → sessionFits s ≡ true → (widthsFit (s .fields) ≡ true) × (rangesHold (s .fields) ≡ true)
 unfolding sessionFits

@@ -1,16 +1,15 @@
 -- The theorems of streams: what was written is read, and nothing else is. Assumes nothing.
-use Prim.Native.Nat.{ℕ, zero, suc, _+_, _*_, _-_, _/_, _%_, _^_, _≤_, _<_}
+use Prim.Native.Nat.{ℕ, zero, suc, _+_, _*_, _-_, _/_, _%_, _≤_, _<_}
 use native.Mathlib.Omega.{arith}
 use native.Mathlib.Nat.{le-of-eq, le-trans, mul-div-cancel, mul-div-right, mul-mod-left, div-add-mod, mul-comm}
-use mathlib.Core.Path.{_≡_, refl, sym, ap, _∙_, subst}
+use mathlib.Core.Path.{_≡_, refl, sym, ap, _∙_}
 use mathlib.Core.Bool.{Bool, true, false, _&&_, false≢true}
-use mathlib.Core.List.{List, [], _∷_, _++_, append-assoc}
-use mathlib.Core.Logic.{_⊎_, inl, inr}
+use mathlib.Core.List.{List, _∷_, _++_, append-assoc}
+use mathlib.Core.Logic.{inl, inr}
 use lib.Dec.{eqb}
 use borrow.Author.Tests.{eq-eqb, eqb-true}
 use lib.ListN.{length, take, drop, getD, length-drop, take-append-drop}
 use lib.Seq.{take-all, take-at, drop-at, take-take, drop-drop, take-add}
-use Rattle.bitstream.specs.Reading.{choose}
 use Rattle.geometry.specs.Order.{inTurn}
 use Rattle.geometry.specs.Sizes.{blocksOf}
 use Rattle.geometry.proofs.Lists.{turn-same}
@@ -19,14 +18,14 @@ use Rattle.headers.specs.Fits.{sessionFits}
 use Rattle.headers.specs.Sizes.{format}
 use Rattle.output.specs.Output.{gives, part}
 use Rattle.output.proofs.Splices.{within-fits}
-use Rattle.text.specs.Decimal.{Scanned, scanned, decimal, number}
+use Rattle.text.specs.Decimal.{decimal}
 use Rattle.text.specs.Same.{same}
 use Rattle.text.proofs.Decimals.{NoDigit, number-decimal}
 use Rattle.text.proofs.Texts.{and-left, and-right, same-refl, same-eq}
 use Rattle.rows.proofs.Twice.{in-turn-part, in-order}
 use Rattle.y4m.specs.declared.Numbers.{Numbers}
-use Rattle.y4m.specs.Stream.{numbersOf, two, sizeText, rateText, aspectText, formatText, headerText, frameBytes, rowsOf, frameLine, frameText, frameOf, framesText, streamText, whole, countOf, streamFor, headerFor, frameFor}
-use Rattle.y4m.specs.Film.{formatIn, numbersIn, numbersFit, isHeader, bodyOf, step, framesOf, marked, isStreamOf, planesAt, planesOf, Holds, holds, refused, filmWith, filmIn}
+use Rattle.y4m.specs.Stream.{numbersOf, formatText, headerText, frameBytes, rowsOf, frameLine, frameText, frameOf, framesText, streamText, whole, countOf, headerFor, frameFor}
+use Rattle.y4m.specs.Film.{formatIn, numbersIn, numbersFit, isHeader, bodyOf, step, framesOf, marked, isStreamOf, planesAt, planesOf, holds, filmWith, filmIn}
 use Rattle.y4m.proofs.Fitting.{Format, Fit, fit}
 use Rattle.y4m.proofs.FrameLaws.{rows-length, rows-twice, text-length, frame-there, frames-length, marked-none, marked-more, marked-not, planes-there, planes-so-far, stream-length, count-fits}
 use Rattle.y4m.proofs.Looks.{Begins, stream-begins, film-holds}

@@ -8,10 +8,9 @@ use Rattle.bitstream.specs.Reading.{choose}
 use Rattle.bitstream.specs.Numbers.{shortOutput, otherStream}
 use Rattle.geometry.specs.Order.{inTurn}
 use Rattle.output.specs.Output.{part}
-use Rattle.text.specs.Decimal.{Scanned, number}
+use Rattle.text.specs.Decimal.{number}
 use Rattle.text.specs.Same.{same}
 use Rattle.y4m.specs.declared.Numbers.{Numbers}
-use Rattle.y4m.specs.declared.Film.{Film}
 use Rattle.y4m.specs.declared.FilmAnswer.{FilmAnswer}
 use Rattle.y4m.specs.declared.FilmAnswer.the-variants.{Is, Refused}
 use Rattle.y4m.specs.declared.Looked.{Looked}

@@ -1,9 +1,9 @@
 -- "a YUV4MPEG2 stream: whole coded frame, top row first, planes in order"
 use Prim.Native.Nat.{ℕ, _+_, _*_, _/_, _%_}
-use mathlib.Core.Bool.{Bool, _&&_, _||_}
+use mathlib.Core.Bool.{Bool}
 use mathlib.Core.List.{List, [], _∷_, _++_}
-use lib.Dec.{eqb, leb}
-use lib.ListN.{length, take, drop, getD}
+use lib.Dec.{eqb}
+use lib.ListN.{length}
 use Rattle.bitstream.specs.Reading.{choose}
 use Rattle.bitstream.specs.Numbers.{wrongLength, notGenuine}
 use Rattle.geometry.specs.declared.PixelFormat.{PixelFormat}
@@ -12,8 +12,8 @@ use Rattle.geometry.specs.Order.{inTurn}
 use Rattle.headers.specs.declared.Session.{Session}
 use Rattle.headers.specs.Fits.{sessionFits}
 use Rattle.headers.specs.Sizes.{formatOf}
-use Rattle.output.specs.Output.{Output, gives, refused, within, part}
-use Rattle.text.specs.Decimal.{Scanned, decimal, number}
+use Rattle.output.specs.Output.{Output, refused, within, part}
+use Rattle.text.specs.Decimal.{decimal}
 use Rattle.rows.specs.Rows.{turned}
 use Rattle.y4m.specs.declared.Numbers.{Numbers}
 

@@ -8,14 +8,14 @@ use Rattle.bitstream.specs.Lists.{AllBelow}
 use Rattle.bitstream.proofs.Ends.{on-refused, end-refused}
 use Rattle.block_record.specs.Packed.{packed}
 use Rattle.block_record.specs.Memory.{AllPacked, recordsOf}
-use Rattle.block_qi.specs.BlockQi.{oneStep, steps, blockQi}
+use Rattle.block_qi.specs.BlockQi.{oneStep, qiSteps, blockQi}
 use Rattle.block_qi.proofs.Steps.{steps-start, steps-refused, steps-on, steps-done, on-all, records-at}
 use borrow.Author.Needs.{needs}
 use Rattle.block_qi.proofs.read_block_qi.Statement.{statement}
 use Rattle.block_qi.proofs.read_block_qi.Tie as tie
 
 abbrev Inv-loop : tie.InvT-loop
-Inv-loop packet at qis coded bits₀ records₀ q₀ place₀ bits records q place = (length bits ≡ length bits₀) × (length records ≡ length records₀) × (q ≤ 2) × AllPacked records × (blockQi qis coded (recordsOf records₀) packet at ≡ steps (qis - (q + 1)) q coded (recordsOf records) packet place)
+Inv-loop packet at qis coded bits₀ records₀ q₀ place₀ bits records q place = (length bits ≡ length bits₀) × (length records ≡ length records₀) × (q ≤ 2) × AllPacked records × (blockQi qis coded (recordsOf records₀) packet at ≡ qiSteps (qis - (q + 1)) q coded (recordsOf records) packet place)
 
 abbrev μ-loop : tie.MeasureT-loop
 μ-loop packet at qis coded bits₀ records₀ q₀ place₀ bits records q place = qis - q

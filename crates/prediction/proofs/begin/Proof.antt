@@ -7,7 +7,7 @@ use native.Mathlib.Omega.{arith}
 use lib.IntN.{ℤ, pos, _+ℤ_}
 use mir.Syntax.{w32}
 use Rattle.numeric.proofs.Known.{Known, k-nat, k-got, k-add, ask-add, ask-size, back}
-use Rattle.prediction.specs.Motion.{steps, down, upward}
+use Rattle.prediction.specs.Motion.{steps, down, roundedUp}
 use borrow.Author.Needs.{needs}
 use Rattle.prediction.proofs.begin.Statement.{statement}
 use Rattle.prediction.proofs.begin.Tie as tie
@@ -17,15 +17,15 @@ module _ (s : tie.Start) where
   from = k-nat _ 1048560 (omega arith) tt
 
   abbrev up : ℤ
-  up = upward (steps (s .args .subsampled)) (s .args .z)
+  up = roundedUp (steps (s .args .subsampled)) (s .args .z)
 
   abbrev low : ℤ
   low = down (steps (s .args .subsampled)) (s .args .z)
 
-abbrev by-up : (c : tie.After-upward) → Known w32 (up (c .before .before)) 31
+abbrev by-up : (c : tie.After-rounded-up) → Known w32 (up (c .before .before)) 31
 by-up c =
     let s = c .before .before in
-    k-got (c .upward .ok) (c .upward .ensures .0 ∙ ap (upward (steps (s .args .subsampled))) (back w32 (s .args .z) (s .fits .z .sfits))) (c .upward .ensures .1)
+    k-got (c .rounded-up .ok) (c .rounded-up .ensures .0 ∙ ap (roundedUp (steps (s .args .subsampled))) (back w32 (s .args .z) (s .fits .z .sfits))) (c .rounded-up .ensures .1)
 
 abbrev by-down : (c : tie.After-down) → Known w32 (low (c .before .before)) 31
 by-down c =
@@ -38,8 +38,8 @@ mul-from c = search needs
 cast-from : tie.Need-cast-from
 cast-from c = search needs
 
-upward-requires : tie.Need-upward-requires
-upward-requires c κs = search needs
+rounded-up-requires : tie.Need-rounded-up-requires
+rounded-up-requires c κs = search needs
 
 add-result : tie.Need-add-result
 add-result c = ask-add (from (c .before .before)) (by-up c) tt
@@ -62,7 +62,7 @@ begin-spec =
     (tie.spec
     mul-from
     cast-from
-    upward-requires
+    rounded-up-requires
     add-result
     returns
     down-requires

@@ -8,7 +8,7 @@ use mir.Val.{toZ, ofZ}
 use Rattle.numeric.proofs.Known.{Known, k-got, ask-size, back}
 use Rattle.geometry.specs.declared.Block.{Block}
 use Rattle.block_record.specs.declared.Vector.{Vector}
-use Rattle.prediction.specs.Motion.{subsampledAcross, subsampledUp, steps, down, upward}
+use Rattle.prediction.specs.Motion.{subsampledAcross, subsampledUp, steps, down, roundedUp}
 use Rattle.prediction.specs.Block.{fetchesOf}
 use borrow.Author.Needs.{needs}
 use Rattle.prediction.proofs.fetches_of.Statement.{statement}
@@ -44,11 +44,11 @@ module _ (c : tie.After-begin4) where
   abbrev ky1 : Known w32 (pos (8 * b .y) +ℤ down (steps (subsampledUp (a .args .format) (b .plane))) (v .y)) 1048591
   ky1 = k-got (c .before .before .begin2 .ok) (c .before .before .begin2 .ensures .0 ∙ (λ i. pos (8 * b .y) +ℤ down (steps (n i)) (y i))) (c .before .before .begin2 .ensures .1)
 
-  abbrev kx2 : Known w32 (pos (8 * b .x) +ℤ upward (steps (subsampledAcross (a .args .format) (b .plane))) (v .x)) 1048591
-  kx2 = k-got (c .before .begin3 .ok) (c .before .begin3 .ensures .0 ∙ (λ i. pos (8 * b .x) +ℤ upward (steps (m i)) (x i))) (c .before .begin3 .ensures .1)
+  abbrev kx2 : Known w32 (pos (8 * b .x) +ℤ roundedUp (steps (subsampledAcross (a .args .format) (b .plane))) (v .x)) 1048591
+  kx2 = k-got (c .before .begin3 .ok) (c .before .begin3 .ensures .0 ∙ (λ i. pos (8 * b .x) +ℤ roundedUp (steps (m i)) (x i))) (c .before .begin3 .ensures .1)
 
-  abbrev ky2 : Known w32 (pos (8 * b .y) +ℤ upward (steps (subsampledUp (a .args .format) (b .plane))) (v .y)) 1048591
-  ky2 = k-got (c .begin4 .ok) (c .begin4 .ensures .0 ∙ (λ i. pos (8 * b .y) +ℤ upward (steps (n i)) (y i))) (c .begin4 .ensures .1)
+  abbrev ky2 : Known w32 (pos (8 * b .y) +ℤ roundedUp (steps (subsampledUp (a .args .format) (b .plane))) (v .y)) 1048591
+  ky2 = k-got (c .begin4 .ok) (c .begin4 .ensures .0 ∙ (λ i. pos (8 * b .y) +ℤ roundedUp (steps (n i)) (y i))) (c .begin4 .ensures .1)
 
 subsampling-requires : tie.Need-subsampling-requires
 subsampling-requires c κs = search needs

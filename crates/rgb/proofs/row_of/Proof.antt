@@ -1,7 +1,6 @@
 -- `rgb::row_of` meets its contract. Assumes nothing.
 use Prim.Native.Nat.{_+_, _*_, _≤_}
 use native.Mathlib.Omega.{arith}
-use Rattle.geometry.proofs.SizeLaws.{plane-of-small}
 use Rattle.rgb.proofs.Rows.{run-small, run-by}
 use borrow.Author.Needs.{needs}
 use Rattle.rgb.proofs.row_of.Statement.{statement}

@@ -1,7 +1,6 @@
 -- `rgb::sums_of` meets its contract. Assumes nothing.
-use Prim.Native.Nat.{ℕ, _+_, _/_, _≤_}
 use native.Mathlib.Omega.{arith}
-use mathlib.Core.Path.{_≡_, ap}
+use mathlib.Core.Path.{ap}
 use lib.ListN.{length}
 use Rattle.geometry.specs.declared.PixelFormat.{PixelFormat}
 use Rattle.rgb.specs.Picture.{chromaColumn}

@@ -1,9 +1,9 @@
 -- `rgb::to_bytes` meets its contract. The loop's invariant: i bytes are made. Assumes nothing.
-use Prim.Native.Nat.{ℕ, _+_, _-_, _≤_, _<_}
+use Prim.Native.Nat.{ℕ, _+_, _-_, _≤_}
 use native.Mathlib.Omega.{arith}
 use mathlib.Core.Path.{_≡_, refl, sym, ap, _∙_}
 use mathlib.Core.List.{List, map}
-use lib.IntN.{ℤ, pos}
+use lib.IntN.{pos}
 use lib.ListN.{length, getD, take, set, length-set, List·getD-map}
 use lib.Seq.{take-all}
 use mir.Syntax.{w32}

@@ -1,13 +1,11 @@
 -- `rgb::write_picture` meets its contract. The loop's invariant: y rows are left, the others are written. Assumes nothing.
 use Prim.Native.Nat.{ℕ, _+_, _-_, _*_, _≤_, _<_}
-use native.Mathlib.Nat.{zero-mul, sub-self}
 use native.Mathlib.Omega.{arith}
-use mathlib.Core.Path.{_≡_, refl, sym, ap, _∙_}
-use mathlib.Core.List.{List, []}
+use mathlib.Core.Path.{_≡_, refl, ap, _∙_}
+use mathlib.Core.List.{List}
 use lib.ListN.{length}
 use Rattle.geometry.specs.Order.{inTurn}
 use Rattle.output.specs.Output.{spliced}
-use Rattle.output.proofs.Splices.{spliced-none}
 use Rattle.rgb.proofs.Rows.{rowFrom, row-room, row-next, rows-more, picture-is, no-rows, part-length}
 use borrow.Author.Needs.{needs}
 use Rattle.rgb.proofs.write_picture.Statement.{statement}

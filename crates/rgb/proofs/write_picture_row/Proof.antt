@@ -1,13 +1,12 @@
 -- `rgb::write_picture_row` meets its contract. Assumes nothing.
-use Prim.Native.Nat.{ℕ, suc, _+_, _*_, _≤_, _<_}
+use Prim.Native.Nat.{ℕ, suc, _*_, _<_}
 use native.Mathlib.Omega.{arith}
-use mathlib.Core.Path.{_≡_, sym, ap, _∙_, subst}
-use lib.ListN.{length}
-use Rattle.geometry.specs.Sizes.{up, blocksOf}
+use mathlib.Core.Path.{sym, _∙_, subst}
+use Rattle.geometry.specs.Sizes.{up}
 use Rattle.rgb.specs.declared.Run.{Run}
 use Rattle.rgb.specs.Picture.{chromaRow}
 use Rattle.rgb.specs.Sums.{RunOf}
-use Rattle.rgb.proofs.Rows.{chroma-row-below, piece, run-length, runs-reach, picture-row}
+use Rattle.rgb.proofs.Rows.{chroma-row-below, run-length, runs-reach, picture-row}
 use borrow.Author.Needs.{needs}
 use Rattle.rgb.proofs.write_picture_row.Statement.{statement}
 use Rattle.rgb.proofs.write_picture_row.Tie as tie

@@ -1,8 +1,8 @@
 -- `rgb::write_row` meets its contract. The loop's invariant: x pixels are written. Assumes nothing.
-use Prim.Native.Nat.{ℕ, _+_, _-_, _*_, _%_, _≤_, _<_}
+use Prim.Native.Nat.{_+_, _-_, _*_, _%_, _≤_}
 use native.Mathlib.Omega.{arith}
-use mathlib.Core.Path.{_≡_, refl, sym, ap, _∙_}
-use mathlib.Core.List.{List, []}
+use mathlib.Core.Path.{_≡_, refl, sym, _∙_}
+use mathlib.Core.List.{[]}
 use lib.ListN.{length}
 use Rattle.geometry.specs.Order.{inTurn}
 use Rattle.output.specs.Output.{spliced}

@@ -3,8 +3,8 @@ use mathlib.Core.Path.{sym, ap, _∙_}
 use mathlib.Core.List.{List}
 use native.Mathlib.Omega.{arith}
 use Prim.Native.Nat.{ℕ}
-use Rattle.theora_c.specs.Face.{gives}
-use Rattle.theora_c.proofs.Calls.{only}
+use Rattle.session_list.specs.List.{gives}
+use Rattle.session_list.proofs.Lists.{only}
 use Rattle.rgb_c.specs.Face.{writtenReturned}
 use borrow.Author.Needs.{needs}
 use Rattle.rgb_c.proofs.return_written.Statement.{statement}

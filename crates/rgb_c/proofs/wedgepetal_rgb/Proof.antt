@@ -1,7 +1,7 @@
 -- `rgb_c::wedgepetal_rgb` meets its contract. Assumes nothing.
 use mathlib.Core.Path.{sym, ap, _∙_}
 use lib.ListN.{length}
-use Rattle.theora_c.proofs.Calls.{lengths, made, unmade}
+use Rattle.session_list.proofs.Lists.{lengths, made, unmade}
 use Rattle.rgb_c.specs.Face.{writtenReturned}
 use Rattle.rgb_c.proofs.Left.{left-made, left-unmade}
 use borrow.Author.Needs.{needs}

@@ -1,5 +1,5 @@
 -- `scoring_c::settings_of` meets its contract. Assumes nothing.
-use mathlib.Core.Path.{_≡_, refl, sym, ap, _∙_}
+use mathlib.Core.Path.{refl}
 use Rattle.scoring_c.specs.Face.{settingsOf}
 use borrow.Author.Needs.{needs}
 use Rattle.scoring_c.proofs.settings_of.Statement.{statement}

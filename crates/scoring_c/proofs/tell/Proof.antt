@@ -1,7 +1,8 @@
 -- `scoring_c::tell` meets its contract. Assumes nothing.
-use mathlib.Core.Path.{_≡_, refl, sym, ap, _∙_}
-use Rattle.scoring_c.specs.Face.{gives, wroteReturned}
-use Rattle.scoring_c.proofs.Calls.{one-set}
+use mathlib.Core.Path.{sym, ap, _∙_}
+use Rattle.session_list.specs.List.{gives}
+use Rattle.scoring_c.specs.Face.{wroteReturned}
+use Rattle.session_list.proofs.Lists.{only}
 use borrow.Author.Needs.{needs}
 use Rattle.scoring_c.proofs.tell.Statement.{statement}
 use Rattle.scoring_c.proofs.tell.Tie as tie
@@ -19,7 +20,7 @@ same-length : tie.Need-same-length
 same-length c = search needs
 
 returns : tie.Need-returns
-returns c = ap (gives 0) (one-set (c .before .before .before .args .list .now) (c .before .answer .given .0 .0) (c .before .before .before .pre)) ∙ sym (ap (wroteReturned (c .before .before .before .args .list .now)) (c .before .answer .given .1))
+returns c = ap (gives 0) (only (c .before .before .before .args .list .now) (c .before .answer .given .0 .0) (c .before .before .before .pre)) ∙ sym (ap (wroteReturned (c .before .before .before .args .list .now)) (c .before .answer .given .1))
 
 returns-2 : tie.Need-returns-2
 returns-2 c = sym (ap (wroteReturned (c .before .before .before .args .list .now)) (c .before .answer2 .given .1))

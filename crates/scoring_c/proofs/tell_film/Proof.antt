@@ -1,6 +1,7 @@
 -- `scoring_c::tell_film` meets its contract. Assumes nothing.
-use mathlib.Core.Path.{_≡_, refl, sym, ap, _∙_}
-use Rattle.scoring_c.specs.Face.{gives, filmReturned}
+use mathlib.Core.Path.{sym, ap, _∙_}
+use Rattle.session_list.specs.List.{gives}
+use Rattle.scoring_c.specs.Face.{filmReturned}
 use borrow.Author.Needs.{needs}
 use Rattle.scoring_c.proofs.tell_film.Statement.{statement}
 use Rattle.scoring_c.proofs.tell_film.Tie as tie

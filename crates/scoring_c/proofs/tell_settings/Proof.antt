@@ -1,6 +1,7 @@
 -- `scoring_c::tell_settings` meets its contract. Assumes nothing.
-use mathlib.Core.Path.{_≡_, refl, sym, ap, _∙_}
-use Rattle.scoring_c.specs.Face.{gives, toldBy}
+use mathlib.Core.Path.{sym, ap, _∙_}
+use Rattle.session_list.specs.List.{gives}
+use Rattle.scoring_c.specs.Face.{toldBy}
 use borrow.Author.Needs.{needs}
 use Rattle.scoring_c.proofs.tell_settings.Statement.{statement}
 use Rattle.scoring_c.proofs.tell_settings.Tie as tie

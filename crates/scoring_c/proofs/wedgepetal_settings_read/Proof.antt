@@ -1,5 +1,4 @@
 -- `scoring_c::wedgepetal_settings_read` meets its contract. Assumes nothing.
-use mathlib.Core.Path.{_≡_, refl, sym, ap, _∙_}
 use Rattle.scoring_c.proofs.Calls.{read-list, read-pass}
 use borrow.Author.Needs.{needs}
 use Rattle.scoring_c.proofs.wedgepetal_settings_read.Statement.{statement}

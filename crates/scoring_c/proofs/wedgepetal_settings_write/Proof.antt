@@ -1,6 +1,4 @@
 -- `scoring_c::wedgepetal_settings_write` meets its contract. Assumes nothing.
-use mathlib.Core.Path.{_≡_, refl, sym, ap, _∙_}
-use lib.ListN.{length}
 use Rattle.scoring_c.proofs.Calls.{text-list, text-answer, text-pass}
 use borrow.Author.Needs.{needs}
 use Rattle.scoring_c.proofs.wedgepetal_settings_write.Statement.{statement}

@@ -1,5 +1,4 @@
 -- `scoring_c::wedgepetal_y4m_read` meets its contract. Assumes nothing.
-use mathlib.Core.Path.{_≡_, refl, sym, ap, _∙_}
 use lib.ListN.{length}
 use Rattle.y4m.specs.Film.{filmIn}
 use Rattle.scoring_c.proofs.Calls.{film-1, film-pass}

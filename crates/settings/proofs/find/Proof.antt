@@ -1,7 +1,5 @@
 -- `settings::find` meets its contract. Assumes nothing.
-use Prim.Native.Nat.{ℕ, _+_, _*_, _-_, _/_, _%_, _^_, _≤_, _<_}
-use native.Mathlib.Omega.{arith}
-use mathlib.Core.Path.{_≡_, refl, sym, ap, _∙_}
+use Prim.Native.Nat.{_-_}
 use Rattle.settings.proofs.Lines.{read-19, read-by-1, read-old, read-new, read-third}
 use borrow.Author.Needs.{needs}
 use Rattle.settings.proofs.find.Statement.{statement}

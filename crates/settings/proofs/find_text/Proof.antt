@@ -1,7 +1,6 @@
 -- `settings::find_text` meets its contract. Assumes nothing.
-use Prim.Native.Nat.{ℕ, _+_, _*_, _-_, _/_, _%_, _^_, _≤_, _<_}
-use native.Mathlib.Omega.{arith}
-use mathlib.Core.Path.{_≡_, refl, sym, ap, _∙_}
+use Prim.Native.Nat.{_-_}
+use mathlib.Core.Path.{sym, _∙_}
 use Rattle.settings.proofs.Lines.{text-there, text-other}
 use borrow.Author.Needs.{needs}
 use Rattle.settings.proofs.find_text.Statement.{statement}

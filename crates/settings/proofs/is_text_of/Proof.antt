@@ -1,7 +1,7 @@
 -- `settings::is_text_of` meets its contract. Assumes nothing.
-use Prim.Native.Nat.{ℕ, _+_, _*_, _-_, _/_, _%_, _^_, _≤_, _<_}
+use Prim.Native.Nat.{_-_}
 use native.Mathlib.Omega.{arith}
-use mathlib.Core.Path.{_≡_, refl, sym, ap, _∙_}
+use mathlib.Core.Path.{refl, sym, _∙_}
 use Rattle.settings.proofs.Lines.{line-room, line-taken, not-fit, compared}
 use borrow.Author.Needs.{needs}
 use Rattle.settings.proofs.is_text_of.Statement.{statement}

@@ -1,9 +1,7 @@
 -- `settings::put_first_lines` meets its contract. Assumes nothing.
-use Prim.Native.Nat.{ℕ, _+_, _*_, _-_, _/_, _%_, _^_, _≤_, _<_}
+use Prim.Native.Nat.{_-_}
 use native.Mathlib.Omega.{arith}
-use mathlib.Core.Path.{_≡_, refl, sym, ap, _∙_}
-use lib.ListN.{length}
-use Rattle.settings.specs.Settings.{versionKey, tileKey, firstKey, lastKey}
+use Rattle.settings.specs.Settings.{versionKey, tileKey, firstKey}
 use Rattle.settings.proofs.Lines.{fit, line-short, first-written}
 use borrow.Author.Needs.{needs}
 use Rattle.settings.proofs.put_first_lines.Statement.{statement}

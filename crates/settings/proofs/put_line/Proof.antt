@@ -1,8 +1,6 @@
 -- `settings::put_line` meets its contract. Assumes nothing.
-use Prim.Native.Nat.{ℕ, _+_, _*_, _-_, _/_, _%_, _^_, _≤_, _<_}
+use Prim.Native.Nat.{_-_}
 use native.Mathlib.Omega.{arith}
-use mathlib.Core.Path.{_≡_, refl, sym, ap, _∙_}
-use lib.ListN.{length}
 use Rattle.text.proofs.Decimals.{decimal-length}
 use Rattle.settings.proofs.Lines.{line-written}
 use borrow.Author.Needs.{needs}

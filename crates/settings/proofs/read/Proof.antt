@@ -1,7 +1,5 @@
 -- `settings::read` meets its contract. Assumes nothing.
-use Prim.Native.Nat.{ℕ, _+_, _*_, _-_, _/_, _%_, _^_, _≤_, _<_}
-use native.Mathlib.Omega.{arith}
-use mathlib.Core.Path.{_≡_, refl, sym, ap, _∙_}
+use Prim.Native.Nat.{_-_}
 use Rattle.settings.specs.Settings.{read}
 use Rattle.settings.proofs.Lines.{loaded-is, loaded-not}
 use borrow.Author.Needs.{needs}

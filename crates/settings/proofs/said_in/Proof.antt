@@ -1,7 +1,6 @@
 -- `settings::said_in` meets its contract. Assumes nothing.
-use Prim.Native.Nat.{ℕ, _+_, _*_, _-_, _/_, _%_, _^_, _≤_, _<_}
+use Prim.Native.Nat.{_-_}
 use native.Mathlib.Omega.{arith}
-use mathlib.Core.Path.{_≡_, refl, sym, ap, _∙_}
 use Rattle.settings.proofs.Lines.{said-there, said-0}
 use borrow.Author.Needs.{needs}
 use Rattle.settings.proofs.said_in.Statement.{statement}

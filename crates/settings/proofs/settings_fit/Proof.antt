@@ -1,7 +1,6 @@
 -- `settings::settings_fit` meets its contract. Assumes nothing.
 use mathlib.Core.Path.{refl}
 use Rattle.settings.specs.Settings.{settingsFit}
-use borrow.Author.Needs.{needs}
 use Rattle.settings.proofs.settings_fit.Statement.{statement}
 use Rattle.settings.proofs.settings_fit.Tie as tie
 

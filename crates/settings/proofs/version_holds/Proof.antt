@@ -1,7 +1,6 @@
 -- `settings::version_holds` meets its contract. Assumes nothing.
 use mathlib.Core.Path.{refl}
 use Rattle.settings.specs.Settings.{holds}
-use borrow.Author.Needs.{needs}
 use Rattle.settings.proofs.version_holds.Statement.{statement}
 use Rattle.settings.proofs.version_holds.Tie as tie
 

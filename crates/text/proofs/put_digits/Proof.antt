@@ -1,10 +1,8 @@
 -- `text::put_digits` meets its contract. The loop's invariant: with the first i digits of the rest written too, all are written. Assumes nothing.
-use Prim.Native.Nat.{ℕ, _+_, _-_, _%_, _/_, _≤_, _<_}
-use native.Mathlib.Nat.{mod-lt}
+use Prim.Native.Nat.{ℕ, _-_, _≤_}
 use native.Mathlib.Omega.{arith}
 use mathlib.Core.Path.{_≡_, refl, sym, ap, _∙_}
-use mathlib.Core.List.{List}
-use lib.ListN.{length, set, length-set}
+use lib.ListN.{length, length-set}
 use Rattle.output.specs.Output.{spliced}
 use Rattle.text.specs.Decimal.{digits}
 use Rattle.text.proofs.Steps.{digit-more, digits-none}

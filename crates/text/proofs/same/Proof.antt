@@ -1,7 +1,7 @@
 -- `text::same` meets its contract. The loop's invariant: what is left decides. Assumes nothing.
-use Prim.Native.Nat.{ℕ, _+_, _-_, _≤_, _<_}
+use Prim.Native.Nat.{_-_, _≤_}
 use native.Mathlib.Omega.{arith}
-use mathlib.Core.Path.{_≡_, refl, sym, ap, _∙_}
+use mathlib.Core.Path.{_≡_, refl, sym, _∙_}
 use lib.ListN.{length, drop}
 use Rattle.text.specs.Same.{same}
 use Rattle.text.proofs.Texts.{same-lengths, same-more, same-less, same-end}

@@ -1,10 +1,10 @@
 -- `text::scan` meets its contract. The loop's invariant: k digits were read. Assumes nothing.
-use Prim.Native.Nat.{ℕ, _+_, _*_, _-_, _^_, _≤_, _<_}
+use Prim.Native.Nat.{_+_, _*_, _-_, _^_, _<_}
 use native.Mathlib.Omega.{arith}
 use mathlib.Core.Bool.{true}
-use mathlib.Core.Path.{_≡_, refl, sym, ap, _∙_}
+use mathlib.Core.Path.{_≡_, sym, _∙_}
 use borrow.Author.Tests.{not-true, not-false}
-use lib.ListN.{length, getD}
+use lib.ListN.{getD}
 use Rattle.text.specs.Decimal.{isDigit}
 use Rattle.text.proofs.Steps.{Scanning, scanning-start, scanning-more, found-end, found-other, found-ten, digit-low, digit-fits}
 use borrow.Author.Needs.{needs}

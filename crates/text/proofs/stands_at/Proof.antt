@@ -1,8 +1,7 @@
 -- `text::stands_at` meets its contract. Assumes nothing.
 use Prim.Native.Nat.{ℕ, _+_, _-_}
 use native.Mathlib.Omega.{arith}
-use mathlib.Core.Path.{_≡_, refl, sym, ap, _∙_}
-use mathlib.Core.List.{List}
+use mathlib.Core.Path.{_≡_, sym, ap, _∙_}
 use lib.ListN.{length, take, drop, length-take, length-drop}
 use Rattle.output.specs.Output.{part}
 use Rattle.text.specs.Same.{same}

@@ -1,7 +1,7 @@
 -- `theora_c::return_session` meets its contract. Assumes nothing.
 use borrow.Author.Needs.{needs}
 use mathlib.Core.Path.{ap, _∙_}
-use Rattle.theora_c.specs.Face.{gives}
+use Rattle.session_list.specs.List.{gives}
 use Rattle.theora_c.proofs.Calls.{with-flag, session-accepted, session-refused}
 use Rattle.theora_c.proofs.return_session.Statement.{statement}
 use Rattle.theora_c.proofs.return_session.Tie as tie

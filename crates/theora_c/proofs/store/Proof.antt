@@ -1,7 +1,7 @@
 -- `theora_c::store` meets its contract. Assumes nothing.
 use mathlib.Core.Path.{ap}
 use borrow.Author.Needs.{needs}
-use Rattle.theora_c.specs.Face.{gives}
+use Rattle.session_list.specs.List.{gives}
 use Rattle.theora_c.proofs.store.Statement.{statement}
 use Rattle.theora_c.proofs.store.Tie as tie
 

@@ -6,7 +6,7 @@ use native.Mathlib.Numerals.{add-one}
 use mathlib.Core.Path.{_≡_, refl, sym, ap, _∙_}
 use lib.ListN.{length, getD, take, length-set}
 use lib.Seq.{take-all, take-suc, take-suc-set}
-use Rattle.theora_c.specs.Face.{gives}
+use Rattle.session_list.specs.List.{gives}
 use Rattle.theora_c.proofs.widen.Statement.{statement}
 use Rattle.theora_c.proofs.widen.Tie as tie
 

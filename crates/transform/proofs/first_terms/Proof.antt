@@ -8,7 +8,7 @@ use Rattle.numeric.specs.Cut.{mod16, cut}
 use Rattle.numeric.proofs.Known.{Known, k-wide, ask-wide, back, k-add, k-sub, ask-add, ask-sub}
 use Rattle.transform.specs.declared.Line.{Line}
 use Rattle.transform.specs.Line as L
-use Rattle.transform.specs.Line.{C2, C6, times, timesC4, firstTerms}
+use Rattle.transform.specs.Line.{C2, C6, upperProduct, timesC4, firstTerms}
 use Rattle.transform.proofs.Low16.{add-same, sub-same, low}
 use Rattle.transform.proofs.first_terms.Statement.{statement}
 use Rattle.transform.proofs.first_terms.Tie as tie
@@ -50,14 +50,14 @@ unfolding L.c
 C-is c =
     back w16 (c .weighted-difference .result) (c .weighted-difference .ok)
     ∙ c .weighted-difference .ensures
-    ∙ ap₂ (λ (u v : ℤ). cut (times C6 u -ℤ times C2 v)) (x2 (c .before .before .before)) (x6 (c .before .before .before))
+    ∙ ap₂ (λ (u v : ℤ). cut (upperProduct C6 u -ℤ upperProduct C2 v)) (x2 (c .before .before .before)) (x6 (c .before .before .before))
 
 D-is : (c : tie.After-weighted-sum) → toZ w16 (ofZ w16 (c .weighted-sum .result)) ≡ cut (L.d (l (c .before .before .before .before)))
 unfolding L.d
 D-is c =
     back w16 (c .weighted-sum .result) (c .weighted-sum .ok)
     ∙ c .weighted-sum .ensures
-    ∙ ap₂ (λ (u v : ℤ). cut (times C2 u +ℤ times C6 v)) (x2 (c .before .before .before .before)) (x6 (c .before .before .before .before))
+    ∙ ap₂ (λ (u v : ℤ). cut (upperProduct C2 u +ℤ upperProduct C6 v)) (x2 (c .before .before .before .before)) (x6 (c .before .before .before .before))
 
 -- and their low 16 bits
 module _ (c : tie.After-weighted-sum) where

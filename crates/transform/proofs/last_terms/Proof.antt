@@ -8,7 +8,7 @@ use Rattle.numeric.specs.Cut.{mod16, cut}
 use Rattle.numeric.proofs.Known.{back}
 use Rattle.transform.specs.declared.Line.{Line}
 use Rattle.transform.specs.Line as L
-use Rattle.transform.specs.Line.{C1, C3, C4, C5, C7, times, timesC4, lastTerms}
+use Rattle.transform.specs.Line.{C1, C3, C4, C5, C7, upperProduct, timesC4, lastTerms}
 use Rattle.transform.proofs.Low16.{add-same, sub-same, low}
 use Rattle.transform.proofs.last_terms.Statement.{statement}
 use Rattle.transform.proofs.last_terms.Tie as tie
@@ -36,7 +36,7 @@ e c =
     low _ _
     (back w16 (c .weighted-difference .result) (c .weighted-difference .ok)
     ∙ c .weighted-difference .ensures
-    ∙ ap₂ (λ (u v : ℤ). cut (times C7 u -ℤ times C1 v)) (x1 (c .before)) (x7 (c .before)))
+    ∙ ap₂ (λ (u v : ℤ). cut (upperProduct C7 u -ℤ upperProduct C1 v)) (x1 (c .before)) (x7 (c .before)))
 
 k : (c : tie.After-weighted-difference2) → mod16 (toZ w16 (ofZ w16 (c .weighted-difference2 .result))) ≡ mod16 (L.k (l (c .before .before)))
 unfolding L.k
@@ -44,7 +44,7 @@ k c =
     low _ _
     (back w16 (c .weighted-difference2 .result) (c .weighted-difference2 .ok)
     ∙ c .weighted-difference2 .ensures
-    ∙ ap₂ (λ (u v : ℤ). cut (times C3 u -ℤ times C5 v)) (x5 (c .before .before)) (x3 (c .before .before)))
+    ∙ ap₂ (λ (u v : ℤ). cut (upperProduct C3 u -ℤ upperProduct C5 v)) (x5 (c .before .before)) (x3 (c .before .before)))
 
 g : (c : tie.After-weighted-sum) → mod16 (toZ w16 (ofZ w16 (c .weighted-sum .result))) ≡ mod16 (L.g (l (c .before .before .before)))
 unfolding L.g
@@ -52,7 +52,7 @@ g c =
     low _ _
     (back w16 (c .weighted-sum .result) (c .weighted-sum .ok)
     ∙ c .weighted-sum .ensures
-    ∙ ap₂ (λ (u v : ℤ). cut (times C5 u +ℤ times C3 v)) (x5 (c .before .before .before)) (x3 (c .before .before .before)))
+    ∙ ap₂ (λ (u v : ℤ). cut (upperProduct C5 u +ℤ upperProduct C3 v)) (x5 (c .before .before .before)) (x3 (c .before .before .before)))
 
 h : (c : tie.After-weighted-sum2) → mod16 (toZ w16 (ofZ w16 (c .weighted-sum2 .result))) ≡ mod16 (L.h (l (c .before .before .before .before)))
 unfolding L.h
@@ -60,26 +60,26 @@ h c =
     low _ _
     (back w16 (c .weighted-sum2 .result) (c .weighted-sum2 .ok)
     ∙ c .weighted-sum2 .ensures
-    ∙ ap₂ (λ (u v : ℤ). cut (times C1 u +ℤ times C7 v)) (x1 (c .before .before .before .before)) (x7 (c .before .before .before .before)))
+    ∙ ap₂ (λ (u v : ℤ). cut (upperProduct C1 u +ℤ upperProduct C7 v)) (x1 (c .before .before .before .before)) (x7 (c .before .before .before .before)))
 
 -- the two products
-K4 : (c : tie.After-times) → toZ w16 (ofZ w16 (c .times .result)) ≡ L.K (l (c .before .before .before .before .before .before))
+K4 : (c : tie.After-upper-product) → toZ w16 (ofZ w16 (c .upper-product .result)) ≡ L.K (l (c .before .before .before .before .before .before))
 unfolding L.K timesC4
 K4 c =
     let m = l (c .before .before .before .before .before .before) in
     let d = c .before .difference in
-    back w16 (c .times .result) (c .times .ok)
-    ∙ c .times .ensures
-    ∙ ap (times C4) (back w16 (d .result) (d .ok) ∙ d .ensures ∙ sub-same _ _ (L.e m) (L.k m) (e (c .before .before .before .before .before)) (k (c .before .before .before .before)))
+    back w16 (c .upper-product .result) (c .upper-product .ok)
+    ∙ c .upper-product .ensures
+    ∙ ap (upperProduct C4) (back w16 (d .result) (d .ok) ∙ d .ensures ∙ sub-same _ _ (L.e m) (L.k m) (e (c .before .before .before .before .before)) (k (c .before .before .before .before)))
 
-G4 : (c : tie.After-times2) → toZ w16 (ofZ w16 (c .times2 .result)) ≡ L.G (l (c .before .before .before .before .before .before .before .before))
+G4 : (c : tie.After-upper-product2) → toZ w16 (ofZ w16 (c .upper-product2 .result)) ≡ L.G (l (c .before .before .before .before .before .before .before .before))
 unfolding L.G timesC4
 G4 c =
     let m = l (c .before .before .before .before .before .before .before .before) in
     let d = c .before .difference2 in
-    back w16 (c .times2 .result) (c .times2 .ok)
-    ∙ c .times2 .ensures
-    ∙ ap (times C4) (back w16 (d .result) (d .ok) ∙ d .ensures ∙ sub-same _ _ (L.h m) (L.g m) (h (c .before .before .before .before)) (g (c .before .before .before .before .before)))
+    back w16 (c .upper-product2 .result) (c .upper-product2 .ok)
+    ∙ c .upper-product2 .ensures
+    ∙ ap (upperProduct C4) (back w16 (d .result) (d .ok) ∙ d .ensures ∙ sub-same _ _ (L.h m) (L.g m) (h (c .before .before .before .before)) (g (c .before .before .before .before .before)))
 
 weighted-difference-requires : tie.Need-weighted-difference-requires
 weighted-difference-requires c κs = search needs
@@ -96,14 +96,14 @@ weighted-sum-requires-2 c κs = search needs
 difference-requires : tie.Need-difference-requires
 difference-requires c κs = search needs
 
-times-requires : tie.Need-times-requires
-times-requires c κs = search needs
+upper-product-requires : tie.Need-upper-product-requires
+upper-product-requires c κs = search needs
 
 difference-requires-2 : tie.Need-difference-requires-2
 difference-requires-2 c κs = search needs
 
-times-requires-2 : tie.Need-times-requires-2
-times-requires-2 c κs = search needs
+upper-product-requires-2 : tie.Need-upper-product-requires-2
+upper-product-requires-2 c κs = search needs
 
 sum-requires : tie.Need-sum-requires
 sum-requires c κs = search needs
@@ -143,9 +143,9 @@ last-terms-spec =
     weighted-sum-requires
     weighted-sum-requires-2
     difference-requires
-    times-requires
+    upper-product-requires
     difference-requires-2
-    times-requires-2
+    upper-product-requires-2
     sum-requires
     sum-requires-2
     difference-requires-3

@@ -1,7 +1,7 @@
 -- `y4m::look` meets its contract. Assumes nothing.
-use Prim.Native.Nat.{ℕ, _+_, _*_, _-_, _/_, _%_, _^_, _≤_, _<_}
+use Prim.Native.Nat.{_-_}
 use native.Mathlib.Omega.{arith}
-use mathlib.Core.Path.{_≡_, refl, sym, ap, _∙_}
+use mathlib.Core.Path.{sym, _∙_}
 use borrow.Author.Tests.{not-true, not-false}
 use Rattle.y4m.proofs.Looks.{begins, no-header, some-header, frames-there, left-over, not-marked, stream-found}
 use borrow.Author.Needs.{needs}

@@ -1,10 +1,7 @@
 -- `y4m::read` meets its contract. Assumes nothing.
-use Prim.Native.Nat.{ℕ, _+_, _*_, _-_, _/_, _%_, _^_, _≤_, _<_}
-use native.Mathlib.Omega.{arith}
-use mathlib.Core.Path.{_≡_, refl, sym, ap, _∙_}
+use Prim.Native.Nat.{ℕ, _-_}
+use mathlib.Core.Path.{refl, ap}
 use lib.ListN.{length}
-use Rattle.y4m.specs.Film.{Holds, asFilm}
-use Rattle.y4m.specs.declared.FilmAnswer.{FilmAnswer}
 use Rattle.y4m.specs.declared.FilmAnswer.the-variants.{Is}
 use Rattle.y4m.proofs.Looks.{other, found, film-21, film-14, film-holds, found-fits, found-some, found-there, found-short, found-room, found-left, read-answered}
 use borrow.Author.Needs.{needs}

@@ -1,8 +1,7 @@
 -- `y4m::write_stream` meets its contract. Assumes nothing.
-use Prim.Native.Nat.{ℕ, _+_, _*_, _-_, _/_, _%_, _^_, _≤_, _<_}
+use Prim.Native.Nat.{_-_}
 use native.Mathlib.Omega.{arith}
-use mathlib.Core.Path.{_≡_, refl, sym, ap, _∙_}
-use lib.ListN.{length, take}
+use mathlib.Core.Path.{refl}
 use Rattle.output.proofs.Splices.{written-nothing}
 use Rattle.y4m.proofs.Fitting.{bytes-some}
 use Rattle.y4m.proofs.HeaderLaws.{line-room, line-taken}

@@ -1,7 +1,6 @@
 -- `y4m::frames::turn_frame` meets its contract. Assumes nothing.
-use Prim.Native.Nat.{ℕ, _+_, _*_, _-_, _/_, _%_, _^_, _≤_, _<_}
-use native.Mathlib.Omega.{arith}
-use mathlib.Core.Path.{_≡_, refl, sym, ap, _∙_}
+use Prim.Native.Nat.{_-_}
+use mathlib.Core.Path.{_∙_}
 use Rattle.y4m.proofs.Fitting.{fit}
 use Rattle.y4m.proofs.FrameLaws.{bytes-by, rows-by}
 use borrow.Author.Needs.{needs}

@@ -1,10 +1,8 @@
 -- `y4m::frames::turn_planes` meets its contract. The loop's invariant: the planes before p are written. Assumes nothing.
-use Prim.Native.Nat.{ℕ, _+_, _*_, _-_, _/_, _%_, _^_, _≤_, _<_}
+use Prim.Native.Nat.{_-_, _≤_}
 use native.Mathlib.Omega.{arith}
-use mathlib.Core.Path.{_≡_, refl, sym, ap, _∙_}
-use mathlib.Core.List.{List}
-use lib.ListN.{length, take, drop}
-use Rattle.geometry.specs.declared.Plane.{Plane}
+use mathlib.Core.Path.{_≡_, refl, _∙_}
+use lib.ListN.{length}
 use Rattle.geometry.specs.Order.{inTurn}
 use Rattle.geometry.proofs.SizeLaws.{plane-of-small}
 use Rattle.output.specs.Output.{spliced}

@@ -1,8 +1,6 @@
 -- `y4m::header::aspect` meets its contract. Assumes nothing.
-use mathlib.Core.Path.{_≡_, refl}
 use borrow.Author.Tests.{eq-eqb, ne-eqb}
 use Rattle.y4m.specs.Stream.{aspect}
-use borrow.Author.Needs.{needs}
 use Rattle.y4m.proofs.header.aspect.Statement.{statement}
 use Rattle.y4m.proofs.header.aspect.Tie as tie
 

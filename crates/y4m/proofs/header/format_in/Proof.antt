@@ -1,6 +1,5 @@
 -- `y4m::header::format_in` meets its contract. Assumes nothing.
 use Rattle.y4m.proofs.HeaderLaws.{format-letter-0, format-letter-2, format-letter-3}
-use borrow.Author.Needs.{needs}
 use Rattle.y4m.proofs.header.format_in.Statement.{statement}
 use Rattle.y4m.proofs.header.format_in.Tie as tie
 

@@ -1,12 +1,7 @@
 -- `y4m::header::header_end` meets its contract. Assumes nothing.
-use Prim.Native.Nat.{ℕ, _+_, _*_, _-_, _/_, _%_, _^_, _≤_, _<_}
+use Prim.Native.Nat.{_-_}
 use native.Mathlib.Omega.{arith}
-use mathlib.Core.Path.{_≡_, refl, sym, ap, _∙_}
-use mathlib.Core.Bool.{Bool, true, false}
-use mathlib.Core.List.{List}
-use lib.ListN.{length, take}
-use Rattle.text.specs.Same.{same}
-use Rattle.y4m.specs.Stream.{headerText}
+use mathlib.Core.Path.{refl, sym, _∙_}
 use Rattle.y4m.proofs.HeaderLaws.{line-room, end-not-fit, end-there, end-not-there}
 use borrow.Author.Needs.{needs}
 use Rattle.y4m.proofs.header.header_end.Statement.{statement}

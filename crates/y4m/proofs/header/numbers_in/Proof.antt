@@ -1,7 +1,6 @@
 -- `y4m::header::numbers_in` meets its contract. Assumes nothing.
-use Prim.Native.Nat.{ℕ, _+_, _*_, _-_, _/_, _%_, _^_, _≤_, _<_}
+use Prim.Native.Nat.{_-_}
 use native.Mathlib.Omega.{arith}
-use mathlib.Core.Path.{_≡_, refl, sym, ap, _∙_}
 use Rattle.y4m.proofs.HeaderLaws.{numbers-found}
 use borrow.Author.Needs.{needs}
 use Rattle.y4m.proofs.header.numbers_in.Statement.{statement}

@@ -1,7 +1,6 @@
 -- `y4m::header::numbers_of` meets its contract. Assumes nothing.
-use Prim.Native.Nat.{ℕ, _+_, _*_, _-_, _/_, _%_, _^_, _≤_, _<_}
+use Prim.Native.Nat.{_*_, _-_}
 use native.Mathlib.Omega.{arith}
-use mathlib.Core.Path.{_≡_, refl, sym, ap, _∙_}
 use Rattle.headers.proofs.Fitting.{fits-macro-blocks}
 use Rattle.y4m.specs.Stream.{numbersOf}
 use borrow.Author.Needs.{needs}

@@ -1,10 +1,8 @@
 -- `y4m::header::put_header` meets its contract. Assumes nothing.
-use Prim.Native.Nat.{ℕ, _+_, _*_, _-_, _/_, _%_, _^_, _≤_, _<_}
+use Prim.Native.Nat.{_-_}
 use native.Mathlib.Omega.{arith}
-use mathlib.Core.Path.{_≡_, refl, sym, ap, _∙_}
-use lib.ListN.{length}
 use Rattle.y4m.proofs.Fitting.{fit}
-use Rattle.y4m.proofs.HeaderLaws.{size-length, rate-length, aspect-length, format-length, header-written}
+use Rattle.y4m.proofs.HeaderLaws.{size-length, rate-length, aspect-length, header-written}
 use borrow.Author.Needs.{needs}
 use Rattle.y4m.proofs.header.put_header.Statement.{statement}
 use Rattle.y4m.proofs.header.put_header.Tie as tie

@@ -1,8 +1,6 @@
 -- `y4m::header::put_two` meets its contract. Assumes nothing.
-use Prim.Native.Nat.{ℕ, _+_, _*_, _-_, _/_, _%_, _^_, _≤_, _<_}
+use Prim.Native.Nat.{_-_}
 use native.Mathlib.Omega.{arith}
-use mathlib.Core.Path.{_≡_, refl, sym, ap, _∙_}
-use lib.ListN.{length}
 use Rattle.text.proofs.Decimals.{decimal-length}
 use Rattle.y4m.proofs.HeaderLaws.{two-written}
 use borrow.Author.Needs.{needs}

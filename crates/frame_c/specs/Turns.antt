@@ -4,10 +4,10 @@ use mathlib.Core.Path.{_≡_}
 use mathlib.Core.List.{List, [], _∷_, map}
 use lib.ListN.{length}
 use Rattle.ways.specs.Ways.{firstWay}
-use Rattle.decoding.specs.Answer.{State}
 use Rattle.theora.specs.Call.{Call, byRules}
 use Rattle.theora.specs.Demand.{Turn, turns}
-use Rattle.theora_c.specs.Face.{sessionOf, stateOf, doneReturned, frameCall}
+use Rattle.session_list.specs.List.{sessionOf}
+use Rattle.frame_c.specs.Face.{stateOf, doneReturned, frameCall}
 
 -- what a call brings: what the rules speak of, and the list for its answer
 pub record FaceCall : Type 0 where

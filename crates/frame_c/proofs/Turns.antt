@@ -15,9 +15,10 @@ use Rattle.decoding.specs.Answer.{State, Done}
 use Rattle.theora.specs.Call.{Call, outcomeOf, byRules}
 use Rattle.theora.specs.Demand.{turn, turns}
 use Rattle.theora.proofs.KeyFrames.{after-session}
-use Rattle.theora_c.specs.Face.{sessionOf, listsNumber, referenceNumber, verdictReturned, FrameReturned, stateOf, doneReturned, frameCall}
-use Rattle.theora_c.specs.Turns.{FaceCall, AnswersFit, SameTurns, FaceTurns}
-use Rattle.theora_c.proofs.Calls.{session-handed}
+use Rattle.session_list.specs.List.{sessionOf, listsNumber}
+use Rattle.frame_c.specs.Face.{referenceNumber, verdictReturned, FrameReturned, stateOf, doneReturned, frameCall}
+use Rattle.frame_c.specs.Turns.{FaceCall, AnswersFit, SameTurns, FaceTurns}
+use Rattle.frame_c.proofs.Calls.{session-handed}
 
 -- a frame call on lists of the published lengths does what the rules say
 pub frame-rules : (session old golden previous : List ℕ) (c : Call) → length session ≡ 19 → length old ≡ 8 → frameCall session old golden previous c ≡ doneReturned session (byRules firstWay (stateOf session golden previous) c)

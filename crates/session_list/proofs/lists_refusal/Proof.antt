@@ -1,9 +1,9 @@
--- `theora_c::lists_refusal` meets its contract. Assumes nothing.
+-- `session_list::lists_refusal` meets its contract. Assumes nothing.
 use borrow.Author.Needs.{needs}
 use mathlib.Core.Path.{sym, _∙_}
-use Rattle.theora_c.proofs.Calls.{lists-length, lists-none, lists-room, lists-fields}
-use Rattle.theora_c.proofs.lists_refusal.Statement.{statement}
-use Rattle.theora_c.proofs.lists_refusal.Tie as tie
+use Rattle.session_list.proofs.Lists.{lists-length, lists-none, lists-room, lists-fields}
+use Rattle.session_list.proofs.lists_refusal.Statement.{statement}
+use Rattle.session_list.proofs.lists_refusal.Tie as tie
 
 returns : tie.Need-returns
 returns c = let a = c .before .before .args in lists-length (a .wanted) (a .session .now) (a .room) (c .if1 .taken)

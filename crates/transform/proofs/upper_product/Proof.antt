@@ -1,4 +1,4 @@
--- `transform::times` meets its contract. Assumes nothing.
+-- `transform::upper_product` meets its contract. Assumes nothing.
 use borrow.Author.Needs.{needs}
 use mathlib.Core.Path.{ap₂, _∙_}
 use Prim.Native.Nat.{ℕ, suc, _-_}
@@ -9,10 +9,10 @@ use mir.Val.{SFits}
 use Rattle.numeric.specs.Divide.{floorShift}
 use Rattle.numeric.proofs.Magnitude.{size, size-mul, sub-less}
 use Rattle.numeric.proofs.Known.{Known, k-wide, ask-wide, k-nat, k-lit, k-made, k-is, k-add, ask-add, ask-sub, k-mul, ask-mul, k-shr, k-cast, ask-cast, k-fit, ask-fit}
-use Rattle.transform.specs.Line.{times}
+use Rattle.transform.specs.Line.{upperProduct}
 use Rattle.transform.proofs.Low16.{less-65536, half-fits}
-use Rattle.transform.proofs.times.Statement.{statement}
-use Rattle.transform.proofs.times.Tie as tie
+use Rattle.transform.proofs.upper_product.Statement.{statement}
+use Rattle.transform.proofs.upper_product.Tie as tie
 
 abbrev w : (c : tie.Start) → Known w32 (c .args .x) 32768
 w c = k-wide (c .fits .x)
@@ -58,7 +58,7 @@ cast-result-2 : tie.Need-cast-result-2
 cast-result-2 c = ask-cast w16 (half c) tt
 
 returns : tie.Need-returns
-unfolding times
+unfolding upperProduct
 returns c = k-cast w16 (half c) tt .reads
 
 cast-result-3 : tie.Need-cast-result-3
@@ -77,11 +77,11 @@ cast-result-4 : tie.Need-cast-result-4
 cast-result-4 c = ask-fit w16 (whole c) (fits c)
 
 returns-2 : tie.Need-returns-2
-unfolding times
+unfolding upperProduct
 returns-2 c = k-fit w16 (whole c) (fits c) .reads
 
-pub times-spec : {M : Type 1} → statement M
-times-spec =
+pub upper-product-spec : {M : Type 1} → statement M
+upper-product-spec =
     tie.close
     (tie.spec
     cast-w

@@ -1,10 +1,11 @@
--- `theora_c::wedgepetal_frame` meets its contract. Assumes nothing.
+-- `frame_c::wedgepetal_frame` meets its contract. Assumes nothing.
 use borrow.Author.Needs.{needs}
 use mathlib.Core.Path.{sym, _∙_}
 use lib.ListN.{length}
-use Rattle.theora_c.proofs.Calls.{lengths, frame-made, frame-unmade}
-use Rattle.theora_c.proofs.wedgepetal_frame.Statement.{statement}
-use Rattle.theora_c.proofs.wedgepetal_frame.Tie as tie
+use Rattle.session_list.proofs.Lists.{lengths}
+use Rattle.frame_c.proofs.Calls.{frame-made, frame-unmade}
+use Rattle.frame_c.proofs.wedgepetal_frame.Statement.{statement}
+use Rattle.frame_c.proofs.wedgepetal_frame.Tie as tie
 
 lists-refusal-requires : tie.Need-lists-refusal-requires
 lists-refusal-requires c κs = search needs
