@@ -1,8 +1,7 @@
 /*
  * Wedgepetal: a proved Theora decoder. The face for C and other languages.
- * The built library for x86-64 Linux is dist/x86_64-linux/libwedgepetal.a. It
- * allocates nothing and keeps nothing from call to call. A call needs at most
- * 48 KiB of stack (measured, not proved: 36 kB for a frame).
+ * `make install` installs it: wedgepetal(3), pkg-config wedgepetal. examples/
+ * has programs.
  *
  * A recording's first packet is its identification header, the second its
  * comment header (which no call reads), the third its setup header. All others
@@ -17,9 +16,25 @@
  *      wedgepetal_frame_in, at the end, is the same with fewer arguments.
  *
  * Every call may be given any numbers and any contents. A list is a pointer
- * and the number of its elements; the pointer must be valid for that many
- * elements (and not null, even for an empty list), and a list that is written
- * must not overlap another list of the same call. Nothing else is asked.
+ * and the number of its elements. What is asked of lists, and of nothing else:
+ *
+ *   - The pointer is valid for that many elements, and not null, even for an
+ *     empty list.
+ *   - It is aligned as its type must be in C: bytes need nothing, uint64_t a
+ *     multiple of 8. malloc gives such memory.
+ *   - A list that is written overlaps no other list of the same call. Lists that
+ *     are only read may overlap: golden and previous may be one buffer. If this
+ *     is broken, nothing that is proved holds for the call, and it may write
+ *     anywhere. Seen were wrong frames without a word (new_frame is previous) and
+ *     memory faults (two slices of work memory overlap).
+ *
+ * The library allocates nothing, keeps nothing from call to call, has no data of
+ * its own that it writes, and calls only memcpy and memset. So calls may run in
+ * any number of threads at once, as long as no list that one call writes is a
+ * list of another call that runs meanwhile; sessions, table memory and planes
+ * that are only read may be shared. A call may be interrupted by a signal, and
+ * made in its handler. It needs at most 48 KiB of stack (measured, not proved:
+ * 36 kB for a frame; tests/c/stack.c), which a small thread must have.
  *
  * Each call returns 0 if it is accepted, else the number of its refusal. Where
  * several numbers apply, they are found in this order: 1 for the session's list,
@@ -72,6 +87,12 @@
 #ifdef __cplusplus
 extern "C" {
 #endif
+
+/* The version of this header. wedgepetal_version gives the library's. */
+#define WEDGEPETAL_VERSION_MAJOR 0
+#define WEDGEPETAL_VERSION_MINOR 1
+#define WEDGEPETAL_VERSION_PATCH 0
+#define WEDGEPETAL_VERSION "0.1.0"
 
 /* The numbers of refusals. */
 enum {
@@ -188,6 +209,17 @@ enum {
 /* The kinds of a frame: coded by itself, coded as a change of other frames, the
  * previous frame again (an empty packet). */
 enum { WEDGEPETAL_INTRA, WEDGEPETAL_INTER, WEDGEPETAL_REPEAT };
+
+/* ---- Words. These two calls are in the library that `make` builds, static or
+ * shared, beside the proved objects of dist/, which are there unchanged. */
+
+/* The version of the library that runs, as WEDGEPETAL_VERSION is the header's. It
+ * has the same major number if they fit. */
+const char *wedgepetal_version(void);
+
+/* What the number of a refusal means, in English; for 0, and for a number that
+ * no call answers, it says so. The text lives as long as the library. */
+const char *wedgepetal_refusal_text(uint32_t number);
 
 /* ---- Headers and sizes. How many numbers a list must have stands behind it. */
 

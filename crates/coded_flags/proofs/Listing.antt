@@ -3,12 +3,13 @@ use Prim.Native.Nat.{ℕ, zero, suc, _+_, _*_, _/_, _≤_, _<_}
 use native.Mathlib.Omega.{arith}
 use native.Mathlib.Nat.{le-of-suc-le-suc, not-suc-le-zero}
 use native.Mathlib.Numerals.{add-one}
-use mathlib.Core.Path.{_≡_, refl, sym, ap, _∙_}
+use mathlib.Core.Path.{_≡_, refl, sym, ap, _∙_, subst}
 use mathlib.Core.List.{List, [], _∷_, _++_, map, append-nil, append-assoc}
-use mathlib.Core.Bool.{Bool, true, false}
+use mathlib.Core.Bool.{Bool, true, false, not, _&&_}
 use lib.Dec.{eqb}
 use lib.ListN.{length, getD, take, drop, set, replicate, length-map, length-set, take-append-drop, drop-of-length-le}
 use lib.Seq.{take-suc-set, drop-set-lt, drop-drop, length-take-le}
+use borrow.Author.Tests.{eqb-true, eqb-false, not-true}
 use Rattle.bitstream.specs.Reading.{choose}
 use Rattle.geometry.specs.declared.PixelFormat.{PixelFormat}
 use Rattle.geometry.specs.declared.Plane.{Plane}
@@ -19,12 +20,13 @@ use Rattle.geometry.proofs.SizeLaws.{before-luma, before-next, before-to}
 use Rattle.geometry.specs.Raster.{rasterNumber}
 use Rattle.geometry.proofs.RasterLaws.{raster-number-below}
 use Rattle.block_record.specs.Record.{uncoded, nowCoded}
-use Rattle.block_record.specs.Packed.{packed, predictionNumber}
+use Rattle.block_record.specs.Packed.{packed}
 use Rattle.block_record.proofs.Laws.{packed-uncoded}
 use Rattle.coded_flags.specs.Flags.{ones}
 use Rattle.coded_flags.specs.Coded.{order, flagged, codedBlocks, codedLuma, setAt, codedRecords}
 use Rattle.coded_flags.specs.Answer.{listedOf}
-use Rattle.bitstream.proofs.ListLaws.{drop-next}
+use Rattle.coded_flags.specs.Listing.{Listing, Goes, NoneSet}
+use Rattle.bitstream.proofs.ListLaws.{drop-next, if-other}
 
 -- ---- lists
 map-at : {A : Type 0} (g : A → ℕ) (l : List A) (i : ℕ) (d : A) → i < length l → getD (map g l) i 0 ≡ g (getD l i d)
@@ -81,13 +83,6 @@ flagged-done : (bs flags : List ℕ) (i : ℕ) → length bs ≤ i → flagged (
 unfolding flagged
 flagged-done bs flags i h = rw (drop-of-length-le bs h)
 
--- what the loop over the blocks keeps
-pub record Listing (bs flags records₀ coded₀ records coded : List ℕ) (count i : ℕ) : Type 0 where
-  pub fewer : count ≤ i
-  pub numbers : flagged bs flags ≡ take count coded ++ flagged (drop i bs) (drop i flags)
-  pub behind : drop count coded ≡ drop count coded₀
-  pub marks : setAt (packed nowCoded) (flagged bs flags) records₀ ≡ setAt (packed nowCoded) (flagged (drop i bs) (drop i flags)) records
-
 pub listing-start : (bs flags records coded : List ℕ) → Listing bs flags records coded records coded 0 0
 listing-start bs flags records coded = record { fewer = omega arith; numbers = refl; behind = refl; marks = refl }
 
@@ -141,6 +136,58 @@ pub listing-by : (bs flags records₀ coded₀ records coded : List ℕ) (count 
     → (records′ coded′ : List ℕ) (count′ : ℕ) → let t = eqb (getD flags i 0) 1 in let n = getD bs i 0 in
     count′ ≡ choose t (count + 1) count → records′ ≡ choose t (set records n (packed nowCoded)) records → coded′ ≡ choose t (set coded count n) coded → Listing bs flags records₀ coded₀ records′ coded′ count′ (i + 1)
 listing-by bs flags records₀ coded₀ records coded count i l hb hf hc records′ coded′ count′ en er ec = rw (en, er, ec) (listing-on bs flags records₀ coded₀ records coded count i l hb hf hc)
+
+-- ---- from some blocks done to more
+module _ (bs flags records coded : List ℕ) (count i : ℕ) where
+  pub goes-on : (records′ coded′ : List ℕ) (count′ i′ : ℕ) → Goes bs flags records coded count i records′ coded′ count′ i′ → i′ < length bs → i′ < length flags → count′ < length coded′
+      → (records″ coded″ : List ℕ) (count″ : ℕ) → let t = eqb (getD flags i′ 0) 1 in let n = getD bs i′ 0 in
+      count″ ≡ choose t (count′ + 1) count′ → records″ ≡ choose t (set records′ n (packed nowCoded)) records′ → coded″ ≡ choose t (set coded′ count′ n) coded′
+      → Goes bs flags records coded count i records″ coded″ count″ (i′ + 1)
+  goes-on records′ coded′ count′ i′ g hb hf hc records″ coded″ count″ en er ec =
+      λ records₀ coded₀ l. listing-by bs flags records₀ coded₀ records′ coded′ count′ i′ (g records₀ coded₀ l) hb hf hc records″ coded″ count″ en er ec
+
+  pub goes-none : Goes bs flags records coded count i records coded count (i + 0)
+  goes-none = let z : i ≡ i + 0 = omega arith in λ records₀ coded₀ g. subst (λ (k : ℕ). Listing bs flags records₀ coded₀ records coded count k) z g
+
+  -- blocks of which none is flagged
+  pub goes-over : (n : ℕ) → i + n ≤ length bs → i + n ≤ length flags → i + n ≤ length coded → count ≤ i → NoneSet flags i (i + n) → Goes bs flags records coded count i records coded count (i + n)
+  unfolding NoneSet
+  goes-over zero hb hf hc l o = goes-none
+  goes-over (suc n) hb hf hc l o =
+      let h = o (i + n) (omega arith) (omega arith) in
+      let z : i + n + 1 ≡ i + suc n = omega arith in
+      let r = goes-on records coded count (i + n) (goes-over n (omega arith) (omega arith) (omega arith) l (λ j a b. o j a (omega arith))) (omega arith) (omega arith) (omega arith) records coded count
+      (if-other (getD flags (i + n) 0) 1 _ _ h) (if-other (getD flags (i + n) 0) 1 _ _ h) (if-other (getD flags (i + n) 0) 1 _ _ h) in
+      λ records₀ coded₀ g. subst (λ (k : ℕ). Listing bs flags records₀ coded₀ records coded count k) z (r records₀ coded₀ g)
+
+-- one block more counts for at most one
+pub counts-on : (a b count count′ i : ℕ) → count ≤ i → count′ ≡ choose (eqb a b) (count + 1) count → count′ ≤ i + 1
+counts-on a b count count′ i l e = rw e (go (eqb a b))
+  where
+    go : (t : Bool) → choose t (count + 1) count ≤ i + 1
+    go true = omega arith
+    go false = omega arith
+
+-- ---- a test of several flags
+module _ (flags : List ℕ) (first : ℕ) where
+  pub none-first : NoneSet flags first first
+  unfolding NoneSet
+  none-first i a b = absurd (omega arith)
+
+  pub none-next : (end : ℕ) (t : Bool) → (t ≡ true → NoneSet flags first end) → (t && not (eqb (getD flags end 0) 1)) ≡ true → NoneSet flags first (end + 1)
+  unfolding NoneSet
+  none-next end t k g i a b = go (eqb i end) refl
+    where
+      both : (s t : Bool) → (s && t) ≡ true → (s ≡ true) × (t ≡ true)
+      both true t e = (refl, e)
+      both false t e = let z : _≡_ {A = ℕ} 0 1 = cc in absurd (omega arith)
+
+      less : (x n : ℕ) → x < n + 1 → (x ≡ n → ⊥) → x < n
+      less x n l o = omega (arith, l, o)
+
+      go : (d : Bool) → eqb i end ≡ d → getD flags i 0 ≡ 1 → ⊥
+      go true d = subst (λ (j : ℕ). getD flags j 0 ≡ 1 → ⊥) (sym (eqb-true i end d)) (eqb-false (getD flags end 0) 1 (not-true (eqb (getD flags end 0) 1) (both t (not (eqb (getD flags end 0) 1)) g .1)))
+      go false d = k (both t (not (eqb (getD flags end 0) 1)) g .0) i a (less i end b (eqb-false i end d))
 
 -- what list_coded answers
 pub listed-by : (f : PixelFormat) (w h : ℕ) (flags : List ℕ) (count luma : ℕ) → count ≡ length (codedBlocks f w h flags) → luma ≡ codedLuma f w h flags

@@ -1,3 +1,4 @@
 pub mod Flags
 pub mod Coded
 pub mod Answer
+pub mod Listing

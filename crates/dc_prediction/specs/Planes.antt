@@ -1,5 +1,5 @@
 -- DC prediction of a frame: the blocks of each plane in raster order, by their raster numbers.
-use mathlib.Core.Bool.{Bool, true, cond, _&&_}
+use mathlib.Core.Bool.{Bool, true, false, cond, _&&_}
 use mathlib.Core.List.{List, [], _∷_}
 use mathlib.Core.Path.{_≡_}
 use Prim.Native.Nat.{ℕ, _+_, _-_, _*_, _≤_, _<_}
@@ -9,6 +9,7 @@ use lib.ListN.{getD, set}
 use Rattle.numeric.specs.Cut.{cut}
 use Rattle.block_record.specs.declared.BlockRecord.{BlockRecord}
 use Rattle.block_record.specs.Record.{referenceOf}
+use Rattle.block_record.specs.Packed.{unpacked}
 use Rattle.ways.specs.Loops.{upTo}
 use Rattle.dc_prediction.specs.declared.LastDc.{LastDc}
 use Rattle.dc_prediction.specs.Neighbours.{recordAt, neighbourBack, predicted}
@@ -75,3 +76,7 @@ pub record RowFits (start across : ℕ) (below : Bool) (n m : ℕ) : Type 0 wher
   pub in-dc : start + across ≤ n
   pub in-records : start + across ≤ m
   pub under : below ≡ true → across ≤ start
+
+-- of the blocks of a row, by their packed records, the first n are not coded
+unfoldable pub NoneCoded : List ℕ → ℕ → ℕ → Type 0
+NoneCoded ns start n = (x : ℕ) → x < n → unpacked (getD ns (start + x) 0) .coded ≡ false

@@ -21,7 +21,7 @@ fn reference_number(kind: Kind, before: u64) -> u64
 }
 
 // What the answer of a frame returns, and what it leaves in the lists of the session and of the answer.
-fn return_frame(answer: FrameAnswer, session: &mut [u64], list: &mut [u64]) -> u32
+pub fn return_frame(answer: FrameAnswer, session: &mut [u64], list: &mut [u64]) -> u32
     requires { ⌜ (length (now session) ≡ 19) × (length (now list) ≡ 8) ⌝ }
     ensures { λ r. ⌜ answers r (now (session .exit)) (now (list .exit)) ≡ verdictReturned (now (session .entry)) (answer .header) (answer .session) (answer .verdict) ⌝ }
 {

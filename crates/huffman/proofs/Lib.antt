@@ -1,9 +1,9 @@
--- What other crates cite: Trees, Codes, Nodes, Answers. Two, Grows and Lookups have what the functions' proofs need, Examples worked examples. Assumes nothing.
+-- What other crates cite: Trees, Codes, Nodes, Spreads, Answers. Two and Grows have what the functions' proofs need, Examples worked examples. Assumes nothing.
 pub mod Trees
 pub mod Two
 pub mod Grows
 pub mod Nodes
 pub mod Codes
-pub mod Lookups
+pub mod Spreads
 pub mod Answers
 pub mod Examples

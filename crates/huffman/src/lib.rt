@@ -3,13 +3,13 @@ use bitstream::End;
 use bitstream::Field;
 ghost use mathlib.Core.Path.{_≡_};
 ghost use Prim.Native.Nat.{ℕ, _+_, _-_, _*_, _/_, _%_, _<_, _≤_, _^_};
-ghost use lib.ListN.{length, getD, take};
+ghost use lib.ListN.{length, getD, take, replicate};
 ghost use Rattle.bitstream.specs.Bits.{bits, number, longest};
 ghost use Rattle.bitstream.specs.Answer.{asField, asEnd};
 ghost use Rattle.huffman.specs.Tree.{tree, huffmanTree};
 ghost use Rattle.huffman.specs.Code.{tokenCode, treeOf, Formed};
 ghost use Rattle.huffman.specs.Answer.{nodesAfter, Told, Stored, branch};
-ghost use Rattle.huffman.specs.Lookup.{stepped, Lookup, Begun};
+ghost use Rattle.huffman.specs.Lookup.{Values, spread, lookupOf};
 
 // The byte at an index, 0 past the end.
 fn byte_or_zero(packet: &[u8], i: usize) -> u8
@@ -130,44 +130,17 @@ fn next_node(node: usize, value: u8, b: u8) -> usize
     value as usize - 128
 }
 
-// One bit more for an entry of a lookup: 64 times the number of bits taken, and the node where they lead.
-fn step(nodes: &[u8], from: u16, b: u8) -> u16
-    requires { ⌜ (length (now nodes) ≡ 64) × (from ≤ 60000) ⌝ }
-    ensures { λ r. ⌜ (r ≡ stepped (now (nodes .entry)) from b) × (r ≤ from + 200) ⌝ }
-{
-    let node = (from % 64) as usize;
-    let value = nodes[node];
-    if value < 128 {
-        return from;
-    }
-    (from / 64 + 1) * 64 + next_node(node, value, b) as u16
-}
-
-// Fills the lookup of a tree. The entry m has the bits of m behind its first 1, so 2 m and 2 m + 1 have one bit more.
-pub fn fill_lookup(nodes: &[u8], lookup: &mut [u16])
-    requires { ⌜ (length (now nodes) ≡ 64) × (length (now lookup) ≡ 128) ⌝ }
-    ensures { λ _. ⌜ Lookup (now (nodes .entry)) (now (lookup .exit)) ⌝ }
-{
-    lookup[1] = 0;
-    let mut m = 1;
-    while m < 64 {
-        let entry = lookup[m];
-        lookup[2 * m] = step(nodes, entry, 0);
-        lookup[2 * m + 1] = step(nodes, entry, 1);
-        m += 1;
-    }
-}
-
-// The token whose code stands at the bit place `at`, by the table of nodes, from an entry of its first bits on; a code that is cut is refused by 4 at its first bit.
-// The window begins with the byte of `at` and holds the whole code, which has at most 31 bits.
-fn walk_from(packet: &[u8], at: usize, window: u64, nodes: &[u8], start: usize) -> Field
-    requires { ⌜ (length (now packet) ≤ longest) × Formed (now nodes) × Begun (now nodes) (now packet) at start × (window ≡ number (now packet) (at / 8 * 8) 64) ⌝ }
+// The token whose code stands at the bit place `at`, by the table of nodes; a code that is cut is refused by 4 at its first bit.
+// One window holds the whole code, which has at most 31 bits.
+pub fn read_code(packet: &[u8], at: usize, nodes: &[u8]) -> Field
+    requires { ⌜ (length (now packet) ≤ longest) × Formed (now nodes) ⌝ }
     ensures { λ r. ⌜ r ≡ asField (tokenCode (treeOf (now (nodes .entry))) (now (packet .entry)) at) ⌝ }
 {
     let total = packet.len() * 8;
     let first = at / 8 * 8;
-    let mut node = start % 64;
-    let mut place = at + start / 64;
+    let window = bitstream::window(packet, at);
+    let mut node = 0;
+    let mut place = at;
     let mut value = nodes[node];
     while 128 <= value {
         if total <= place {
@@ -181,24 +154,50 @@ fn walk_from(packet: &[u8], at: usize, window: u64, nodes: &[u8], start: usize) 
     Field::Got(token, place)
 }
 
-// The token whose code stands at the bit place `at`, by the table of nodes; a code that is cut is refused by 4 at its first bit.
-pub fn read_code(packet: &[u8], at: usize, nodes: &[u8]) -> Field
-    requires { ⌜ (length (now packet) ≤ longest) × Formed (now nodes) ⌝ }
-    ensures { λ r. ⌜ r ≡ asField (tokenCode (treeOf (now (nodes .entry))) (now (packet .entry)) at) ⌝ }
+// Fills a part of a lookup.
+fn fill_with(lookup: &mut [u64], entry: u64)
+    ensures { λ _. ⌜ now (lookup .exit) ≡ replicate (length (now (lookup .entry))) entry ⌝ }
 {
-    walk_from(packet, at, bitstream::window(packet, at), nodes, 0)
+    let mut i = 0;
+    while i < lookup.len() {
+        lookup[i] = entry;
+        i += 1;
+    }
 }
 
-// The same as `read_code`: the first six bits by the lookup of the tree, but for a code in the packet's last byte.
-pub fn read_code_by(packet: &[u8], at: usize, nodes: &[u8], lookup: &[u16]) -> Field
-    requires { ⌜ (length (now packet) ≤ longest) × Formed (now nodes) × Lookup (now nodes) (now lookup) ⌝ }
-    ensures { λ r. ⌜ r ≡ asField (tokenCode (treeOf (now (nodes .entry))) (now (packet .entry)) at) ⌝ }
+// The part of a lookup for the codes that lead to a node, below which `left` bits more are looked up.
+fn spread(nodes: &[u8], values: &[u64], node: usize, left: usize, lookup: &mut [u64])
+    requires { ⌜ (length (now nodes) ≡ 64) × Values (now values) × (node < 200) × (left ≤ 8) × (length (now lookup) ≡ 2 ^ left) ⌝ }
+    ensures { λ _. ⌜ now (lookup .exit) ≡ spread (now (nodes .entry)) (now (values .entry)) left node ⌝ }
 {
-    if packet.len() <= at / 8 + 1 {
-        return read_code(packet, at, nodes);
+    let at = node % 64;
+    let value = nodes[at];
+    if value < 128 {
+        let of_token = values[(value % 32) as usize];
+        let taken = 8 - left;
+        fill_with(lookup, of_token + taken as u64 * 0x1000000000);
+        return;
     }
-    let window = bitstream::window(packet, at);
-    let six = ((window >> (58 - at % 8)) % 64) as usize;
-    let entry = lookup[64 + six];
-    walk_from(packet, at, window, nodes, entry as usize)
+    if left == 0 {
+        lookup[0] = 0;
+        return;
+    }
+    let end = lookup.len();
+    let half = end / 2;
+    spread(nodes, values, at + 1, left - 1, &mut lookup[..half]);
+    spread(
+        nodes,
+        values,
+        value as usize - 128,
+        left - 1,
+        &mut lookup[half..end],
+    );
+}
+
+// The lookup of a tree by eight bits. Each node is gone to once: a tree has at most 63, and a step for each of 256 strings of bits would take more.
+pub fn fill_by(nodes: &[u8], values: &[u64], lookup: &mut [u64])
+    requires { ⌜ (length (now nodes) ≡ 64) × Values (now values) × (length (now lookup) ≡ 256) ⌝ }
+    ensures { λ _. ⌜ now (lookup .exit) ≡ lookupOf (now (nodes .entry)) (now (values .entry)) ⌝ }
+{
+    spread(nodes, values, 0, 8, lookup);
 }

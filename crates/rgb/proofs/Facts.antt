@@ -1,26 +1,30 @@
 -- Facts for the loops over pixels. Assumes nothing.
-use Prim.Native.Nat.{ℕ, zero, suc, _+_, _*_, _/_, _%_, _≤_}
+use Prim.Native.Nat.{ℕ, zero, suc, _+_, _-_, _*_, _/_, _%_, _≤_, _<_}
 use native.Mathlib.Nat.{zero-mul, suc-mul}
 use native.Mathlib.Omega.{arith}
-use mathlib.Core.Path.{_≡_, refl, sym, ap, _∙_}
-use mathlib.Core.List.{List, [], _∷_, _++_, map, append-nil, append-assoc}
-use lib.IntN.{ℤ, pos, _+ℤ_, +ℤ-assoc, +ℤ-comm}
-use lib.ListN.{length, getD, take, drop, set, length-append, length-set}
-use lib.Seq.{take-suc-set, drop-length}
-use Rattle.numeric.specs.Clamp.{clamp255}
+use mathlib.Core.Path.{_≡_, refl, sym, ap, _∙_, subst}
+use mathlib.Core.Bool.{Bool, true, false}
+use mathlib.Core.List.{List, [], _∷_, _++_, append-assoc, append-nil}
+use mathlib.Core.Logic.{⊎-elim}
+use lib.Dec.{T, ltb, lt→ltb, ltb→lt}
+use lib.IntN.{ℤ, pos, natAbs, _+ℤ_, +ℤ-assoc, +ℤ-comm, +ℤ-idl}
+use lib.ListN.{length, getD, take, set, length-append, length-set}
+use lib.Seq.{take-suc-set, take-take, take-at, take-all, length-take-le}
+use denote.Enum.Declared.{tagOf}
+use types.Run.{OneOf}
+use Rattle.bitstream.specs.Reading.{choose}
+use Rattle.numeric.proofs.Magnitude.{abs-add}
 use Rattle.geometry.specs.declared.PixelFormat.{PixelFormat}
+use Rattle.geometry.proofs.PixelFormat as format
+use Rattle.geometry.specs.declared.PixelFormat.the-variants.{Chroma420, Chroma422, Chroma444}
 use Rattle.geometry.specs.Order.{inTurn}
-use Rattle.geometry.proofs.Lists.{turn-same, turn-add}
-use Rattle.output.specs.Output.{spliced}
-use Rattle.output.proofs.Splices.{spliced-first, spliced-next}
+use Rattle.geometry.proofs.Lists.{turn-at, turn-add}
 use Rattle.rgb.specs.declared.Chroma.{Chroma}
+use Rattle.rgb.specs.Rule.{luma, redCr, greenCb, greenCr, blueCb, entry}
 use Rattle.rgb.specs.Pixel.{chromaOf, sumOf, toByte, colours}
 use Rattle.rgb.specs.Picture.{chromaColumn, rowOf}
-use Rattle.rgb.specs.Sums.{sums, threeAt, sumsAt, Reaches}
-
--- the half may come first
-pub half-last : (a c : ℤ) → a +ℤ pos 32768 +ℤ c ≡ a +ℤ c +ℤ pos 32768
-half-last a c = +ℤ-assoc a (pos 32768) c ∙ ap (λ (z : ℤ). a +ℤ z) (+ℤ-comm (pos 32768) c) ∙ sym (+ℤ-assoc a c (pos 32768))
+use Rattle.rgb.specs.Sums.{ofCb, ofCr, partOf, three, chromaRows, pixelAt, Begun, Reaches}
+use Rattle.rgb.proofs.Tables.{red-at, green-cb-at, green-cr-at, blue-at}
 
 -- three places more
 pub three-more : (l : List ℤ) (at : ℕ) (a b c : ℤ) → at + 3 ≤ length l → take (at + 3) (set (set (set l at a) (at + 1) b) (at + 2) c) ≡ take at l ++ (a ∷ b ∷ c ∷ [])
@@ -49,117 +53,202 @@ pub turn-more : {A : Type 0} (f : ℕ → List A) (n : ℕ) → inTurn f (n + 1)
 unfolding inTurn
 turn-more f n = let e : n + 1 ≡ suc n = omega arith in ap (λ (m : ℕ). inTurn f m) e
 
-pub map-length : {A B : Type 0} (f : A → B) (l : List A) → length (map f l) ≡ length l
-map-length f [] = refl
-map-length f (x ∷ l) = ap suc (map-length f l)
+-- ---- parts: sample i of 512
+below : (m n : ℕ) (b : Bool) → ltb m n ≡ b → m < n → b ≡ true
+below m n true e h = refl
+below m n false e h = absurd (subst (λ (b : Bool). T b) e (lt→ltb m n h))
 
-map-append : {A B : Type 0} (f : A → B) (l m : List A) → map f (l ++ m) ≡ map f l ++ map f m
-map-append f [] m = refl
-map-append {B = B} f (x ∷ l) m = ap (λ (t : List B). f x ∷ t) (map-append f l m)
+above : (m n : ℕ) (b : Bool) → ltb m n ≡ b → n ≤ m → b ≡ false
+above m n true e h = absurd (omega (arith, ltb→lt m n (subst (λ (b : Bool). T b) (sym e) tt), h))
+above m n false e h = refl
 
-pub map-turn : {A B : Type 0} (f : A → B) (g : ℕ → List A) (n : ℕ) → map f (inTurn g n) ≡ inTurn (λ i. map f (g i)) n
-unfolding inTurn
-map-turn f g zero = refl
-map-turn {B = B} f g (suc n) = map-append f (inTurn g n) (g n) ∙ ap (λ (t : List B). t ++ map f (g n)) (map-turn f g n)
+pub part-cb : (v : ℕ) → v < 256 → partOf v ≡ ofCb v
+unfolding partOf
+part-cb v h = ap (λ (b : Bool). choose b (ofCb v) (ofCr (v - 256))) (below v 256 (ltb v 256) refl h)
 
--- a sum of 0 is black
-pub byte-zero : toByte (pos 0) ≡ 0
-unfolding toByte clamp255
-byte-zero = refl
+pub part-cr : (i : ℕ) → 256 ≤ i → partOf i ≡ ofCr (i - 256)
+unfolding partOf
+part-cr i h = ap (λ (b : Bool). choose b (ofCb i) (ofCr (i - 256))) (above i 256 (ltb i 256) refl h)
 
--- a slice that is written whole
-pub spliced-whole : (t l : List ℕ) → length t ≡ length l → spliced 0 t l ≡ t
-spliced-whole t l e = spliced-first t l ∙ ap (λ (n : ℕ). t ++ drop n l) e ∙ ap (λ (m : List ℕ). t ++ m) (drop-length l) ∙ append-nil t
+-- no number of a part is large
+pub cb-small : (v i : ℕ) → v < 256 → natAbs (getD (three (ofCb v)) i (pos 0)) ≤ 33587200
+cb-small v zero h = let z : 0 ≤ 33587200 = omega arith in z
+cb-small v (suc zero) h = omega (arith, green-cb-at v h .small)
+cb-small v (suc (suc zero)) h = omega (arith, blue-at v h .small)
+cb-small v (suc (suc (suc i))) h = let z : 0 ≤ 33587200 = omega arith in z
 
+with-half : (z : ℤ) → natAbs z ≤ 33554432 → natAbs (z +ℤ pos 32768) ≤ 33587200
+with-half z h = let a : natAbs (z +ℤ pos 32768) ≤ natAbs z + 32768 = abs-add z (pos 32768) in omega (arith, a, h)
+
+pub cr-small : (v i : ℕ) → v < 256 → natAbs (getD (three (ofCr v)) i (pos 0)) ≤ 33587200
+cr-small v zero h = with-half (entry redCr v) (red-at v h .small)
+cr-small v (suc zero) h = with-half (entry greenCr v) (green-cr-at v h .small)
+cr-small v (suc (suc zero)) h = let z : 32768 ≤ 33587200 = omega arith in z
+cr-small v (suc (suc (suc i))) h = let z : 0 ≤ 33587200 = omega arith in z
+
+-- ---- rows of nine
+abbrev pub rowPart : ℕ → List ℤ
+rowPart k = three (partOf (k / 3))
+
+rows-are : chromaRows ≡ inTurn rowPart 1536
+unfolding chromaRows
+rows-are = refl
+
+pub rows-length : length chromaRows ≡ 4608
+rows-length = ap length rows-are ∙ turn-each rowPart 3 1536 (λ i. refl)
+
+pub rows-done : (l : List ℤ) (k : ℕ) → length l ≡ 4608 → k ≡ 512 → take (9 * k) l ≡ inTurn rowPart (3 * k) → l ≡ chromaRows
+rows-done l k n ek e = sym (take-all (9 * k) l (omega (arith, n, ek))) ∙ e ∙ ap (λ (z : ℕ). inTurn rowPart (3 * z)) ek ∙ sym rows-are
+
+part-more : (l m : List ℤ) (t at : ℕ) (c : Chroma) → c ≡ partOf (t / 3) → take at l ≡ inTurn rowPart t → take (at + 3) m ≡ take at l ++ three c → take (at + 3) m ≡ inTurn rowPart (t + 1)
+part-more l m t at c ec e em = em ∙ (λ i. e i ++ three (ec i)) ∙ sym (turn-more rowPart t)
+
+-- a row more
+pub row-more : (l a b m : List ℤ) (k : ℕ) (c : Chroma) → c ≡ partOf k → take (9 * k) l ≡ inTurn rowPart (3 * k) → take (9 * k + 3) a ≡ take (9 * k) l ++ three c
+    → take (9 * k + 3 + 3) b ≡ take (9 * k + 3) a ++ three c → take (9 * k + 6 + 3) m ≡ take (9 * k + 6) b ++ three c → take (9 * (k + 1)) m ≡ inTurn rowPart (3 * (k + 1))
+row-more l a b m k c ec e ea eb em =
+    let k1 : k ≡ 3 * k / 3 = omega arith in
+    let k2 : k ≡ (3 * k + 1) / 3 = omega arith in
+    let k3 : k ≡ (3 * k + 1 + 1) / 3 = omega arith in
+    let six : 9 * k + 3 + 3 ≡ 9 * k + 6 = omega arith in
+    let all : 9 * (k + 1) ≡ 9 * k + 6 + 3 = omega arith in
+    let end : 3 * k + 1 + 1 + 1 ≡ 3 * (k + 1) = omega arith in
+    let one = part-more l a (3 * k) (9 * k) c (ec ∙ ap partOf k1) e ea in
+    let two = part-more a b (3 * k + 1) (9 * k + 3) c (ec ∙ ap partOf k2) one eb in
+    let last = part-more b m (3 * k + 1 + 1) (9 * k + 6) c (ec ∙ ap partOf k3) (sym (ap (λ (z : ℕ). take z b) six) ∙ two) em in
+    ap (λ (z : ℕ). take z m) all ∙ last ∙ ap (inTurn rowPart) end
+
+row-at : (i j at : ℕ) → i < 512 → j < 9 → at ≡ 9 * i + j → getD chromaRows at (pos 0) ≡ getD (three (partOf i)) (j % 3) (pos 0)
+row-at i j at hi hj ea =
+    let k = 3 * i + j / 3 in
+    let front : length (inTurn rowPart k) ≡ k * 3 = turn-each rowPart 3 k (λ q. refl) in
+    let place : at ≡ length (inTurn rowPart k) + j % 3 = omega (arith, front, ea) in
+    let whose : k / 3 ≡ i = omega arith in
+    (λ q. getD (rows-are q) (place q) (pos 0))
+    ∙ turn-at rowPart 1536 k (j % 3) (pos 0) (omega arith) (omega arith)
+    ∙ ap (λ (z : ℕ). getD (three (partOf z)) (j % 3) (pos 0)) whose
+
+module _ (v first j : ℕ) (h : v < 256) (whole : first % 3 ≡ 0) (inside : first + j < 9) where
+  turned : (first + j) % 3 ≡ j % 3
+  turned = omega (arith, whole)
+
+  pub cb-at : getD chromaRows (9 * v + first + j) (pos 0) ≡ getD (three (ofCb v)) (j % 3) (pos 0)
+  cb-at = row-at v (first + j) (9 * v + first + j) (omega (arith, h)) inside (omega arith) ∙ (λ q. getD (three (part-cb v h q)) (turned q) (pos 0))
+
+  pub cr-at : getD chromaRows (2304 + 9 * v + first + j) (pos 0) ≡ getD (three (ofCr v)) (j % 3) (pos 0)
+  cr-at =
+      let z : 256 + v - 256 ≡ v = omega arith in
+      row-at (256 + v) (first + j) (2304 + 9 * v + first + j) (omega (arith, h)) inside (omega arith)
+      ∙ (λ q. getD (three (part-cr (256 + v) (omega arith) q)) (turned q) (pos 0))
+      ∙ ap (λ (n : ℕ). getD (three (ofCr n)) (j % 3) (pos 0)) z
+
+-- ---- a pixel
+abbrev sums : ℕ → Chroma → List ℤ
+sums y c = sumOf y (c .red) ∷ sumOf y (c .green) ∷ sumOf y (c .blue) ∷ []
+
+half-last : (a b l h : ℤ) → a +ℤ (b +ℤ h) +ℤ l ≡ l +ℤ (a +ℤ b) +ℤ h
+half-last a b l h = ap (λ (z : ℤ). z +ℤ l) (sym (+ℤ-assoc a b h)) ∙ +ℤ-comm (a +ℤ b +ℤ h) l ∙ sym (+ℤ-assoc l (a +ℤ b) h)
+
+-- the parts of two samples, and luma
+pub sum-is : (y cb cr i : ℕ) → i < 3 → getD (three (ofCb cb)) i (pos 0) +ℤ getD (three (ofCr cr)) i (pos 0) +ℤ entry luma y ≡ getD (sums y (chromaOf cb cr)) i (pos 0)
+unfolding sumOf
+sum-is y cb cr zero h = half-last (pos 0) (entry redCr cr) (entry luma y) (pos 32768) ∙ ap (λ (z : ℤ). entry luma y +ℤ z +ℤ pos 32768) (+ℤ-idl (entry redCr cr))
+sum-is y cb cr (suc zero) h = half-last (entry greenCb cb) (entry greenCr cr) (entry luma y) (pos 32768)
+sum-is y cb cr (suc (suc zero)) h = +ℤ-comm (entry blueCb cb +ℤ pos 32768) (entry luma y) ∙ sym (+ℤ-assoc (entry luma y) (entry blueCb cb) (pos 32768))
+sum-is y cb cr (suc (suc (suc i))) h = absurd (omega (arith, h))
+
+-- byte j of those that are put for a pixel
+abbrev pub laid : (y cb cr : ℕ) → ℕ → List ℕ
+laid y cb cr j = toByte (getD (sums y (chromaOf cb cr)) (j % 3) (pos 0)) ∷ []
+
+three-laid : (y cb cr : ℕ) → inTurn (laid y cb cr) 3 ≡ colours y cb cr
+unfolding inTurn toByte colours
+three-laid y cb cr = refl
+
+module _ (y cb cr at : ℕ) (l : List ℕ) where
+  pub no-bytes : take (at + 0) l ≡ take at l ++ inTurn (laid y cb cr) 0
+  unfolding inTurn
+  no-bytes = let e : at + 0 ≡ at = omega arith in ap (λ (n : ℕ). take n l) e ∙ sym (append-nil (take at l))
+
+  pub byte-more : (out : List ℕ) (j b : ℕ) → at + j < length out → b ∷ [] ≡ laid y cb cr j → take (at + j) out ≡ take at l ++ inTurn (laid y cb cr) j
+      → take (at + (j + 1)) (set out (at + j) b) ≡ take at l ++ inTurn (laid y cb cr) (j + 1)
+  byte-more out j b h eb e =
+      let n : at + (j + 1) ≡ suc (at + j) = omega arith in
+      ap (λ (z : ℕ). take z (set out (at + j) b)) n
+      ∙ take-suc-set out (at + j) b h
+      ∙ (λ i. e i ++ eb i)
+      ∙ append-assoc (take at l) (inTurn (laid y cb cr) j) (laid y cb cr j)
+      ∙ ap (λ (t : List ℕ). take at l ++ t) (sym (turn-more (laid y cb cr) j))
+
+  -- the first three of them are its colours
+  pub bytes-done : (out : List ℕ) (n : ℕ) → 3 ≤ n → at ≤ length l → take (at + n) out ≡ take at l ++ inTurn (laid y cb cr) n → take (at + 3) out ≡ take at l ++ colours y cb cr
+  bytes-done out n h room e =
+      let m = n - 3 in
+      let en : n ≡ 3 + m = omega (arith, h) in
+      let rest = inTurn (λ j. laid y cb cr (3 + j)) m in
+      let size : length (take at l ++ inTurn (laid y cb cr) 3) ≡ at + 3 = length-append (take at l) (inTurn (laid y cb cr) 3) ∙ omega (arith, length-take-le at l room, turn-each (laid y cb cr) 1 3 (λ i. refl)) in
+      sym (take-take (at + 3) (at + n) out (omega (arith, h)))
+      ∙ ap (λ (t : List ℕ). take (at + 3) t) e
+      ∙ ap (λ (z : ℕ). take (at + 3) (take at l ++ inTurn (laid y cb cr) z)) en
+      ∙ ap (λ (t : List ℕ). take (at + 3) (take at l ++ t)) (turn-add (laid y cb cr) 3 m)
+      ∙ ap (λ (t : List ℕ). take (at + 3) t) (sym (append-assoc (take at l) (inTurn (laid y cb cr) 3) rest))
+      ∙ take-at (take at l ++ inTurn (laid y cb cr) 3) rest (at + 3) size
+      ∙ ap (λ (t : List ℕ). take at l ++ t) (three-laid y cb cr)
+
+-- ---- rows that are begun
 module _ (column : ℕ → ℕ) (luma cb cr : List ℕ) where
-  abbrev pub pixelAt : ℕ → List ℕ
-  pixelAt x = colours (getD luma x 0) (getD cb (column x) 0) (getD cr (column x) 0)
+  pub none-begun : (out : List ℕ) → Begun column luma cb cr 0 out
+  unfolding inTurn
+  none-begun out = refl
 
-  -- the bytes of a pixel, from its sums
-  bytes-of : (x : ℕ) → map toByte (sumsAt column luma cb cr x) ≡ pixelAt x
-  unfolding toByte colours sumsAt
-  bytes-of x = refl
+  pub pixel-more : (x u at : ℕ) (out new : List ℕ) → at ≡ 3 * x → u ≡ column x → Begun column luma cb cr x out
+      → take (at + 3) new ≡ take at out ++ colours (getD luma x 0) (getD cb u 0) (getD cr u 0) → Begun column luma cb cr (x + 1) new
+  pixel-more x u at out new ea eu e en =
+      let n : 3 * (x + 1) ≡ at + 3 = omega (arith, ea) in
+      ap (λ (z : ℕ). take z new) n ∙ en
+      ∙ (λ i. take (ea i) out ++ colours (getD luma x 0) (getD cb (eu i) 0) (getD cr (eu i) 0))
+      ∙ ap (λ (t : List ℕ). t ++ pixelAt column luma cb cr x) e
+      ∙ sym (turn-more (pixelAt column luma cb cr) x)
 
-  pixel-length : (x : ℕ) → length (pixelAt x) ≡ 3
-  unfolding colours
-  pixel-length x = refl
-
-  pub pixels-length : (n : ℕ) → length (inTurn pixelAt n) ≡ 3 * n
-  pixels-length n = turn-each pixelAt 3 n pixel-length ∙ omega arith
-
-  abbrev sumsFrom : ℕ → ℕ → List ℤ
-  sumsFrom at j = sumsAt column luma cb cr (at + j)
-
-  -- the sums of one pixel more
-  pub sums-more : (at k u : ℕ) (c : Chroma) (l m : List ℤ) → 3 * k + 3 ≤ length l → u ≡ column (at + k) → c ≡ chromaOf (getD cb u 0) (getD cr u 0)
-      → m ≡ threeAt (3 * k) (getD luma (at + k) 0) c l → take (3 * k) l ≡ inTurn (sumsFrom at) k → take (3 * (k + 1)) m ≡ inTurn (sumsFrom at) (k + 1)
-  unfolding sumsAt
-  sums-more at k u c l m h eu ec em e =
-      let y = getD luma (at + k) 0 in
-      let n : 3 * (k + 1) ≡ 3 * k + 3 = omega arith in
-      let is : c ≡ chromaOf (getD cb (column (at + k)) 0) (getD cr (column (at + k)) 0) = ec ∙ ap (λ (v : ℕ). chromaOf (getD cb v 0) (getD cr v 0)) eu in
-      ap (λ (v : ℕ). take v m) n
-      ∙ ap (λ (v : List ℤ). take (3 * k + 3) v) em
-      ∙ three-more l (3 * k) (sumOf y (c .red)) (sumOf y (c .green)) (sumOf y (c .blue)) h
-      ∙ (λ i. e i ++ sums y (is i))
-      ∙ sym (turn-more (sumsFrom at) k)
-
-  -- sixteen pixels more
-  module _ (x at : ℕ) (s : List ℤ) (b l m new : List ℕ) (es : s ≡ inTurn (sumsFrom x) 16) (eb : b ≡ map toByte s) where
-    sixteen : b ≡ inTurn (λ j. pixelAt (x + j)) 16
-    sixteen = eb ∙ ap (λ (v : List ℤ). map toByte v) es ∙ map-turn toByte (sumsFrom x) 16 ∙ turn-same _ (λ j. pixelAt (x + j)) 16 (λ j h. bytes-of (x + j))
-
-    pub sixteen-length : length b ≡ 48
-    sixteen-length = ap (λ (v : List ℕ). length v) sixteen ∙ turn-each (λ j. pixelAt (x + j)) 3 16 (λ j. pixel-length (x + j))
-
-    pub row-more : at ≡ 3 * x → m ≡ spliced 0 (inTurn pixelAt x) l → 3 * x + 48 ≤ length l → new ≡ spliced at b m → new ≡ spliced 0 (inTurn pixelAt (x + 16)) l
-    row-more ea em h en =
-        en
-        ∙ spliced-next 0 at (inTurn pixelAt x) b l m em (omega (arith, ea, pixels-length x)) (omega (arith, pixels-length x, sixteen-length, h))
-        ∙ ap (λ (v : List ℕ). spliced 0 (inTurn pixelAt x ++ v) l) sixteen
-        ∙ ap (λ (v : List ℕ). spliced 0 v l) (sym (turn-add pixelAt x 16))
-
-  pub row-done : (x : ℕ) (l m : List ℕ) → x ≡ length luma → length l ≡ 3 * length luma → m ≡ spliced 0 (inTurn pixelAt x) l → m ≡ rowOf column luma cb cr
+  pub row-done : (x : ℕ) (out : List ℕ) → x ≡ length luma → length out ≡ 3 * length luma → Begun column luma cb cr x out → out ≡ rowOf column luma cb cr
   unfolding rowOf
-  row-done x l m e h em = em ∙ spliced-whole (inTurn pixelAt x) l (omega (arith, pixels-length x, e, h)) ∙ ap (λ (n : ℕ). inTurn pixelAt n) e
+  row-done x out e h b = sym (take-all (3 * x) out (omega (arith, e, h))) ∙ b ∙ ap (inTurn (pixelAt column luma cb cr)) e
 
--- the sums of two pixels more, which share their chroma samples
-pub pair-more : (luma cb cr : List ℕ) (at k : ℕ) (c : Chroma) (l m new : List ℤ) → 6 * k + 6 ≤ length l → length m ≡ length l → c ≡ chromaOf (getD cb (at + k) 0) (getD cr (at + k) 0)
-    → m ≡ threeAt (6 * k) (getD luma (2 * (at + k)) 0) c l → new ≡ threeAt (6 * k + 3) (getD luma (2 * (at + k) + 1) 0) c m
-    → take (6 * k) l ≡ inTurn (λ j. sumsAt (λ x. x / 2) luma cb cr (2 * at + j)) (2 * k) → take (6 * (k + 1)) new ≡ inTurn (λ j. sumsAt (λ x. x / 2) luma cb cr (2 * at + j)) (2 * (k + 1))
-pair-more luma cb cr at k c l m new h n ec em en e =
-    let f : ℕ → List ℤ = λ j. sumsAt (λ x. x / 2) luma cb cr (2 * at + j) in
-    let p : 6 * k ≡ 3 * (2 * k) = omega arith in
-    let q : 6 * k + 3 ≡ 3 * (2 * k + 1) = omega arith in
-    let x : 2 * (at + k) ≡ 2 * at + 2 * k = omega arith in
-    let y : 2 * (at + k) + 1 ≡ 2 * at + (2 * k + 1) = omega arith in
-    let u : at + k ≡ (2 * at + 2 * k) / 2 = omega arith in
-    let v : at + k ≡ (2 * at + (2 * k + 1)) / 2 = omega arith in
-    let all : 6 * (k + 1) ≡ 3 * (2 * k + 1 + 1) = omega arith in
+-- two pixels more, which share their chroma samples
+pub pair-more : (luma cb cr : List ℕ) (k : ℕ) (out mid new : List ℕ) → Begun (λ x. x / 2) luma cb cr (2 * k) out
+    → take (6 * k + 3) mid ≡ take (6 * k) out ++ colours (getD luma (2 * k) 0) (getD cb k 0) (getD cr k 0)
+    → take (6 * k + 3 + 3) new ≡ take (6 * k + 3) mid ++ colours (getD luma (2 * k + 1) 0) (getD cb k 0) (getD cr k 0)
+    → Begun (λ x. x / 2) luma cb cr (2 * (k + 1)) new
+pair-more luma cb cr k out mid new b em en =
     let two : 2 * k + 1 + 1 ≡ 2 * (k + 1) = omega arith in
-    let one = sums-more (λ x. x / 2) luma cb cr (2 * at) (2 * k) (at + k) c l m (omega arith) u ec (em ∙ (λ i. threeAt (p i) (getD luma (x i) 0) c l)) (sym (ap (λ (z : ℕ). take z l) p) ∙ e) in
-    let more = sums-more (λ x. x / 2) luma cb cr (2 * at) (2 * k + 1) (at + k) c m new (omega arith) v ec (en ∙ (λ i. threeAt (q i) (getD luma (y i) 0) c m)) one in
-    ap (λ (z : ℕ). take z new) all ∙ more ∙ ap (inTurn f) two
+    let one = pixel-more (λ x. x / 2) luma cb cr (2 * k) k (6 * k) out mid (omega arith) (omega arith) b em in
+    let more = pixel-more (λ x. x / 2) luma cb cr (2 * k + 1) k (6 * k + 3) mid new (omega arith) (omega arith) one en in
+    subst (λ (n : ℕ). Begun (λ x. x / 2) luma cb cr n new) two more
 
--- the sums of 16 pixels, by the format
-module _ (luma cb cr : List ℕ) (at : ℕ) (r : List ℤ) where
-  pub pairs-are : (f : PixelFormat) → ((x : ℕ) → chromaColumn f x ≡ x / 2) → at % 16 ≡ 0 → r ≡ inTurn (λ k. sumsAt (λ x. x / 2) luma cb cr (2 * (at / 2) + k)) 16
-      → r ≡ inTurn (λ k. sumsAt (chromaColumn f) luma cb cr (at + k)) 16
-  unfolding sumsAt
-  pairs-are f col even e =
-      let w : 2 * (at / 2) ≡ at = omega arith in
-      e ∙ ap (λ (n : ℕ). inTurn (λ k. sumsAt (λ x. x / 2) luma cb cr (n + k)) 16) w
-      ∙ turn-same _ _ 16 (λ k h. ap (λ (n : ℕ). sums (getD luma (at + k) 0) (chromaOf (getD cb n 0) (getD cr n 0))) (sym (col (at + k))))
+-- ---- the two ways, by the format
+pub pairs-are : (f : PixelFormat) (luma cb cr : List ℕ) → OneOf (0 ∷ 1 ∷ []) (tagOf format.the-type f) → rowOf (λ x. x / 2) luma cb cr ≡ rowOf (chromaColumn f) luma cb cr
+pairs-are Chroma420 luma cb cr o = refl
+pairs-are Chroma422 luma cb cr o = refl
+pairs-are Chroma444 luma cb cr o = absurd (⊎-elim (λ z. omega (arith, z)) (λ z. omega (arith, z)) o)
 
--- the chroma samples of 16 pixels are there
-pub pairs-reach : (f : PixelFormat) (n b c at : ℕ) → ((x : ℕ) → chromaColumn f x ≡ x / 2) → Reaches f n b c → at + 16 ≤ n → at % 16 ≡ 0 → (at / 2 + 8 ≤ b) × (at / 2 + 8 ≤ c)
-pairs-reach f n b c at col reach h even = let r = reach (at + 15) (omega arith) in (omega (arith, r .0, col (at + 15)), omega (arith, r .1, col (at + 15)))
+-- the chroma samples are there
+reach-pairs : (n b : ℕ) → ((x : ℕ) → x < n → x / 2 < b) → n % 2 ≡ 0 → n ≤ 2 * b
+reach-pairs zero b r e = omega arith
+reach-pairs (suc n) b r e = omega (arith, r n (omega arith), e)
 
-pub singles-reach : (f : PixelFormat) (n b c at : ℕ) → ((x : ℕ) → chromaColumn f x ≡ x) → Reaches f n b c → at + 16 ≤ n → (at + 16 ≤ b) × (at + 16 ≤ c)
-singles-reach f n b c at col reach h = let r = reach (at + 15) (omega arith) in (omega (arith, r .0, col (at + 15)), omega (arith, r .1, col (at + 15)))
+pub pairs-reach : (f : PixelFormat) (n b c : ℕ) → OneOf (0 ∷ 1 ∷ []) (tagOf format.the-type f) → Reaches f n b c → n % 2 ≡ 0 → (n ≤ 2 * b) × (n ≤ 2 * c)
+pairs-reach Chroma420 n b c o r e = (reach-pairs n b (λ x h. r x h .0) e, reach-pairs n c (λ x h. r x h .1) e)
+pairs-reach Chroma422 n b c o r e = (reach-pairs n b (λ x h. r x h .0) e, reach-pairs n c (λ x h. r x h .1) e)
+pairs-reach Chroma444 n b c o r e = absurd (⊎-elim (λ z. omega (arith, z)) (λ z. omega (arith, z)) o)
 
-pub singles-are : (luma cb cr : List ℕ) (at : ℕ) (r : List ℤ) (f : PixelFormat) → ((x : ℕ) → chromaColumn f x ≡ x) → r ≡ inTurn (λ k. sumsAt (λ x. x) luma cb cr (at + k)) 16
-    → r ≡ inTurn (λ k. sumsAt (chromaColumn f) luma cb cr (at + k)) 16
-unfolding sumsAt
-singles-are luma cb cr at r f col e =
-    e ∙ turn-same _ _ 16 (λ k h. ap (λ (n : ℕ). sums (getD luma (at + k) 0) (chromaOf (getD cb n 0) (getD cr n 0))) (sym (col (at + k))))
+reach-singles : (n b : ℕ) → ((x : ℕ) → x < n → x < b) → n ≤ b
+reach-singles zero b r = omega arith
+reach-singles (suc n) b r = omega (arith, r n (omega arith))
+
+pub singles-reach : (f : PixelFormat) (n b c : ℕ) → f ≡ Chroma444 → Reaches f n b c → (n ≤ b) × (n ≤ c)
+singles-reach f n b c e r =
+    let q : Reaches Chroma444 n b c = subst (λ (g : PixelFormat). Reaches g n b c) e r in
+    (reach-singles n b (λ x h. q x h .0), reach-singles n c (λ x h. q x h .1))
+
+pub singles-are : (f : PixelFormat) (luma cb cr : List ℕ) → f ≡ Chroma444 → rowOf (λ x. x) luma cb cr ≡ rowOf (chromaColumn f) luma cb cr
+singles-are f luma cb cr e = sym (ap (λ (g : PixelFormat). rowOf (chromaColumn g) luma cb cr) e)

@@ -1,7 +1,7 @@
 -- "Add, put in a half, take the floor, clamp": the colours of a pixel.
-use Prim.Native.Nat.{ℕ, _^_, _≤_}
+use Prim.Native.Nat.{ℕ}
 use mathlib.Core.List.{List, [], _∷_}
-use lib.IntN.{ℤ, pos, _+ℤ_, natAbs}
+use lib.IntN.{ℤ, pos, _+ℤ_}
 use Rattle.numeric.specs.Divide.{floorShift}
 use Rattle.numeric.specs.Clamp.{clamp255}
 use Rattle.rgb.specs.declared.Chroma.{Chroma}
@@ -35,9 +35,3 @@ blueSteps y cb = stepsOf (sumOf y (entry blueCb cb))
 -- "three bytes a pixel, R, G, B"
 unfoldable pub colours : (y cb cr : ℕ) → List ℕ
 colours y cb cr = clamp255 (redSteps y cr) ∷ clamp255 (greenSteps y cb cr) ∷ clamp255 (blueSteps y cb) ∷ []
-
--- numbers of which 32 bits hold the sum with another
-pub record Nearby (c : Chroma) : Type 0 where
-  pub red : natAbs (c .red) ≤ 2 ^ 26
-  pub green : natAbs (c .green) ≤ 2 ^ 26
-  pub blue : natAbs (c .blue) ≤ 2 ^ 26

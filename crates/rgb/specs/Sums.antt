@@ -1,27 +1,45 @@
--- Parts of the code: the sums of pixels, three numbers each, of which it makes bytes sixteen pixels at a time, and rows of planes.
-use Prim.Native.Nat.{ℕ, _+_, _*_, _≤_, _<_}
+-- Parts of the code: what each chroma sample adds, laid out so that the bytes of neighbouring pixels are sums of neighbours, and rows of planes.
+use Prim.Native.Nat.{ℕ, _+_, _-_, _*_, _/_, _≤_, _<_}
 use mathlib.Core.Path.{_≡_}
 use mathlib.Core.List.{List, [], _∷_}
-use lib.IntN.{ℤ}
-use lib.ListN.{getD, set}
+use lib.Dec.{ltb}
+use lib.IntN.{ℤ, pos, _+ℤ_}
+use lib.ListN.{getD, take}
+use Rattle.bitstream.specs.Reading.{choose}
 use Rattle.geometry.specs.declared.PixelFormat.{PixelFormat}
 use Rattle.geometry.specs.Sizes.{across, blocksOf, blocksBefore}
+use Rattle.geometry.specs.Order.{inTurn}
 use Rattle.rgb.specs.declared.Chroma.{Chroma}
 use Rattle.rgb.specs.declared.Run.{Run}
-use Rattle.rgb.specs.Pixel.{chromaOf, sumOf}
+use Rattle.rgb.specs.Rule.{redCr, greenCb, greenCr, blueCb, entry}
+use Rattle.rgb.specs.Pixel.{colours}
 use Rattle.rgb.specs.Picture.{chromaColumn}
 
--- the sums of a pixel
-abbrev pub sums : ℕ → Chroma → List ℤ
-sums y c = sumOf y (c .red) ∷ sumOf y (c .green) ∷ sumOf y (c .blue) ∷ []
+-- what a chroma sample adds by itself, Cr with the half
+abbrev pub ofCb : ℕ → Chroma
+ofCb v = record { red = pos 0; green = entry greenCb v; blue = entry blueCb v }
 
--- put at three places of a list
-abbrev pub threeAt : ℕ → ℕ → Chroma → List ℤ → List ℤ
-threeAt at y c l = set (set (set l at (sumOf y (c .red))) (at + 1) (sumOf y (c .green))) (at + 2) (sumOf y (c .blue))
+abbrev pub ofCr : ℕ → Chroma
+ofCr v = record { red = entry redCr v +ℤ pos 32768; green = entry greenCr v +ℤ pos 32768; blue = pos 32768 }
 
--- the sums of the pixel in column x of a row
-unfoldable pub sumsAt : (ℕ → ℕ) → (luma cb cr : List ℕ) → ℕ → List ℤ
-sumsAt column luma cb cr x = sums (getD luma x 0) (chromaOf (getD cb (column x) 0) (getD cr (column x) 0))
+-- sample i of 512: Cb, and behind them Cr
+unfoldable pub partOf : ℕ → Chroma
+partOf i = choose (ltb i 256) (ofCb i) (ofCr (i - 256))
+
+abbrev pub three : Chroma → List ℤ
+three c = c .red ∷ c .green ∷ c .blue ∷ []
+
+-- each of them three times, one behind the other
+unfoldable pub chromaRows : List ℤ
+chromaRows = inTurn (λ k. three (partOf (k / 3))) 1536
+
+-- the colours of the pixel in column x of a row
+abbrev pub pixelAt : (ℕ → ℕ) → (luma cb cr : List ℕ) → ℕ → List ℕ
+pixelAt column luma cb cr x = colours (getD luma x 0) (getD cb (column x) 0) (getD cr (column x) 0)
+
+-- the first n pixels of a row stand at the front of a slice
+abbrev pub Begun : (ℕ → ℕ) → (luma cb cr : List ℕ) → ℕ → List ℕ → Type 0
+Begun column luma cb cr n out = take (3 * n) out ≡ inTurn (pixelAt column luma cb cr) n
 
 -- each pixel of a row of n has its chroma samples
 abbrev pub Reaches : PixelFormat → (n cb cr : ℕ) → Type 0

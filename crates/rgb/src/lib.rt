@@ -4,16 +4,15 @@ use headers::Session;
 use headers::SizesAnswer;
 use output::Written;
 ghost use mathlib.Core.Path.{_≡_};
-ghost use mathlib.Core.List.{map};
-ghost use Prim.Native.Nat.{_+_, _*_, _/_, _%_, _≤_, _<_, min};
-ghost use lib.ListN.{length};
+ghost use mathlib.Core.List.{_++_};
+ghost use Prim.Native.Nat.{_+_, _*_, _/_, _%_, _≤_, _<_};
+ghost use lib.ListN.{length, take};
 ghost use Rattle.geometry.specs.Sizes.{up, blocksOf, largest};
-ghost use Rattle.geometry.specs.Order.{inTurn};
 ghost use Rattle.output.specs.Output.{leftBy, asWritten, spliced};
 ghost use Rattle.rgb.specs.Rule.{contributions};
-ghost use Rattle.rgb.specs.Pixel.{chromaOf, toByte, Nearby};
+ghost use Rattle.rgb.specs.Pixel.{toByte, colours};
 ghost use Rattle.rgb.specs.Picture.{chromaColumn, chromaRow, rowOf, pictureRow, picture, pictureFor};
-ghost use Rattle.rgb.specs.Sums.{threeAt, sumsAt, Reaches, RunOf};
+ghost use Rattle.rgb.specs.Sums.{three, partOf, chromaRows, Begun, Reaches, RunOf};
 
 // What the chroma of a pixel adds to red, to green and to blue, in units of 1/65536 of a step of 0 to 255.
 pub struct Chroma {
@@ -1319,19 +1318,58 @@ pub fn all_tables() -> [i32; 1280]
     TABLES
 }
 
-// What Cb and Cr add.
-fn chroma_of(tables: &[i32], cb: u8, cr: u8) -> Chroma
-    requires { ⌜ now tables ≡ contributions ⌝ }
-    ensures { λ r. ⌜ (r ≡ chromaOf cb cr) × Nearby r ⌝ }
+// What chroma sample i adds by itself: Cb 0 to 255, and behind them Cr, these with the half.
+fn part_of(tables: &[i32], i: usize) -> Chroma
+    requires { ⌜ (now tables ≡ contributions) × (i < 512) ⌝ }
+    ensures { λ r. ⌜ r ≡ partOf i ⌝ }
 {
-    let u = cb as usize;
-    let v = cr as usize;
-    let red = tables[256 + v];
-    let green_cb = tables[512 + u];
-    let green_cr = tables[768 + v];
-    let blue = tables[1024 + u];
-    let green = green_cb + green_cr;
-    Chroma { red, green, blue }
+    let other = tables[512 + i];
+    if i < 256 {
+        let blue = tables[1024 + i];
+        return Chroma {
+            red: 0,
+            green: other,
+            blue,
+        };
+    }
+    let red = tables[i] + 32768;
+    let green = other + 32768;
+    Chroma {
+        red,
+        green,
+        blue: 32768,
+    }
+}
+
+// Puts a part at three places, from `at` on.
+fn put_part(c: Chroma, rows: &mut [i32], at: usize)
+    requires { ⌜ at + 3 ≤ length (now rows) ⌝ }
+    ensures { λ _. ⌜ take (at + 3) (now (rows .exit)) ≡ take at (now (rows .entry)) ++ three c ⌝ }
+{
+    let red = c.red;
+    let green = c.green;
+    let blue = c.blue;
+    rows[at] = red;
+    rows[at + 1] = green;
+    rows[at + 2] = blue;
+}
+
+// What each chroma sample adds, three times over: so the bytes of two pixels, and two more, are sums of neighbours in memory,
+// which the compiler makes four at a time. Whoever converts a frame makes them once.
+fn chroma_rows(tables: &[i32]) -> [i32; 4608]
+    requires { ⌜ now tables ≡ contributions ⌝ }
+    ensures { λ r. ⌜ r ≡ chromaRows ⌝ }
+{
+    let mut rows = [0i32; 4608];
+    let mut k: usize = 0;
+    while k < 512 {
+        let c = part_of(tables, k);
+        put_part(c, &mut rows, 9 * k);
+        put_part(c, &mut rows, 9 * k + 3);
+        put_part(c, &mut rows, 9 * k + 6);
+        k += 1;
+    }
+    rows
 }
 
 // From a sum of contributions, with the half, to a byte.
@@ -1341,112 +1379,110 @@ fn to_byte(sum: i32) -> u8
     numeric::clamp_to_byte(sum >> 16)
 }
 
-// The 48 bytes of 16 pixels, from their sums. They are made in an array of their own, so that it is a few vector instructions.
-fn to_bytes(sums: &[i32]) -> [u8; 48]
-    requires { ⌜ length (now sums) ≡ 48 ⌝ }
-    ensures { λ r. ⌜ r ≡ map toByte (now (sums .entry)) ⌝ }
-{
-    let mut t = [0u8; 48];
-    let mut i: usize = 0;
-    while i < 48 {
-        t[i] = to_byte(sums[i]);
-        i += 1;
-    }
-    t
-}
-
-// Puts the sums of the pixel with luma y and that chroma at three places, from `at` on.
-fn put_sums(tables: &[i32], y: u8, c: Chroma, sums: &mut [i32], at: usize)
-    requires { ⌜ (now tables ≡ contributions) × Nearby c × (at + 3 ≤ length (now sums)) ⌝ }
-    ensures { λ _. ⌜ now (sums .exit) ≡ threeAt at y c (now (sums .entry)) ⌝ }
-{
-    let light = tables[y as usize] + 32768;
-    let red = c.red;
-    let green = c.green;
-    let blue = c.blue;
-    sums[at] = light + red;
-    sums[at + 1] = light + green;
-    sums[at + 2] = light + blue;
-}
-
-// n, or 8 where it is more. The compiler does not see that it is 8 in `pair_sums`, and keeps the loop there: written out
-// eight times it holds all sums in memory twice, and takes a third longer.
-fn at_most_8(n: usize) -> usize
-    ensures { λ r. ⌜ r ≡ min n 8 ⌝ }
-{
-    if n < 8 {
-        return n;
-    }
-    8
-}
-
-// The sums of 16 pixels of a row where each chroma sample serves two, from the chroma sample `at` on.
-fn pair_sums(tables: &[i32], luma: &[u8], cb: &[u8], cr: &[u8], at: usize) -> [i32; 48]
-    requires { ⌜ (now tables ≡ contributions) × (2 * at + 16 ≤ length (now luma)) × (at + 8 ≤ length (now cb)) × (at + 8 ≤ length (now cr)) ⌝ }
-    ensures { λ r. ⌜ r ≡ inTurn (λ k. sumsAt (λ x. x / 2) (now (luma .entry)) (now (cb .entry)) (now (cr .entry)) (2 * at + k)) 16 ⌝ }
-{
-    let n = at_most_8(cb.len() - at);
-    let mut sums = [0i32; 48];
-    let mut k: usize = 0;
-    while k < n {
-        let u = at + k;
-        let x = 2 * u;
-        let c = chroma_of(tables, cb[u], cr[u]);
-        put_sums(tables, luma[x], c, &mut sums, 6 * k);
-        put_sums(tables, luma[x + 1], c, &mut sums, 6 * k + 3);
-        k += 1;
-    }
-    sums
-}
-
-// The sums of 16 pixels of a row where each pixel has chroma samples of its own, from `at` on.
-fn single_sums(tables: &[i32], luma: &[u8], cb: &[u8], cr: &[u8], at: usize) -> [i32; 48]
-    requires { ⌜ (now tables ≡ contributions) × (at + 16 ≤ length (now luma)) × (at + 16 ≤ length (now cb)) × (at + 16 ≤ length (now cr)) ⌝ }
-    ensures { λ r. ⌜ r ≡ inTurn (λ k. sumsAt (λ x. x) (now (luma .entry)) (now (cb .entry)) (now (cr .entry)) (at + k)) 16 ⌝ }
-{
-    let mut sums = [0i32; 48];
-    let mut k: usize = 0;
-    while k < 16 {
-        let x = at + k;
-        let c = chroma_of(tables, cb[x], cr[x]);
-        put_sums(tables, luma[x], c, &mut sums, 3 * k);
-        k += 1;
-    }
-    sums
-}
-
-// The sums of 16 pixels of a row, from `at` on.
-fn sums_of(
-    format: PixelFormat,
+// Puts n bytes from `at` on: red, green and blue of a pixel, and as many of red and green again as shall be written over.
+// `first` is where in a row of nine the pixel begins.
+fn put_pixel(
     tables: &[i32],
+    rows: &[i32],
+    y: u8,
+    cb: u8,
+    cr: u8,
+    first: usize,
+    n: usize,
+    out: &mut [u8],
+    at: usize,
+)
+    requires { ⌜ (now tables ≡ contributions) × (now rows ≡ chromaRows) × (first % 3 ≡ 0) × (first + n ≤ 9) × (3 ≤ n) × (at + n ≤ length (now out)) ⌝ }
+    ensures { λ _. ⌜ take (at + 3) (now (out .exit)) ≡ take at (now (out .entry)) ++ colours y cb cr ⌝ }
+{
+    let light = tables[y as usize];
+    let u = 9 * (cb as usize) + first;
+    let v = 2304 + 9 * (cr as usize) + first;
+    let mut j: usize = 0;
+    while j < n {
+        let one = rows[u + j];
+        let two = rows[v + j];
+        let sum = one + two + light;
+        out[at + j] = to_byte(sum);
+        j += 1;
+    }
+}
+
+// Pixels 2 k and 2 k + 1 of a row, which share their chroma samples; n bytes for the second one.
+fn put_pair(
+    tables: &[i32],
+    rows: &[i32],
     luma: &[u8],
     cb: &[u8],
     cr: &[u8],
-    at: usize,
-) -> [i32; 48]
-    requires { ⌜ (now tables ≡ contributions) × Reaches format (length (now luma)) (length (now cb)) (length (now cr)) × (at + 16 ≤ length (now luma)) × (at % 16 ≡ 0) ⌝ }
-    ensures { λ r. ⌜ r ≡ inTurn (λ k. sumsAt (chromaColumn format) (now (luma .entry)) (now (cb .entry)) (now (cr .entry)) (at + k)) 16 ⌝ }
+    k: usize,
+    n: usize,
+    out: &mut [u8],
+)
+    requires { ⌜ (now tables ≡ contributions) × (now rows ≡ chromaRows) × (2 * k + 2 ≤ length (now luma)) × (k < length (now cb)) × (k < length (now cr)) ⌝ }
+    requires { ⌜ (n ≤ 6) × (3 ≤ n) × (6 * k + 3 + n ≤ length (now out)) × Begun (λ x. x / 2) (now luma) (now cb) (now cr) (2 * k) (now out) ⌝ }
+    ensures { λ _. ⌜ Begun (λ x. x / 2) (now (luma .entry)) (now (cb .entry)) (now (cr .entry)) (2 * (k + 1)) (now (out .exit)) ⌝ }
 {
-    match format {
-        PixelFormat::Chroma420 => pair_sums(tables, luma, cb, cr, at / 2),
-        PixelFormat::Chroma422 => pair_sums(tables, luma, cb, cr, at / 2),
-        PixelFormat::Chroma444 => single_sums(tables, luma, cb, cr, at),
+    let y = luma[2 * k];
+    let z = luma[2 * k + 1];
+    let u = cb[k];
+    let v = cr[k];
+    put_pixel(tables, rows, y, u, v, 0, 3, out, 6 * k);
+    put_pixel(tables, rows, z, u, v, 3, n, out, 6 * k + 3);
+}
+
+// A row in which each chroma sample serves two pixels. Eight bytes are written for each pair: the next pair writes over two
+// of them, and the last pair has six.
+fn write_pairs(tables: &[i32], rows: &[i32], luma: &[u8], cb: &[u8], cr: &[u8], out: &mut [u8])
+    requires { ⌜ (now tables ≡ contributions) × (now rows ≡ chromaRows) × (length (now luma) % 2 ≡ 0) × (length (now out) ≡ 3 * length (now luma)) ⌝ }
+    requires { ⌜ (length (now luma) ≤ 2 * length (now cb)) × (length (now luma) ≤ 2 * length (now cr)) ⌝ }
+    ensures { λ _. ⌜ now (out .exit) ≡ rowOf (λ x. x / 2) (now (luma .entry)) (now (cb .entry)) (now (cr .entry)) ⌝ }
+{
+    let mut k: usize = 0;
+    while 2 * k + 2 < luma.len() {
+        put_pair(tables, rows, luma, cb, cr, k, 5, out);
+        k += 1;
+    }
+    if 2 * k < luma.len() {
+        put_pair(tables, rows, luma, cb, cr, k, 3, out);
     }
 }
 
-// A row of pixels, of a row of each plane.
-fn write_row(format: PixelFormat, tables: &[i32], luma: &[u8], cb: &[u8], cr: &[u8], out: &mut [u8])
-    requires { ⌜ (now tables ≡ contributions) × Reaches format (length (now luma)) (length (now cb)) (length (now cr)) ⌝ }
+// A row in which each pixel has chroma samples of its own. Four bytes are written for each: the next pixel writes over one
+// of them, and the last pixel has three.
+fn write_singles(tables: &[i32], rows: &[i32], luma: &[u8], cb: &[u8], cr: &[u8], out: &mut [u8])
+    requires { ⌜ (now tables ≡ contributions) × (now rows ≡ chromaRows) × (length (now out) ≡ 3 * length (now luma)) ⌝ }
+    requires { ⌜ (length (now luma) ≤ length (now cb)) × (length (now luma) ≤ length (now cr)) ⌝ }
+    ensures { λ _. ⌜ now (out .exit) ≡ rowOf (λ x. x) (now (luma .entry)) (now (cb .entry)) (now (cr .entry)) ⌝ }
+{
+    let mut x: usize = 0;
+    while x + 1 < luma.len() {
+        put_pixel(tables, rows, luma[x], cb[x], cr[x], 0, 4, out, 3 * x);
+        x += 1;
+    }
+    if x < luma.len() {
+        put_pixel(tables, rows, luma[x], cb[x], cr[x], 0, 3, out, 3 * x);
+    }
+}
+
+// A row of pixels, of a row of each plane. Each way is called at one place, so that it becomes part of this function, and the
+// compiler sees that the tables are not written to.
+fn write_row(
+    format: PixelFormat,
+    tables: &[i32],
+    rows: &[i32],
+    luma: &[u8],
+    cb: &[u8],
+    cr: &[u8],
+    out: &mut [u8],
+)
+    requires { ⌜ (now tables ≡ contributions) × (now rows ≡ chromaRows) × Reaches format (length (now luma)) (length (now cb)) (length (now cr)) ⌝ }
     requires { ⌜ (length (now luma) % 16 ≡ 0) × (length (now out) ≡ 3 * length (now luma)) ⌝ }
     ensures { λ _. ⌜ now (out .exit) ≡ rowOf (chromaColumn format) (now (luma .entry)) (now (cb .entry)) (now (cr .entry)) ⌝ }
 {
-    let mut x: usize = 0;
-    let mut at: usize = 0;
-    while x < luma.len() {
-        let sums = sums_of(format, tables, luma, cb, cr, x);
-        let bytes = to_bytes(&sums);
-        at = output::put(out, at, &bytes);
-        x += 16;
+    match format {
+        PixelFormat::Chroma444 => write_singles(tables, rows, luma, cb, cr, out),
+        _ => write_pairs(tables, rows, luma, cb, cr, out),
     }
 }
 
@@ -1483,10 +1519,11 @@ fn write_picture_row(
     h: u64,
     y: u64,
     tables: &[i32],
+    rows: &[i32],
     planes: &[u8],
     out: &mut [u8],
 )
-    requires { ⌜ (w ≤ largest) × (h ≤ largest) × (y < 16 * h) × (now tables ≡ contributions) × (length (now planes) ≡ 64 * blocksOf format w h) × (length (now out) ≡ 48 * w) ⌝ }
+    requires { ⌜ (w ≤ largest) × (h ≤ largest) × (y < 16 * h) × (now tables ≡ contributions) × (now rows ≡ chromaRows) × (length (now planes) ≡ 64 * blocksOf format w h) × (length (now out) ≡ 48 * w) ⌝ }
     ensures { λ _. ⌜ now (out .exit) ≡ pictureRow format w h (now (planes .entry)) y ⌝ }
 {
     let v = chroma_row(format, y);
@@ -1502,6 +1539,7 @@ fn write_picture_row(
     write_row(
         format,
         tables,
+        rows,
         &planes[a0..a1],
         &planes[b0..b1],
         &planes[c0..c1],
@@ -1510,8 +1548,16 @@ fn write_picture_row(
 }
 
 // The whole coded frame, top row first.
-fn write_picture(format: PixelFormat, w: u64, h: u64, tables: &[i32], planes: &[u8], out: &mut [u8])
-    requires { ⌜ (w ≤ largest) × (h ≤ largest) × (now tables ≡ contributions) × (length (now planes) ≡ 64 * blocksOf format w h) × (768 * (h * w) ≤ length (now out)) ⌝ }
+fn write_picture(
+    format: PixelFormat,
+    w: u64,
+    h: u64,
+    tables: &[i32],
+    rows: &[i32],
+    planes: &[u8],
+    out: &mut [u8],
+)
+    requires { ⌜ (w ≤ largest) × (h ≤ largest) × (now tables ≡ contributions) × (now rows ≡ chromaRows) × (length (now planes) ≡ 64 * blocksOf format w h) × (768 * (h * w) ≤ length (now out)) ⌝ }
     ensures { λ _. ⌜ now (out .exit) ≡ spliced 0 (picture format w h (now (planes .entry))) (now (out .entry)) ⌝ }
 {
     let row = (48 * w) as usize;
@@ -1520,7 +1566,7 @@ fn write_picture(format: PixelFormat, w: u64, h: u64, tables: &[i32], planes: &[
     while 0 < y {
         y -= 1;
         let end = at + row;
-        write_picture_row(format, w, h, y, tables, planes, &mut out[at..end]);
+        write_picture_row(format, w, h, y, tables, rows, planes, &mut out[at..end]);
         at = end;
     }
 }
@@ -1550,6 +1596,7 @@ pub fn convert(s: Session, planes: &[u8], out: &mut [u8]) -> Written
         return Written::Refused(bitstream::SHORT_OUTPUT, 0);
     }
     let tables = all_tables();
-    write_picture(format, w, h, &tables, planes, out);
+    let rows = chroma_rows(&tables);
+    write_picture(format, w, h, &tables, &rows, planes, out);
     Written::Bytes(n)
 }

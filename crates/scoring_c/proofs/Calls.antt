@@ -13,7 +13,8 @@ use Rattle.y4m.specs.Film.{Holds, asFilm, planesBy}
 use Rattle.settings.specs.declared.Settings.{Settings}
 use Rattle.settings.specs.declared.Loaded.{Loaded}
 use Rattle.settings.specs.Settings.{settingsText, asLoaded, read}
-use Rattle.scoring_c.specs.Face.{behind, wroteReturned, filmReturned, filmCall, planesLeft, settingsOf, textCall, loadedReturned, readCall}
+use Rattle.settings_list.specs.List.{settingsOf}
+use Rattle.scoring_c.specs.Face.{behind, wroteReturned, filmReturned, filmCall, planesLeft, textCall, loadedReturned, readCall}
 
 module _ (session : List ℕ) (room : ℕ) where
   module _ (call : Session → Output) (list out : List ℕ) where

@@ -7,6 +7,7 @@ use Rattle.bitstream.specs.Reading.{choose}
 use Rattle.bitstream.specs.Numbers.{wrongLength}
 use Rattle.headers.specs.declared.Session.{Session}
 use Rattle.session_list.specs.List.{Returned, gives, sessionOf, listsNumber}
+use Rattle.settings_list.specs.List.{settingsOf}
 use Rattle.output.specs.declared.Written.{Written}
 use Rattle.output.specs.declared.Written.the-variants.{Bytes, Refused}
 use Rattle.output.specs.Output.{Output}
@@ -48,10 +49,6 @@ filmCall old answer = choose (eqb (length old) 8) (filmReturned old answer) (giv
 
 unfoldable pub planesLeft : ℕ → Holds → List ℕ → List ℕ
 planesLeft list film planes = choose (eqb list 8) (planesBy film planes) planes
-
--- settings as four numbers
-unfoldable pub settingsOf : List ℕ → Settings
-settingsOf l = record { tile = getD l 0 0; «shot_first» = getD l 1 0; «shot_last» = getD l 2 0; plane = getD l 3 0 }
 
 unfoldable pub textCall : ℕ → List ℕ → ℕ → ℕ → Output
 textCall version list room bytes = choose (eqb (length list) 4) (choose (eqb bytes 1) (settingsText version (settingsOf list) room) (Output.refused wrongLength)) (Output.refused wrongLength)

@@ -11,7 +11,8 @@ ghost use Rattle.output.specs.Output.{leftBy, asWritten};
 ghost use Rattle.y4m.specs.Film.{filmIn, asFilm};
 ghost use Rattle.settings.specs.Settings.{asLoaded, read};
 ghost use Rattle.session_list.specs.List.{gives};
-ghost use Rattle.scoring_c.specs.Face.{wroteReturned, filmReturned, loadedReturned, streamCall, headerCall, frameCall, planesLeft, filmCall, settingsOf, textCall, readCall};
+ghost use Rattle.settings_list.specs.List.{settingsOf};
+ghost use Rattle.scoring_c.specs.Face.{wroteReturned, filmReturned, loadedReturned, streamCall, headerCall, frameCall, planesLeft, filmCall, textCall, readCall};
 
 // Tells how many bytes were written.
 fn tell(answer: Written, list: &mut [u64]) -> u32
@@ -49,18 +50,6 @@ fn tell_film(answer: FilmAnswer, list: &mut [u64]) -> u32
             0
         }
         FilmAnswer::Refused(k, _) => k,
-    }
-}
-
-fn settings_of(list: &[u64]) -> Settings
-    requires { ⌜ length (now list) ≡ 4 ⌝ }
-    ensures { λ r. ⌜ r ≡ settingsOf (now (list .entry)) ⌝ }
-{
-    Settings {
-        tile: list[0],
-        shot_first: list[1],
-        shot_last: list[2],
-        plane: list[3],
     }
 }
 
@@ -162,7 +151,7 @@ pub extern "C" fn wedgepetal_settings_write(
     if bytes.len() != 1 {
         return bitstream::WRONG_LENGTH;
     }
-    let s = settings_of(list);
+    let s = settings_list::settings_of(list);
     tell(settings::write(version, s, out), bytes)
 }
 
@@ -174,6 +163,6 @@ pub extern "C" fn wedgepetal_settings_read(version: u64, text: &[u8], list: &mut
     if list.len() != 4 {
         return bitstream::WRONG_LENGTH;
     }
-    let s = settings_of(list);
+    let s = settings_list::settings_of(list);
     tell_settings(settings::read(version, text, s), list)
 }

@@ -32,7 +32,8 @@ enum Found {
     Not(u32),
 }
 
-fn settings_fit(s: Settings) -> bool
+// Whether settings are in their ranges: else 20.
+pub fn settings_fit(s: Settings) -> bool
     ensures { λ r. ⌜ r ≡ settingsFit s ⌝ }
 {
     ((s.tile == 8) | (s.tile == 16) | (s.tile == 32))

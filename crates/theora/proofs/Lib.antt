@@ -5,6 +5,7 @@ pub mod LeftBySetup
 pub mod Demand
 pub mod Places
 pub mod Tokens
+pub mod First
 pub mod KeyFrames
 pub mod Padding
 pub mod Promised

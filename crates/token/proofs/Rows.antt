@@ -1,14 +1,17 @@
 -- The table of rows: what holds of each row, found by one test over the table. Assumes nothing.
-use Prim.Native.Nat.{ℕ, zero, suc, _+_, _*_, _/_, _%_, _≤_, _<_}
+use Prim.Native.Nat.{ℕ, zero, suc, _+_, _*_, _/_, _%_, _^_, _≤_, _<_}
 use native.Mathlib.Omega.{arith}
-use mathlib.Core.Path.{_≡_, refl}
+use native.Mathlib.Nat.{zero-add}
+use mathlib.Core.Path.{_≡_, refl, ap, _∙_}
 use mathlib.Core.List.{List, [], _∷_}
 use mathlib.Core.Bool.{Bool, true, false}
-use lib.Dec.{T, leb, leb→le}
-use lib.ListN.{length, getD, List·getD-map}
+use lib.Dec.{T, leb, ltb, leb→le}
+use lib.ListN.{length, getD, List·getD-map, List·getD-eq-default}
+use borrow.Author.Tests.{ltb-true, ltb-false}
+use Rattle.bitstream.proofs.Lists.{tabulated-length, tabulated-at}
 use Rattle.bitstream.proofs.Table.{both, both-left, both-right}
 use Rattle.token.specs.Token.{Row, counted, rows, rowOf}
-use Rattle.token.specs.Answer.{asExtra, packed, packedRows, Small}
+use Rattle.token.specs.Answer.{asExtra, packed, unpacked, packedRows, Small, extraBits, valueOf, tokenValues}
 
 -- the test passes at each row and at the row that stands for a number past the table
 abbrev pub every : (Row → Bool) → List Row → Bool
@@ -56,8 +59,31 @@ module _ (t : ℕ) where
 
   -- the six numbers of a row, taken out of the one
   pub row-unpacked : (n : ℕ) → n ≡ packed (rowOf t)
-      → record { 0 = n / 16777216; 1 = n / 1048576 % 16; 2 = n / 4096 % 256; 3 = n / 256 % 16; 4 = n / 16 % 16; 5 = n % 16 } ≡ asExtra (rowOf t)
+      → unpacked n ≡ asExtra (rowOf t)
   row-unpacked n h =
       let r = rowOf t in
       let d = digits (r .signBase) (r .signBits) (r .sizeBase) (r .sizeBits) (r .zeroBase) (r .zeroBits) n (omega (arith, bits-most)) (omega (arith, size-base-most)) (omega (arith, bits-most)) (omega (arith, zero-base-most)) (omega (arith, bits-most)) h in
       λ i. record { 0 = d .0 i; 1 = d .1 i; 2 = d .2 i; 3 = d .3 i; 4 = d .4 i; 5 = d .5 i }
+
+  -- a row is below 2 ^ 28, and says how many extra bits there are
+  pub packed-lt : packed (rowOf t) < 2 ^ 28
+  packed-lt = omega (arith, sign-base-most, size-base-most, zero-base-most, bits-most)
+
+  pub bits-of-row : (n : ℕ) → n ≡ packed (rowOf t) → n / 1048576 % 16 + n / 256 % 16 + n % 16 ≡ extraBits t
+  bits-of-row n h = let e = row-unpacked n h in λ i. e i .1 + e i .3 + e i .5
+
+-- ---- the values of tokens
+pub value-at : (t : ℕ) → t < 32 → getD tokenValues t 0 ≡ valueOf t
+unfolding tokenValues
+value-at t h = tabulated-at valueOf 0 32 t h ∙ ap valueOf (zero-add t)
+
+pub values-length : length tokenValues ≡ 32
+unfolding tokenValues
+values-length = tabulated-length valueOf 0 32
+
+pub value-small : (t : ℕ) → getD tokenValues t 0 < 2 ^ 60
+value-small t = go (ltb t 32) refl
+  where
+    go : (b : Bool) → ltb t 32 ≡ b → getD tokenValues t 0 < 2 ^ 60
+    go true b = let h = ltb-true t 32 b in rw (value-at t h) (omega (arith, h, packed-lt t, bits-most t))
+    go false b = rw (List·getD-eq-default tokenValues 0 {n = t} (omega (arith, values-length, ltb-false t 32 b))) (omega arith)

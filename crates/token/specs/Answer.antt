@@ -1,8 +1,9 @@
 -- What the code answers, as outcomes of the reading algebra.
 use Prim.Native.Nat.{ℕ, _+_, _*_, _/_, _%_, _^_, _≤_}
 use mathlib.Core.List.{List, map}
+use Rattle.bitstream.specs.Lists.{tabulated}
 use Rattle.bitstream.specs.Reading.{Outcome, got, refused}
-use Rattle.token.specs.Token.{Meaning, endOfBlock, zeroRun, coefficient, Row, rows}
+use Rattle.token.specs.Token.{Meaning, endOfBlock, zeroRun, coefficient, Row, rows, rowOf}
 use Rattle.token.specs.declared.Token.{Token}
 use Rattle.token.specs.declared.Token.the-variants.{EndOfBlock, ZeroRun, Coefficient, Refused}
 use Rattle.token.specs.declared.Extra.{Extra}
@@ -24,6 +25,21 @@ packed r = ((((r .signBase * 16 + r .signBits) * 256 + r .sizeBase) * 16 + r .si
 
 unfoldable pub packedRows : List ℕ
 packedRows = map packed rows
+
+-- the six numbers of a row, out of the one
+abbrev pub unpacked : ℕ → Extra
+unpacked n = record { 0 = n / 16777216; 1 = n / 1048576 % 16; 2 = n / 4096 % 256; 3 = n / 256 % 16; 4 = n / 16 % 16; 5 = n % 16 }
+
+-- how many extra bits the token t has
+abbrev pub extraBits : ℕ → ℕ
+extraBits t = rowOf t .signBits + rowOf t .sizeBits + rowOf t .zeroBits
+
+-- the value of the token t: its row, its number and its extra bits as one number; the values of all tokens
+abbrev pub valueOf : ℕ → ℕ
+valueOf t = packed (rowOf t) + t * 2 ^ 28 + extraBits t * 2 ^ 36
+
+unfoldable pub tokenValues : List ℕ
+tokenValues = tabulated valueOf 0 32
 
 -- how large the numbers of a row are
 pub record Small (r : Extra) : Type 0 where

@@ -1,13 +1,13 @@
 // Reads the extra bits of a token.
 use bitstream::Field;
 ghost use mathlib.Core.Path.{_≡_};
-ghost use Prim.Native.Nat.{_+_, _<_, _≤_, _%_, _^_};
+ghost use Prim.Native.Nat.{_+_, _<_, _≤_, _/_, _%_, _^_};
 ghost use lib.ListN.{length};
 ghost use Rattle.bitstream.specs.Bits.{longest};
 ghost use Rattle.bitstream.specs.Reading.{got, whole};
 ghost use Rattle.token.specs.Token.{extra, meaning, rowOf};
 ghost use Rattle.numeric.specs.Sign.{withSign};
-ghost use Rattle.token.specs.Answer.{asToken, asExtra, packedRows, Small, signOf, sizeOf, zerosOf};
+ghost use Rattle.token.specs.Answer.{asToken, asExtra, packed, unpacked, packedRows, tokenValues, Small, signOf, sizeOf, zerosOf};
 
 // What a token means, and the bit place behind it: an end-of-block run of so many blocks, a run of zeros, or zeros and then a value.
 // Or the number of the refusal and its place.
@@ -64,11 +64,60 @@ pub fn all_rows() -> [u32; 32]
     ROWS
 }
 
-fn extra_of(rows: &[u32], t: usize) -> Extra
-    requires { ⌜ (now rows ≡ packedRows) × (t < 32) ⌝ }
-    ensures { λ r. ⌜ (r ≡ asExtra (rowOf t)) × Small r ⌝ }
+// A value for each token: its row, its number times 2 ^ 28, and how many extra bits it has times 2 ^ 36.
+const VALUES: [u64; 32] = [
+    0x1000,
+    0x10002000,
+    0x20003000,
+    0x2030004200,
+    0x3040008300,
+    0x4050010400,
+    0xc060000c00,
+    0x3070001300,
+    0x6080001600,
+    0x90001000,
+    0xa1001000,
+    0xb0002000,
+    0xc1002000,
+    0x10d0103000,
+    0x10e0104000,
+    0x10f0105000,
+    0x1100106000,
+    0x2110107100,
+    0x3120109200,
+    0x413010d300,
+    0x5140115400,
+    0x6150125500,
+    0xa160145900,
+    0x1170101010,
+    0x1180101020,
+    0x1190101030,
+    0x11a0101040,
+    0x11b0101050,
+    0x31c0101062,
+    0x41d01010a3,
+    0x21e0102110,
+    0x31f0102121,
+];
+
+// The values of all tokens, for a lookup whose entries add the bits of a code.
+pub fn all_values() -> [u64; 32]
+    ensures { λ r. ⌜ r ≡ tokenValues ⌝ }
 {
-    let row = rows[t];
+    VALUES
+}
+
+// How many extra bits a row says.
+pub fn extra_bits(row: u32) -> usize
+    ensures { λ r. ⌜ r ≡ row / 0x100000 % 16 + row / 0x100 % 16 + row % 16 ⌝ }
+{
+    (row / 0x100000 % 16 + row / 0x100 % 16 + row % 16) as usize
+}
+
+// The six numbers of a row.
+fn unpacked(row: u32) -> Extra
+    ensures { λ r. ⌜ r ≡ unpacked row ⌝ }
+{
     let sign_base = (row / 0x1000000) as u8;
     let sign_bits = (row / 0x100000 % 16) as u8;
     let size_base = (row / 0x1000 % 256) as u8;
@@ -83,6 +132,13 @@ fn extra_of(rows: &[u32], t: usize) -> Extra
         zero_base,
         zero_bits,
     )
+}
+
+fn extra_of(rows: &[u32], t: usize) -> Extra
+    requires { ⌜ (now rows ≡ packedRows) × (t < 32) ⌝ }
+    ensures { λ r. ⌜ (r ≡ asExtra (rowOf t)) × Small r ⌝ }
+{
+    unpacked(rows[t])
 }
 
 // The low n bits of x.
@@ -120,6 +176,14 @@ fn meaning_of(t: usize, row: Extra, x: u32, next: usize) -> Token
     let zeros = row.4 as u16 + low(x, row.5 as usize) as u16;
     let value = value_of(sign, size);
     Token::Coefficient(zeros, value, next)
+}
+
+// What the token t means whose row is lent as one number, where its extra bits are the number x.
+pub fn meaning_by(t: usize, row: u32, x: u32, next: usize) -> Token
+    requires { ⌜ (row ≡ packed (rowOf t)) × (x < 2 ^ 16) ⌝ }
+    ensures { λ r. ⌜ r ≡ asToken (got (meaning t (signOf (rowOf t) x) (sizeOf (rowOf t) x) (zerosOf (rowOf t) x)) next) ⌝ }
+{
+    meaning_of(t, unpacked(row), x, next)
 }
 
 // The extra bits of the token t, read as one field, by the rows of all tokens.

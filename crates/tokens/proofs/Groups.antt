@@ -35,7 +35,7 @@ same-group k h =
 
 -- ---- a lookup before the first position, after the choices were read, and at the next position
 module _ (nodes : List ℕ) where
-  pub current-start : (choice : ℕ) (lookup : List ℕ) → length lookup ≡ 128 → Current nodes 0 choice lookup
+  pub current-start : (choice : ℕ) (lookup : List ℕ) → length lookup ≡ 256 → Current nodes 0 choice lookup
   current-start choice lookup h = (h, λ b. absurd (omega (arith, inside 0 b)))
 
   pub current-chosen : (k : ℕ) (ch : Choices) (p : List ℕ) (i : ℕ) {ch′ : Choices} {e : ℕ} → choices k ch p i ≡ got ch′ e → (of : Choices → ℕ) (lookup : List ℕ) → Current nodes k (of ch) lookup → Current nodes k (of ch′) lookup

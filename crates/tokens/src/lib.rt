@@ -3,15 +3,15 @@ use bitstream::Field;
 use bitstream::Two;
 use token::Token;
 ghost use mathlib.Core.Path.{_≡_};
-ghost use Prim.Native.Nat.{_+_, _-_, _*_, _<_, _≤_, _^_};
+ghost use Prim.Native.Nat.{_+_, _-_, _*_, _/_, _%_, _<_, _≤_, _^_};
 ghost use mathlib.Core.List.{[], _∷_};
 ghost use lib.ListN.{length, getD, take, drop};
 ghost use Rattle.bitstream.specs.Bits.{longest};
-ghost use Rattle.token.specs.Answer.{asToken, packedRows};
+ghost use Rattle.token.specs.Token.{rowOf};
+ghost use Rattle.token.specs.Answer.{asToken, packed, packedRows};
 ghost use Rattle.huffman.specs.Code.{treeOf, Formed};
-ghost use Rattle.huffman.specs.Lookup.{Lookup};
 ghost use Rattle.tokens.specs.Tokens.{token, stateOf, unfinished, runOf, readFor, visit, pass, group, choices, choicesOf, ranks, atPosition, positionsFrom, readTokens};
-ghost use Rattle.tokens.specs.Answer.{Visited, Shape, room, Below, unfinishedOf, KeptOne, KeptActive, asChosen, Tables, nodesAt, beginsGroup, Ready, Current, treeAt, treesOf, AllOpen, asCounted, Cleared, Stored, Untouched};
+ghost use Rattle.tokens.specs.Answer.{Visited, Lookup, Entry, tokenBy, outcomeOf, acted, Shape, room, Below, unfinishedOf, dueOf, oneIfDue, KeptOne, KeptActive, asChosen, Tables, nodesAt, beginsGroup, Ready, Current, treeAt, treesOf, AllOpen, asCounted, Cleared, Stored, Untouched};
 
 // The place behind what was read, what is left of the end-of-block run, and how many tokens were read so far. Or the number of the refusal and its place.
 enum Visit {
@@ -31,12 +31,12 @@ pub enum Counted {
     Refused(u32, usize),
 }
 
-// A token at the place `at`, by the table of nodes and its lookup. The rows say which extra bits it has.
-fn read_token(packet: &[u8], at: usize, nodes: &[u8], lookup: &[u16], rows: &[u32]) -> Token
-    requires { ⌜ (length (now packet) ≤ longest) × Formed (now nodes) × Lookup (now nodes) (now lookup) × (now rows ≡ packedRows) ⌝ }
+// A token at the place `at`, by the table of nodes alone. The rows say which extra bits it has.
+fn read_token(packet: &[u8], at: usize, nodes: &[u8], rows: &[u32]) -> Token
+    requires { ⌜ (length (now packet) ≤ longest) × Formed (now nodes) × (now rows ≡ packedRows) ⌝ }
     ensures { λ r. ⌜ r ≡ asToken (token (treeOf (now (nodes .entry))) (now (packet .entry)) at) ⌝ }
 {
-    let code = huffman::read_code_by(packet, at, nodes, lookup);
+    let code = huffman::read_code(packet, at, nodes);
     let Field::Got(t, next) = code else {
         return Token::Refused(bitstream::PACKET_ENDS, at);
     };
@@ -45,6 +45,35 @@ fn read_token(packet: &[u8], at: usize, nodes: &[u8], lookup: &[u16], rows: &[u3
         return Token::Refused(number, at);
     }
     whole
+}
+
+// The entry of the lookup for the eight bits at the place `at`; 0 near the packet's end, where a code may be cut.
+fn entry_at(packet: &[u8], at: usize, lookup: &[u64]) -> u64
+    requires { ⌜ length (now lookup) ≡ 256 ⌝ }
+    ensures { λ r. ⌜ Entry (now (packet .entry)) at (now (lookup .entry)) r ⌝ }
+{
+    if packet.len() < at / 8 + 8 {
+        return 0;
+    }
+    let window = bitstream::window(packet, at);
+    let first = ((window >> (56 - at % 8)) % 256) as usize;
+    lookup[first]
+}
+
+// The token of an entry: one load behind the window tells its row and all its bits, where the tree, the token and its row were three, one after the other.
+// Its extra bits come out of the same window.
+fn token_by(entry: u64, window: u64, at: usize) -> Token
+    requires { ⌜ (entry % 0x10000000 ≡ packed (rowOf (entry / 0x10000000 % 32))) × (entry / 0x1000000000 ≤ 20) × (at < 2 ^ 62) ⌝ }
+    ensures { λ r. ⌜ r ≡ asToken (tokenBy entry window at) ⌝ }
+{
+    let row = (entry % 0x10000000) as u32;
+    let t = (entry / 0x10000000 % 32) as usize;
+    let bits = (entry / 0x1000000000) as usize;
+    let width = token::extra_bits(row);
+    // halved first, so that the shift is below 64 even where a token has no bits
+    let halved = window / 2;
+    let x = ((halved >> (63 - at % 8 - bits)) % (1 << width)) as u32;
+    token::meaning_by(t, row, x, at + bits)
 }
 
 // 1 for an unfinished block, by its position.
@@ -80,13 +109,10 @@ fn run_of(positions: &[u8], n: u16) -> usize
     n as usize
 }
 
-// A token for the block b, which stands at the position k.
-fn read_for(
-    packet: &[u8],
+// What a token whose code stands at the place `at` does for the block b, which stands at the position k.
+fn act_on(
+    token: Token,
     at: usize,
-    nodes: &[u8],
-    lookup: &[u16],
-    rows: &[u32],
     k: usize,
     b: usize,
     run: usize,
@@ -95,11 +121,9 @@ fn read_for(
     lasts: &mut [u8],
     coefs: &mut [i16],
 ) -> Visit
-    requires { ⌜ (length (now packet) ≤ longest) × Formed (now nodes) × Lookup (now nodes) (now lookup) × (now rows ≡ packedRows) ⌝ }
     requires { ⌜ Shape (now positions) (now lasts) (now coefs) × (k < 64) × (b < length (now positions)) × (getD (now positions) b 0 ≡ k) × (tokens < 2 ^ 60) ⌝ }
-    ensures { λ r. ⌜ Visited r (now (positions .exit)) (now (lasts .exit)) (now (coefs .exit)) (readFor (treeOf (now (nodes .entry))) k b (stateOf (now (positions .entry)) (now (lasts .entry)) (now (coefs .entry)) run tokens) (now (packet .entry)) at) ⌝ }
+    ensures { λ r. ⌜ Visited r (now (positions .exit)) (now (lasts .exit)) (now (coefs .exit)) (acted k b at (stateOf (now (positions .entry)) (now (lasts .entry)) (now (coefs .entry)) run tokens) (outcomeOf token)) ⌝ }
 {
-    let token = read_token(packet, at, nodes, lookup, rows);
     match token {
         Token::Refused(number, place) => Visit::Refused(number, place),
         Token::EndOfBlock(n, next) => {
@@ -130,12 +154,40 @@ fn read_for(
     }
 }
 
+// A token for the block b, which stands at the position k.
+fn read_for(
+    packet: &[u8],
+    at: usize,
+    nodes: &[u8],
+    lookup: &[u64],
+    rows: &[u32],
+    k: usize,
+    b: usize,
+    run: usize,
+    tokens: usize,
+    positions: &mut [u8],
+    lasts: &mut [u8],
+    coefs: &mut [i16],
+) -> Visit
+    requires { ⌜ (length (now packet) ≤ longest) × Formed (now nodes) × Lookup (now nodes) (now lookup) × (now rows ≡ packedRows) ⌝ }
+    requires { ⌜ Shape (now positions) (now lasts) (now coefs) × (k < 64) × (b < length (now positions)) × (getD (now positions) b 0 ≡ k) × (tokens < 2 ^ 60) ⌝ }
+    ensures { λ r. ⌜ Visited r (now (positions .exit)) (now (lasts .exit)) (now (coefs .exit)) (readFor (treeOf (now (nodes .entry))) k b (stateOf (now (positions .entry)) (now (lasts .entry)) (now (coefs .entry)) run tokens) (now (packet .entry)) at) ⌝ }
+{
+    let entry = entry_at(packet, at, lookup);
+    if entry == 0 {
+        let long = read_token(packet, at, nodes, rows);
+        return act_on(long, at, k, b, run, tokens, positions, lasts, coefs);
+    }
+    let short = token_by(entry, bitstream::window(packet, at), at);
+    act_on(short, at, k, b, run, tokens, positions, lasts, coefs)
+}
+
 // The block b at the position k.
 fn visit_block(
     packet: &[u8],
     at: usize,
     nodes: &[u8],
-    lookup: &[u16],
+    lookup: &[u64],
     rows: &[u32],
     k: usize,
     b: usize,
@@ -176,11 +228,11 @@ fn visit_block(
 }
 
 // The blocks of a list in turn, at the position k.
-fn pass_blocks(
+fn visit_blocks(
     packet: &[u8],
     at: usize,
     nodes: &[u8],
-    lookup: &[u16],
+    lookup: &[u64],
     k: usize,
     blocks: &[u64],
     run: usize,
@@ -221,6 +273,95 @@ fn pass_blocks(
         left = r;
         count = t;
         j += 1;
+    }
+    Visit::Done(place, left, count)
+}
+
+// 1 for a block that stands at the position k, by its own.
+fn one_if_due(p: u8, k: usize) -> usize
+    ensures { λ r. ⌜ r ≡ oneIfDue k p ⌝ }
+{
+    if p as usize == k {
+        return 1;
+    }
+    0
+}
+
+// Writes the blocks of a list that stand at the position k to the front of `due`: how many they are.
+// No branch depends on where a block stands: half of them are elsewhere, and a visit's test for it was mispredicted so often that it took a tenth of the decoding time.
+fn gather(positions: &[u8], blocks: &[u64], k: usize, due: &mut [u64]) -> usize
+    requires { ⌜ (length (now blocks) ≤ length (now due)) × Below (length (now positions)) (now blocks) ⌝ }
+    ensures { λ r. ⌜ (take r (now (due .exit)) ≡ dueOf k (now (positions .entry)) (now (blocks .entry))) × (r ≤ length (now (blocks .entry))) ⌝ }
+{
+    let mut n = 0;
+    let mut j = 0;
+    while j < blocks.len() {
+        let b = blocks[j];
+        let p = positions[b as usize];
+        due[n] = b;
+        n += one_if_due(p, k);
+        j += 1;
+    }
+    n
+}
+
+// Where the part of a list ends that begins at the index j: it has at most 64 blocks.
+fn part_end(j: usize, count: usize) -> usize
+    requires { ⌜ j < count ⌝ }
+    ensures { λ r. ⌜ (j < r) × (r ≤ count) × (r ≤ j + 64) ⌝ }
+{
+    if count - j < 64 {
+        return count;
+    }
+    j + 64
+}
+
+// The blocks of a list in turn, at the position k: of 64 at a time those that stand there are gathered in `due`, and visited.
+fn pass_blocks(
+    packet: &[u8],
+    at: usize,
+    nodes: &[u8],
+    lookup: &[u64],
+    k: usize,
+    blocks: &[u64],
+    due: &mut [u64],
+    run: usize,
+    tokens: usize,
+    positions: &mut [u8],
+    lasts: &mut [u8],
+    coefs: &mut [i16],
+) -> Visit
+    requires { ⌜ (length (now packet) ≤ longest) × Formed (now nodes) × Lookup (now nodes) (now lookup) × (length (now due) ≡ 64) ⌝ }
+    requires { ⌜ Shape (now positions) (now lasts) (now coefs) × (k < 64) × Below (length (now positions)) (now blocks) × (tokens + room (now positions) < 2 ^ 60) ⌝ }
+    ensures { λ r. ⌜ Visited r (now (positions .exit)) (now (lasts .exit)) (now (coefs .exit)) (pass (treeOf (now (nodes .entry))) k (now (blocks .entry)) (stateOf (now (positions .entry)) (now (lasts .entry)) (now (coefs .entry)) run tokens) (now (packet .entry)) at) ⌝ }
+{
+    let mut j = 0;
+    let mut place = at;
+    let mut left = run;
+    let mut count = tokens;
+    while j < blocks.len() {
+        let end = part_end(j, blocks.len());
+        let n = gather(positions, &blocks[j..end], k, due);
+        let one = visit_blocks(
+            packet,
+            place,
+            nodes,
+            lookup,
+            k,
+            &due[..n],
+            left,
+            count,
+            positions,
+            lasts,
+            coefs,
+        );
+        let Visit::Done(next, r, t) = one else {
+            return one;
+        };
+        place = next;
+        left = r;
+        count = t;
+        j = end;
     }
     Visit::Done(place, left, count)
 }
@@ -324,7 +465,7 @@ fn pass_table(
     packet: &[u8],
     at: usize,
     nodes: &[u8],
-    lookup: &[u16],
+    lookup: &[u64],
     j: usize,
     k: usize,
     blocks: &[u64],
@@ -340,6 +481,7 @@ fn pass_table(
 {
     let from = 64 * j;
     let to = from + 64;
+    let mut due = [0u64; 64];
     pass_blocks(
         packet,
         at,
@@ -347,6 +489,7 @@ fn pass_table(
         lookup,
         k,
         blocks,
+        &mut due,
         run,
         tokens,
         positions,
@@ -360,8 +503,8 @@ fn read_position(
     packet: &[u8],
     at: usize,
     nodes: &[u8],
-    luma_lookup: &[u16],
-    chroma_lookup: &[u16],
+    luma_lookup: &[u64],
+    chroma_lookup: &[u64],
     k: usize,
     y: usize,
     c: usize,
@@ -425,7 +568,7 @@ fn begins_group(k: usize) -> bool
 }
 
 // Fills the lookup of the table that is used at the position k by a choice, where a group begins; else it is there.
-fn renew_lookup(nodes: &[u8], k: usize, choice: usize, lookup: &mut [u16])
+fn renew_lookup(nodes: &[u8], k: usize, choice: usize, lookup: &mut [u64])
     requires { ⌜ Tables (now nodes) × (choice < 16) × Current (now nodes) k choice (now lookup) ⌝ }
     ensures { λ _. ⌜ Ready (now (nodes .entry)) k choice (now (lookup .exit)) ⌝ }
 {
@@ -434,7 +577,8 @@ fn renew_lookup(nodes: &[u8], k: usize, choice: usize, lookup: &mut [u16])
     }
     let from = 64 * (16 * group_of(k) + choice);
     let to = from + 64;
-    huffman::fill_lookup(&nodes[from..to], lookup);
+    let values = token::all_values();
+    huffman::fill_by(&nodes[from..to], &values, lookup);
 }
 
 // All positions in turn. `active` holds the ranks of all blocks, luma's first; at each position only the unfinished ones are looked at.
@@ -452,8 +596,8 @@ fn read_positions(
     requires { ⌜ Shape (now positions) (now lasts) (now coefs) × AllOpen (now positions) × (now active ≡ ranks 0 (length (now positions))) ⌝ }
     ensures { λ r. ⌜ Visited r (now (positions .exit)) (now (lasts .exit)) (now (coefs .exit)) (positionsFrom (treesOf (now (nodes .entry))) (ranks 0 luma) (ranks luma (length (now (positions .entry)) - luma)) 64 0 (choicesOf 0 0) (stateOf (now (positions .entry)) (now (lasts .entry)) (now (coefs .entry)) 0 0) (now (packet .entry)) at) ⌝ }
 {
-    let mut luma_lookup = [0u16; 128];
-    let mut chroma_lookup = [0u16; 128];
+    let mut luma_lookup = [0u64; 256];
+    let mut chroma_lookup = [0u64; 256];
     let mut k = 0;
     let mut place = at;
     let mut y = 0;

@@ -2,3 +2,4 @@ pub mod Component
 pub mod Motion
 pub mod Vectors
 pub mod Memory
+pub mod Start

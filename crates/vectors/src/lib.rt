@@ -16,11 +16,12 @@ ghost use Rattle.geometry.specs.Sizes.{macroBlocksOf, blocksOf, blocksEach, lar
 ghost use Rattle.geometry.specs.Order.{at};
 ghost use Rattle.block_record.specs.Record.{VectorInRange, PredictionInRange};
 ghost use Rattle.block_record.specs.Packed.{packed};
-ghost use Rattle.block_record.specs.Memory.{AllPacked, recordsOf};
+ghost use Rattle.block_record.specs.Memory.{IsPacked, AllPacked, recordsOf};
 ghost use Rattle.bitstream.specs.Answer.{StoredAs, asEnd};
 ghost use Rattle.numeric.specs.Sign.{withSign};
 ghost use Rattle.vectors.specs.Component.{added, shortest, variable, byCode, component, vector, asComponent, asVector};
 ghost use Rattle.vectors.specs.Vectors.{numberIn, codedIn, predictedAt, predictedFrom, macroBlock, macroBlocks, vectors};
+ghost use Rattle.vectors.specs.Start.{macroNo, started, Waiting};
 ghost use Rattle.vectors.specs.Memory.{stateOf, StoredState, asStep};
 ghost use Rattle.vectors.specs.Motion.{zeroVector, behind, still, moving, movingGolden, ifCoded, row, lastRead, movingFour, motion, meanOfTwo, meanOfFour, lumaVector, chromaVector, fourVector, predictionOf, RowInRange, MotionInRange, asRow, asMoved};
 
@@ -522,6 +523,44 @@ fn read_macro_block(
     }
 }
 
+// Macro block m of the coded order. One of mode 0 sends nothing, and its blocks are as they started: it is passed over.
+// On recordings in which little moves that saves a quarter to a fifth of a frame's time (67 of 280 µs on the hints of gnome-mahjongg).
+fn read_number(
+    packet: &[u8],
+    at: usize,
+    code: u32,
+    format: PixelFormat,
+    w: u64,
+    h: u64,
+    m: usize,
+    mode: u8,
+    last: Vector,
+    last2: Vector,
+    records: &mut [u32],
+) -> Step
+    requires { ⌜ (length (now packet) ≤ longest) × (w ≤ largest) × (h ≤ largest) × (m < macroBlocksOf w h) × (length (now records) ≡ blocksOf format w h) × VectorInRange last × VectorInRange last2 × AllPacked (now records) × Waiting format w h m (recordsOf (now records)) ⌝ }
+    ensures { λ r. ⌜ r ≡ asStep (macroBlock format w h code mode (macroNo w h m) (stateOf (now (records .entry)) last last2) (now (packet .entry)) at) ⌝ }
+    ensures { λ r. ⌜ StoredState (now (records .exit)) (macroBlock format w h code mode (macroNo w h m) (stateOf (now (records .entry)) last last2) (now (packet .entry)) at) ⌝ }
+{
+    if mode == 0 {
+        return Step::Next(last, last2, at);
+    }
+    let q = geometry::macro_block_at(w, h, m as u64);
+    read_macro_block(
+        packet,
+        at,
+        code,
+        format,
+        w,
+        h,
+        q,
+        mode,
+        last,
+        last2,
+        records,
+    )
+}
+
 // All macro blocks in coded order, behind the vector bit.
 fn read_each(
     packet: &[u8],
@@ -533,7 +572,7 @@ fn read_each(
     modes: &[u8],
     records: &mut [u32],
 ) -> End
-    requires { ⌜ (length (now packet) ≤ longest) × (w ≤ largest) × (h ≤ largest) × (length (now modes) ≡ macroBlocksOf w h) × (length (now records) ≡ blocksOf format w h) × AllPacked (now records) ⌝ }
+    requires { ⌜ (length (now packet) ≤ longest) × (w ≤ largest) × (h ≤ largest) × (length (now modes) ≡ macroBlocksOf w h) × (length (now records) ≡ blocksOf format w h) × AllPacked (now records) × Waiting format w h 0 (recordsOf (now records)) ⌝ }
     ensures { λ r. ⌜ r ≡ asEnd (macroBlocks format w h code (now (modes .entry)) (length (now (modes .entry))) 0 (stateOf (now (records .entry)) zeroVector zeroVector) (now (packet .entry)) at) ⌝ }
     ensures { λ r. ⌜ StoredState (now (records .exit)) (macroBlocks format w h code (now (modes .entry)) (length (now (modes .entry))) 0 (stateOf (now (records .entry)) zeroVector zeroVector) (now (packet .entry)) at) ⌝ }
 {
@@ -543,16 +582,15 @@ fn read_each(
     let mut place = at;
     let mut m: usize = 0;
     while m < n {
-        let q = geometry::macro_block_at(w, h, m as u64);
         let mode = modes[m];
-        let step = read_macro_block(
+        let step = read_number(
             packet,
             place,
             code,
             format,
             w,
             h,
-            q,
+            m,
             mode,
             last,
             last2,
@@ -573,6 +611,29 @@ fn read_each(
     End::At(place)
 }
 
+// How the record of a block starts: that of a coded one as mode 0 has it, previous with the vector 0.
+fn start_record(n: u32) -> u32
+    requires { ⌜ IsPacked n ⌝ }
+    ensures { λ r. ⌜ r ≡ started n ⌝ }
+{
+    if block_record::is_coded(n) {
+        return block_record::with_prediction(n, Prediction::Previous(zero_vector()));
+    }
+    n
+}
+
+// All of them: a loop without a jump, some 1 µs for 10,000 blocks.
+fn start_records(records: &mut [u32])
+    requires { ⌜ AllPacked (now records) ⌝ }
+    ensures { λ _. ⌜ now (records .exit) ≡ map started (now (records .entry)) ⌝ }
+{
+    let mut i = 0;
+    while i < records.len() {
+        records[i] = start_record(records[i]);
+        i += 1;
+    }
+}
+
 // The vectors of an inter frame of w by h macro blocks, whose modes are given in coded order. records holds the packed
 // record of each block, by raster number; the coded ones get their predictions.
 pub fn read_vectors(
@@ -591,6 +652,9 @@ pub fn read_vectors(
     let bit = bitstream::read(packet, at, 1);
     match bit {
         Field::Refused(k, e) => End::Refused(k, e),
-        Field::Got(code, next) => read_each(packet, next, code, format, w, h, modes, records),
+        Field::Got(code, next) => {
+            start_records(records);
+            read_each(packet, next, code, format, w, h, modes, records)
+        }
     }
 }

@@ -1,12 +1,17 @@
 -- `coded_flags::list_block` meets its contract. Assumes nothing.
 use Prim.Native.Nat.{ℕ}
-use mathlib.Core.Path.{_≡_, sym, ap, ap₂, _∙_, subst}
+use native.Mathlib.Omega.{arith}
+use mathlib.Core.Path.{_≡_, sym, ap, _∙_, subst}
+use lib.Dec.{eqb}
 use lib.ListN.{getD, set}
+use Rattle.bitstream.specs.Reading.{choose}
+use Rattle.block_record.specs.Record.{nowCoded}
+use Rattle.block_record.specs.Packed.{packed}
 use Rattle.geometry.specs.Frame.{InFrame}
 use Rattle.geometry.proofs.FrameLaws.{frame-back}
 use Rattle.geometry.specs.Raster.{rasterNumber}
 use Rattle.coded_flags.specs.Coded.{order}
-use Rattle.bitstream.proofs.ListLaws.{if-other, if-equal}
+use Rattle.bitstream.proofs.ListLaws.{if-other}
 use Rattle.coded_flags.proofs.Listing.{order-at}
 use borrow.Author.Needs.{needs}
 use Rattle.coded_flags.proofs.list_block.Statement.{statement}
@@ -29,23 +34,8 @@ raster-number-requires c κs =
     let p = c .before .before .before .before .pre in
     (p .0, p .1, subst (InFrame (a .format) (a .w) (a .h)) (sym (c .block-at .ensures)) (frame-back (a .format) (a .w) (a .h) (a .i) (p .2) .0))
 
-now-coded-requires : tie.Need-now-coded-requires
-now-coded-requires c κs = search needs
-
-mul-records : tie.Need-mul-records
-mul-records c = search needs
-
-slice-write-records : tie.Need-slice-write-records
-slice-write-records c = search needs
-
-mul-coded : tie.Need-mul-coded
-mul-coded c = search needs
-
-slice-write-coded : tie.Need-slice-write-coded
-slice-write-coded c = search needs
-
-add-result : tie.Need-add-result
-add-result c = search needs
+list-number-requires : tie.Need-list-number-requires
+list-number-requires c κs = let p = c .before .before .before .before .before .before .before .pre in (omega (arith, c .before .before .raster-number .ensures .1, p .3), p .4)
 
 same-length : tie.Need-same-length
 same-length c = search needs
@@ -55,11 +45,14 @@ same-length-2 c = search needs
 
 returns-2 : tie.Need-returns-2
 returns-2 c =
-    let a = c .before .before .before .before .before .before .args in
-    let h = c .before .before .before .if1 .left in
-    let e = number (c .before) in (
-      if-equal (a .flag) 1 _ _ h,
-      (ap₂ (set (a .records .now)) e (c .now-coded .ensures) ∙ if-equal (a .flag) 1 _ _ h, ap (λ (n : ℕ). set (a .coded .now) (a .count) n) e ∙ if-equal (a .flag) 1 _ _ h),
+    let a = c .before .before .before .before .before .before .before .before .before .before .before .before .args in
+    let v = c .before .before .before .before .list-number in
+    let e = number (c .before .before .before .before .before .before .before) in (
+      v .ensures .0,
+      (
+        v .ensures .1 .0 ∙ ap (λ (n : ℕ). choose (eqb (a .flag) 1) (set (a .records .now) n (packed nowCoded)) (a .records .now)) e,
+        v .ensures .1 .1 ∙ ap (λ (n : ℕ). choose (eqb (a .flag) 1) (set (a .coded .now) (a .count) n) (a .coded .now)) e,
+      ),
     )
 
 pub list-block-spec : {M : Type 1} → statement M
@@ -69,12 +62,7 @@ list-block-spec =
     returns
     block-at-requires
     raster-number-requires
-    now-coded-requires
-    mul-records
-    slice-write-records
-    mul-coded
-    slice-write-coded
-    add-result
+    list-number-requires
     same-length
     same-length-2
     returns-2)

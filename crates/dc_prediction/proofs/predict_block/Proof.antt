@@ -1,7 +1,7 @@
 -- `dc_prediction::predict_block` meets its contract. Assumes nothing.
 use borrow.Author.Needs.{needs}
 use mathlib.Core.Path.{_≡_, sym, ap, _∙_}
-use mathlib.Core.Bool.{Bool, true, false}
+use mathlib.Core.Bool.{Bool, true}
 use mathlib.Core.List.{List, map}
 use Prim.Native.Nat.{ℕ, _+_}
 use native.Mathlib.Omega.{arith}
@@ -11,10 +11,11 @@ use Rattle.block_record.specs.Packed.{unpacked}
 use Rattle.block_record.specs.Record.{referenceOf}
 use Rattle.block_record.proofs.Laws.{unpacked-at}
 use Rattle.dc_prediction.specs.Planes.{DcState, codedStep, blockStep}
+use Rattle.dc_prediction.proofs.Rows.{uncoded}
 use Rattle.dc_prediction.proofs.predict_block.Statement.{statement}
 use Rattle.dc_prediction.proofs.predict_block.Tie as tie
 
--- a coded block, with the reference r, and one that is not coded
+-- a coded block, with the reference r
 module _ (ns : List ℕ) (start across : ℕ) (below : Bool) (x : ℕ) (s : DcState) where
   coded : (r : ℕ) → unpacked (getD ns (start + x) 0) .coded ≡ true → r ≡ referenceOf (unpacked (getD ns (start + x) 0) .prediction) → codedStep (map unpacked ns) across below (start + x) x r s ≡ blockStep (map unpacked ns) start across below x s
   unfolding blockStep
@@ -22,10 +23,6 @@ module _ (ns : List ℕ) (start across : ℕ) (below : Bool) (x : ℕ) (s : DcSt
       let u = unpacked-at ns (start + x) in
       ap (λ (k : ℕ). codedStep (map unpacked ns) across below (start + x) x k s) (f ∙ sym (ap (λ (b : BlockRecord). referenceOf (b .prediction)) u))
       ∙ sym (rw (ap (λ (b : BlockRecord). b .coded) u ∙ e))
-
-  uncoded : unpacked (getD ns (start + x) 0) .coded ≡ false → s ≡ blockStep (map unpacked ns) start across below x s
-  unfolding blockStep
-  uncoded e = sym (rw (ap (λ (b : BlockRecord). b .coded) (unpacked-at ns (start + x)) ∙ e))
 
 add-b : tie.Need-add-b
 add-b c = omega arith

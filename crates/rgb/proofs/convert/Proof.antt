@@ -42,22 +42,31 @@ returns-4 c = let a = c .before .before .before .before .before .before .before 
 all-tables-requires : tie.Need-all-tables-requires
 all-tables-requires c κs = search needs
 
+slice-aggregate-chroma-rows : tie.Need-slice-aggregate-chroma-rows
+slice-aggregate-chroma-rows c = search needs
+
+chroma-rows-requires : tie.Need-chroma-rows-requires
+chroma-rows-requires c κs = c .before .all-tables .ensures
+
 slice-aggregate-write-picture : tie.Need-slice-aggregate-write-picture
 slice-aggregate-write-picture c = search needs
 
+slice-aggregate-write-picture-2 : tie.Need-slice-aggregate-write-picture-2
+slice-aggregate-write-picture-2 c = search needs
+
 write-picture-requires : tie.Need-write-picture-requires
 write-picture-requires c κs =
-    let a = c .before .before .before .before .before .before .before .before .before .before .before .before .before .before .args in
-    let m = fits-macro-blocks (a .s) (fits (c .before .before .before .before .before .before .before .before .before .before)) in
-    (m .1, m .3, c .before .before .all-tables .ensures, whole (a .s) (a .planes .now) (a .out .now) (fits (c .before .before .before .before .before .before .before .before .before .before)) (c .before .before .before .before .before .before .before .before .before .pixel-format .result) (c .before .before .before .before .before .before .before .before .before .pixel-format .ensures) (c .before .before .before .before .before .before .before .before .sizes .result) (c .before .before .before .before .before .before .before .before .sizes .ensures) (c .before .before .before .before .before .before .if2 .left), room-for (a .s) (a .planes .now) (a .out .now) (fits (c .before .before .before .before .before .before .before .before .before .before)) (c .before .before .before .before .before .before .before .before .before .pixel-format .result) (c .before .before .before .before .before .before .before .before .before .pixel-format .ensures) (c .before .before .before .before .before .before .before .before .sizes .result) (c .before .before .before .before .before .before .before .before .sizes .ensures) (length (a .out .now)) (c .before .before .before .if4 .left))
+    let a = c .before .before .before .before .before .before .before .before .before .before .before .before .before .before .before .before .before .args in
+    let m = fits-macro-blocks (a .s) (fits (c .before .before .before .before .before .before .before .before .before .before .before .before .before)) in
+    (m .1, m .3, c .before .before .before .before .before .all-tables .ensures, c .before .before .before .chroma-rows .ensures, whole (a .s) (a .planes .now) (a .out .now) (fits (c .before .before .before .before .before .before .before .before .before .before .before .before .before)) (c .before .before .before .before .before .before .before .before .before .before .before .before .pixel-format .result) (c .before .before .before .before .before .before .before .before .before .before .before .before .pixel-format .ensures) (c .before .before .before .before .before .before .before .before .before .before .before .sizes .result) (c .before .before .before .before .before .before .before .before .before .before .before .sizes .ensures) (c .before .before .before .before .before .before .before .before .before .if2 .left), room-for (a .s) (a .planes .now) (a .out .now) (fits (c .before .before .before .before .before .before .before .before .before .before .before .before .before)) (c .before .before .before .before .before .before .before .before .before .before .before .before .pixel-format .result) (c .before .before .before .before .before .before .before .before .before .before .before .before .pixel-format .ensures) (c .before .before .before .before .before .before .before .before .before .before .before .sizes .result) (c .before .before .before .before .before .before .before .before .before .before .before .sizes .ensures) (length (a .out .now)) (c .before .before .before .before .before .before .if4 .left))
 
 same-length : tie.Need-same-length
 same-length c = search needs
 
 returns-5 : tie.Need-returns-5
 returns-5 c =
-    let a = c .before .before .before .before .before .before .before .before .before .before .before .before .before .before .before .before .before .args in
-    call-done (a .s) (a .planes .now) (a .out .now) (fits (c .before .before .before .before .before .before .before .before .before .before .before .before .before)) (c .before .before .before .before .before .before .before .before .before .before .before .before .pixel-format .result) (c .before .before .before .before .before .before .before .before .before .before .before .before .pixel-format .ensures) (c .before .before .before .before .before .before .before .before .before .before .before .sizes .result) (c .before .before .before .before .before .before .before .before .before .before .before .sizes .ensures) (c .before .before .before .before .before .before .before .before .before .if2 .left) (not-false _ (c .before .before .before .before .before .before .before .before .if3 .left)) (c .before .before .before .before .before .before .if4 .left) _ (c .before .before .write-picture .ensures)
+    let a = c .before .before .before .before .before .before .before .before .before .before .before .before .before .before .before .before .before .before .before .before .args in
+    call-done (a .s) (a .planes .now) (a .out .now) (fits (c .before .before .before .before .before .before .before .before .before .before .before .before .before .before .before .before)) (c .before .before .before .before .before .before .before .before .before .before .before .before .before .before .before .pixel-format .result) (c .before .before .before .before .before .before .before .before .before .before .before .before .before .before .before .pixel-format .ensures) (c .before .before .before .before .before .before .before .before .before .before .before .before .before .before .sizes .result) (c .before .before .before .before .before .before .before .before .before .before .before .before .before .before .sizes .ensures) (c .before .before .before .before .before .before .before .before .before .before .before .before .if2 .left) (not-false _ (c .before .before .before .before .before .before .before .before .before .before .before .if3 .left)) (c .before .before .before .before .before .before .before .before .before .if4 .left) _ (c .before .before .write-picture .ensures)
 
 pub convert-spec : {M : Type 1} → statement M
 convert-spec =
@@ -72,7 +81,10 @@ convert-spec =
     mul-n
     returns-4
     all-tables-requires
+    slice-aggregate-chroma-rows
+    chroma-rows-requires
     slice-aggregate-write-picture
+    slice-aggregate-write-picture-2
     write-picture-requires
     same-length
     returns-5)

@@ -12,11 +12,11 @@ use Rattle.rgb.proofs.write_picture.Statement.{statement}
 use Rattle.rgb.proofs.write_picture.Tie as tie
 
 abbrev Inv-loop : tie.InvT-loop
-Inv-loop format w h tables planes out₀ row at₀ y₀ out at y =
+Inv-loop format w h tables rows planes out₀ row at₀ y₀ out at y =
     (y ≤ 16 * h) × (at ≡ (16 * h - y) * (48 * w)) × (length out ≡ length out₀) × (out ≡ spliced 0 (inTurn (rowFrom format w h planes) (16 * h - y)) out₀)
 
 abbrev μ-loop : tie.MeasureT-loop
-μ-loop format w h tables planes out₀ row at₀ y₀ out at y = y
+μ-loop format w h tables rows planes out₀ row at₀ y₀ out at y = y
 
 mul-row : tie.Need-mul-row Inv-loop μ-loop
 mul-row c = search needs
@@ -36,7 +36,7 @@ room c =
     let l = c .before .loop in
     let s = c .before .before .before .before in
     let a = s .args in
-    let r = row-room (a .format) (a .w) (a .h) (a .planes .now) (l .y) (l .at) (omega (arith, c .loop-test .taken)) (l .inv .0) (l .inv .1) (length (a .out .now)) (s .pre .4) in
+    let r = row-room (a .format) (a .w) (a .h) (a .planes .now) (l .y) (l .at) (omega (arith, c .loop-test .taken)) (l .inv .0) (l .inv .1) (length (a .out .now)) (s .pre .5) in
     omega (arith, r, l .inv .2)
 
 sub-y : tie.Need-sub-y Inv-loop μ-loop
@@ -58,7 +58,7 @@ write-picture-row-requires : tie.Need-write-picture-row-requires Inv-loop μ-loo
 write-picture-row-requires c κs =
     let l = c .before .before .loop in
     let s = c .before .before .before .before .before in
-    (s .pre .0, s .pre .1, omega (arith, l .inv .0, c .before .loop-test .taken), s .pre .2, s .pre .3, part-length (l .out) (l .at) (48 * s .args .w) (room (c .before)))
+    (s .pre .0, s .pre .1, omega (arith, l .inv .0, c .before .loop-test .taken), s .pre .2, s .pre .3, s .pre .4, part-length (l .out) (l .at) (48 * s .args .w) (room (c .before)))
 
 loop-less : tie.Need-loop-less Inv-loop μ-loop
 loop-less c = omega (arith, c .before .before .before .before .loop-test .taken)
@@ -72,7 +72,7 @@ loop-again c =
       omega (arith, l .inv .0),
       row-next (a .format) (a .w) (a .h) (a .planes .now) (l .y) (l .at) t (l .inv .0) (l .inv .1),
       c .before .out .given .1 ∙ l .inv .2,
-      rows-more (a .format) (a .w) (a .h) (a .planes .now) (l .y) (l .at) t (l .inv .0) (l .inv .1) (a .out .now) (l .out) _ (s .pre .4) (l .inv .3) (c .before .before .write-picture-row .ensures),
+      rows-more (a .format) (a .w) (a .h) (a .planes .now) (l .y) (l .at) t (l .inv .0) (l .inv .1) (a .out .now) (l .out) _ (s .pre .5) (l .inv .3) (c .before .before .write-picture-row .ensures),
     )
 
 same-length : tie.Need-same-length Inv-loop μ-loop

@@ -59,7 +59,7 @@ part-write-row-start : tie.Need-part-write-row-start
 part-write-row-start c = omega (arith, oa c .end)
 
 part-write-row-end : tie.Need-part-write-row-end
-part-write-row-end c = omega (arith, oa c .inside, s c .pre .4)
+part-write-row-end c = omega (arith, oa c .inside, s c .pre .5)
 
 sub-write-row-2 : tie.Need-sub-write-row-2
 sub-write-row-2 c = search needs
@@ -68,7 +68,7 @@ part-write-row-start-2 : tie.Need-part-write-row-start-2
 part-write-row-start-2 c = omega (arith, ob (c .before) .end)
 
 part-write-row-end-2 : tie.Need-part-write-row-end-2
-part-write-row-end-2 c = omega (arith, ob (c .before) .inside, s (c .before) .pre .4)
+part-write-row-end-2 c = omega (arith, ob (c .before) .inside, s (c .before) .pre .5)
 
 sub-write-row-3 : tie.Need-sub-write-row-3
 sub-write-row-3 c = search needs
@@ -77,15 +77,15 @@ part-write-row-start-3 : tie.Need-part-write-row-start-3
 part-write-row-start-3 c = omega (arith, od (c .before .before) .end)
 
 part-write-row-end-3 : tie.Need-part-write-row-end-3
-part-write-row-end-3 c = omega (arith, od (c .before .before) .inside, s (c .before .before) .pre .4)
+part-write-row-end-3 c = omega (arith, od (c .before .before) .inside, s (c .before .before) .pre .5)
 
 write-row-requires : tie.Need-write-row-requires
 write-row-requires c κs =
     let t = c .before .before .before .before in
     let q = s t .args in
-    let n = run-length (q .format) (q .w) (q .h) (q .planes .now) (s t .pre .4) 0 (q .y) (a t) (oa t) in (
-      (s t .pre .3, runs-reach (q .format) (q .w) (q .h) (q .planes .now) (s t .pre .4) (q .y) (a t) (b t) (d t) (oa t) (ob t) (od t)),
-      (omega (arith, n), omega (arith, n, s t .pre .5)),
+    let n = run-length (q .format) (q .w) (q .h) (q .planes .now) (s t .pre .5) 0 (q .y) (a t) (oa t) in (
+      (s t .pre .3, s t .pre .4, runs-reach (q .format) (q .w) (q .h) (q .planes .now) (s t .pre .5) (q .y) (a t) (b t) (d t) (oa t) (ob t) (od t)),
+      (omega (arith, n), omega (arith, n, s t .pre .6)),
     )
 
 same-length : tie.Need-same-length
@@ -96,7 +96,7 @@ returns c =
     let t = c .before .before .before .before .before .before .before in
     let q = s t .args in
     c .before .before .write-row .ensures
-    ∙ picture-row (q .format) (q .w) (q .h) (q .planes .now) (s t .pre .4) (q .y) (a t) (b t) (d t) (oa t) (ob t) (od t)
+    ∙ picture-row (q .format) (q .w) (q .h) (q .planes .now) (s t .pre .5) (q .y) (a t) (b t) (d t) (oa t) (ob t) (od t)
 
 pub write-picture-row-spec : {M : Type 1} → statement M
 write-picture-row-spec =

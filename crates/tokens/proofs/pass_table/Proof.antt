@@ -2,7 +2,7 @@
 use borrow.Author.Needs.{needs}
 use Prim.Native.Nat.{ℕ, _*_}
 use native.Mathlib.Omega.{arith}
-use mathlib.Core.Path.{sym, ap, _∙_}
+use mathlib.Core.Path.{refl, sym, ap, _∙_}
 use lib.ListN.{take, drop}
 use Rattle.huffman.specs.Tree.{Tree}
 use Rattle.huffman.specs.Code.{treeOf}
@@ -25,15 +25,15 @@ part-pass-blocks-start : tie.Need-part-pass-blocks-start
 part-pass-blocks-start c = search needs
 
 part-pass-blocks-end : tie.Need-part-pass-blocks-end
-part-pass-blocks-end c =
-    let u = c .before .before .before .before .before .before in
-    omega (arith, nodes-long (u .args .nodes .now) (u .pre .0 .1), u .pre .0 .2)
+part-pass-blocks-end c = omega (arith, nodes-long (c .before .before .before .before .before .before .args .nodes .now) (c .before .before .before .before .before .before .pre .0 .1), c .before .before .before .before .before .before .pre .0 .2)
+
+slice-aggregate-pass-blocks : tie.Need-slice-aggregate-pass-blocks
+slice-aggregate-pass-blocks c = search needs
 
 pass-blocks-requires : tie.Need-pass-blocks-requires
 pass-blocks-requires c κs =
-    let u = c .before .before .before .before .before .before .before .before .before .before in
-    let a = u .args in
-    ((u .pre .0 .0, rw (wide (a .j)) (formed-at (a .nodes .now) (u .pre .0 .1) (a .j) (u .pre .0 .2)), rw (wide (a .j)) (u .pre .0 .3)), u .pre .1)
+    let a = c .before .before .before .before .before .before .before .before .before .before .before .args in
+    ((c .before .before .before .before .before .before .before .before .before .before .before .pre .0 .0, rw (wide (a .j)) (formed-at (a .nodes .now) (c .before .before .before .before .before .before .before .before .before .before .before .pre .0 .1) (a .j) (c .before .before .before .before .before .before .before .before .before .before .before .pre .0 .2)), rw (wide (a .j)) (c .before .before .before .before .before .before .before .before .before .before .before .pre .0 .3), refl), c .before .before .before .before .before .before .before .before .before .before .before .pre .1)
 
 same-length : tie.Need-same-length
 same-length c = search needs
@@ -46,13 +46,12 @@ same-length-3 c = search needs
 
 returns : tie.Need-returns
 returns c =
-    let u = c .before .before .before .before .before .before .before .before .before .before .before .before .before .before .before .before in
-    let a = u .args in
-    let w = c .before .before .before .before .before .pass-blocks in
+    let a = c .before .before .before .before .before .before .before .before .before .before .before .before .before .before .before .before .before .before .args in
+    let w = c .before .before .before .before .before .before .pass-blocks in
     let s = stateOf (a .positions .now) (a .lasts .now) (a .coefs .now) (a .run) (a .tokens) in
     on-same _ _ _ _ _
     (ap (λ (t : Tree). pass t (a .k) (a .blocks .now) s (a .packet .now) (a .at))
-    (tree-at (a .nodes .now) (a .j) (u .pre .0 .2) ∙ ap (λ (n : ℕ). treeOf (take n (drop (64 * a .j) (a .nodes .now)))) (sym (wide (a .j)))))
+    (tree-at (a .nodes .now) (a .j) (c .before .before .before .before .before .before .before .before .before .before .before .before .before .before .before .before .before .before .pre .0 .2) ∙ ap (λ (n : ℕ). treeOf (take n (drop (64 * a .j) (a .nodes .now)))) (sym (wide (a .j)))))
     (w .ensures .0) (w .ensures .1)
 
 pub pass-table-spec : {M : Type 1} → statement M
@@ -64,6 +63,7 @@ pass-table-spec =
     sub-pass-blocks
     part-pass-blocks-start
     part-pass-blocks-end
+    slice-aggregate-pass-blocks
     pass-blocks-requires
     same-length
     same-length-2

@@ -27,8 +27,8 @@ module _ (c : tie.Start) where
   abbrev code : Outcome ℕ
   code = tokenCode (treeOf (c .args .nodes .now)) (c .args .packet .now) (c .args .at)
 
-code-got : (c : tie.After-known-told) → code (c .before .before .before .before .before .before .before .before) ≡ got (c .before .code .given .0 .0) (c .before .code .given .0 .1 .0)
-code-got c = read-got (code (c .before .before .before .before .before .before .before .before)) (c .before .before .before .read-code-by .ensures) (c .before .code .given .1)
+code-got : (c : tie.After-known-told) → code (c .before .before .before .before .before .before .before) ≡ got (c .before .code .given .0 .0) (c .before .code .given .0 .1 .0)
+code-got c = read-got (code (c .before .before .before .before .before .before .before)) (c .before .before .before .read-code .ensures) (c .before .code .given .1)
 
 -- the fourth variant is none of the first three
 not-refused : {r : Token} {k e : ℕ} → r ≡ t.Refused k e → OneOf (0 ∷ 1 ∷ 2 ∷ []) (tagOf declared.the-type r) → ⊥
@@ -42,8 +42,8 @@ on-token tree p i {v} {d} {r} c s o = go (whole (extra v) p d) refl
     go (got m e) h = s ∙ (ap asToken h ∙ sym (ap asToken (token-got tree p i c h)))
     go (refused k e) h = absurd (not-refused (s ∙ ap asToken h) o)
 
-read-code-by-requires : tie.Need-read-code-by-requires
-read-code-by-requires c κs = search needs
+read-code-requires : tie.Need-read-code-requires
+read-code-requires c κs = search needs
 
 enum-known-code : tie.Need-enum-known-code
 enum-known-code c = search needs
@@ -53,8 +53,8 @@ enum-told c = search needs
 
 returns : tie.Need-returns
 returns c =
-    let a = c .before .before .before .before .before .before .before .args in
-    let f = read-refused (code (c .before .before .before .before .before .before .before)) (c .before .before .read-code-by .ensures) (c .enum-told .given .1) in
+    let a = c .before .before .before .before .before .before .args in
+    let f = read-refused (code (c .before .before .before .before .before .before)) (c .before .before .read-code .ensures) (c .enum-told .given .1) in
     let four = token-code-refused (treeOf (a .nodes .now)) (a .packet .now) (a .at) f .0 in
     sym (ap asToken (token-cut (treeOf (a .nodes .now)) (a .packet .now) (a .at) f ∙ ap (λ (k : ℕ). refused k (a .at)) four))
 
@@ -63,22 +63,22 @@ cast-read-extra c = search needs
 
 read-extra-requires : tie.Need-read-extra-requires
 read-extra-requires c κs =
-    let u = c .before .before .before .before .before .before .before .before in
-    (u .pre .0, token-code-lt (treeOf (u .args .nodes .now)) (u .args .packet .now) (u .args .at) (formed-proper (u .args .nodes .now) (u .pre .1)) (code-got c), u .pre .3)
+    let u = (c .before .before .before .before .before .before .before) in
+    (u .pre .0, token-code-lt (treeOf (u .args .nodes .now)) (u .args .packet .now) (u .args .at) (formed-proper (u .args .nodes .now) (u .pre .1)) (code-got c), u .pre .2)
 
 enum-known-whole : tie.Need-enum-known-whole
 enum-known-whole c = search needs
 
 returns-2 : tie.Need-returns-2
 returns-2 c =
-    let a = c .before .before .before .before .before .before .before .before .before .before .before .before .args in
+    let a = c .before .before .before .before .before .before .before .before .before .before .before .args in
     let v = c .before .before .before .before .before .code .given .0 in
     let x = is-refused (whole (extra (v .0)) (a .packet .now) (v .1 .0)) (c .before .before .before .read-extra .ensures) (c .before .whole .given .1) in
     sym (ap asToken (token-refused (treeOf (a .nodes .now)) (a .packet .now) (a .at) (code-got (c .before .before .before .before)) x))
 
 returns-3 : tie.Need-returns-3
 returns-3 c =
-    let a = c .before .before .before .before .before .before .before .before .before .before .args in
+    let a = c .before .before .before .before .before .before .before .before .before .args in
     let v = c .before .before .before .code .given .0 in
     on-token (treeOf (a .nodes .now)) (a .packet .now) (a .at) (code-got (c .before .before)) (c .before .read-extra .ensures) (c .match2 .keys2)
 
@@ -86,7 +86,7 @@ pub read-token-spec : {M : Type 1} → statement M
 read-token-spec =
     tie.close
     (tie.spec
-    read-code-by-requires
+    read-code-requires
     enum-known-code
     enum-told
     returns

@@ -1,0 +1,148 @@
+// Which tiles changed: a frame call that keeps a map beside the frame. It sees of the decoder what that promises.
+use headers::Session;
+use reading::FrameAnswer;
+use reading::Verdict;
+use settings::Settings;
+ghost use mathlib.Core.Path.{_≡_};
+ghost use mathlib.Core.Bool.{true};
+ghost use Rattle.headers.specs.Fits.{sessionFits};
+ghost use Rattle.settings.specs.Settings.{settingsFit};
+ghost use Rattle.work_memory.specs.Memory.{memory};
+ghost use Rattle.decoding.specs.Answer.{state, done};
+ghost use Rattle.theora.specs.Call.{call};
+ghost use Rattle.changed_tiles.specs.Call.{mapLengthOf, lengthFor, mapFits, acceptedMap, mapAfter, Lent, IfAccepted, tilesDone, tilesCall};
+
+// How many bytes a map has, or the number of the refusal.
+pub enum MapLength {
+    Is(u64),
+    Refused(u32, usize),
+}
+
+fn length_of(set: Settings, s: Session) -> u64
+    requires { ⌜ (settingsFit set ≡ true) × (sessionFits s ≡ true) ⌝ }
+    ensures { λ r. ⌜ r ≡ mapLengthOf set s ⌝ }
+{
+    let format = headers::pixel_format(s.fields.pf);
+    tile_map::map_length(format, s.fields.fmbw, s.fields.fmbh, set.plane, set.tile)
+}
+
+// The length of the map of a session's frames.
+pub fn map_length(set: Settings, s: Session) -> MapLength
+    ensures { λ r. ⌜ r ≡ lengthFor set s ⌝ }
+{
+    if !settings::settings_fit(set) {
+        return MapLength::Refused(bitstream::BAD_SETTINGS, 0);
+    }
+    if !headers::session_fits(s) {
+        return MapLength::Refused(bitstream::NOT_GENUINE, 0);
+    }
+    MapLength::Is(length_of(set, s))
+}
+
+// Whether a map has its length. Of a session that does not fit nothing is said here: the frame call refuses it.
+fn map_fits(set: Settings, s: Session, map: &[u8]) -> bool
+    requires { ⌜ settingsFit set ≡ true ⌝ }
+    ensures { λ r. ⌜ r ≡ mapFits set s (now (map .entry)) ⌝ }
+{
+    if headers::session_fits(s) {
+        let n = length_of(set, s);
+        return map.len() as u64 == n;
+    }
+    true
+}
+
+// The map after an accepted packet: a frame without references before it is new everywhere.
+fn write_accepted(set: Settings, s: Session, previous: &[u8], new: &[u8], map: &mut [u8])
+    requires { ⌜ (settingsFit set ≡ true) × Lent set s (now previous) (now new) (now map) ⌝ }
+    ensures { λ _. ⌜ now (map .exit) ≡ acceptedMap set s (now (previous .entry)) (now (new .entry)) ⌝ }
+{
+    if s.references {
+        let format = headers::pixel_format(s.fields.pf);
+        tile_map::write_map(
+            format,
+            s.fields.fmbw,
+            s.fields.fmbh,
+            set.plane,
+            set.tile,
+            previous,
+            new,
+            map,
+        );
+        return;
+    }
+    let n = map.len();
+    buffer::fill_bytes(map, 0, n, 1);
+}
+
+// The map after a packet: a refused one leaves it.
+fn update_map(
+    set: Settings,
+    s: Session,
+    verdict: Verdict,
+    previous: &[u8],
+    new: &[u8],
+    map: &mut [u8],
+)
+    requires { ⌜ (settingsFit set ≡ true) × IfAccepted verdict (Lent set s (now previous) (now new) (now map)) ⌝ }
+    ensures { λ _. ⌜ now (map .exit) ≡ mapAfter set s verdict (now (previous .entry)) (now (new .entry)) (now (map .entry)) ⌝ }
+{
+    let Verdict::Accepted(_) = verdict else {
+        return;
+    };
+    write_accepted(set, s, previous, new, map);
+}
+
+// A frame call, and the map of the tiles that changed: 1 or 0 for each, row by row from the bottom.
+pub fn frame(
+    set: Settings,
+    s: Session,
+    packet: &[u8],
+    table: &[u8],
+    records: &mut [u32],
+    coded: &mut [u64],
+    coefs: &mut [i16],
+    dc: &mut [i16],
+    lasts: &mut [u8],
+    flags: &mut [u8],
+    bits: &mut [u8],
+    supers: &mut [u8],
+    modes: &mut [u8],
+    active: &mut [u64],
+    golden: &[u8],
+    previous: &[u8],
+    new: &mut [u8],
+    map: &mut [u8],
+) -> FrameAnswer
+    ensures { λ r. ⌜ tilesDone (done r (now (new .exit)) (memory (now (records .exit)) (now (coded .exit)) (now (coefs .exit)) (now (dc .exit)) (now (lasts .exit)) (now (flags .exit)) (now (bits .exit)) (now (supers .exit)) (now (modes .exit)) (now (active .exit)))) (now (map .exit))
+        ≡ tilesCall set (state s (now (golden .entry)) (now (previous .entry)))
+        (call (now (packet .entry)) (now (table .entry)) (memory (now (records .entry)) (now (coded .entry)) (now (coefs .entry)) (now (dc .entry)) (now (lasts .entry)) (now (flags .entry)) (now (bits .entry)) (now (supers .entry)) (now (modes .entry)) (now (active .entry))) (now (new .entry)))
+        (now (map .entry)) ⌝ }
+{
+    if !settings::settings_fit(set) {
+        return reading::refusal(bitstream::BAD_SETTINGS, 0, s);
+    }
+    if !map_fits(set, s, map) {
+        return reading::refusal(bitstream::WRONG_LENGTH, 0, s);
+    }
+    let answer = theora::frame(
+        s,
+        packet,
+        table,
+        records,
+        coded,
+        coefs,
+        dc,
+        lasts,
+        flags,
+        bits,
+        supers,
+        modes,
+        active,
+        golden,
+        previous,
+        new,
+    );
+    let verdict = answer.verdict;
+    update_map(set, s, verdict, previous, new, map);
+    answer
+}

@@ -1,0 +1,160 @@
+-- The lookup of a tree by eight bits: how it is filled, and what an entry says of the code. Assumes nothing.
+use Prim.Native.Nat.{ℕ, zero, suc, _+_, _-_, _*_, _/_, _%_, _^_, _≤_, _<_}
+use native.Mathlib.Omega.{arith}
+use native.Mathlib.Numerals.{add-one}
+use native.Mathlib.Nat.{pow-suc}
+use mathlib.Core.Path.{_≡_, refl, sym, ap, ap₂, _∙_}
+use mathlib.Core.List.{List, [], _∷_, _++_, append-nil}
+use mathlib.Core.Bool.{Bool, true, false}
+use lib.Dec.{ltb, eqb}
+use lib.ListN.{length, getD, set, take, drop, replicate, length-append, length-replicate, length-drop, getD-replicate, List·getD-append}
+use lib.Seq.{take-suc-set, take-all, take-at, drop-length, length-take-le, length-front, getD-append-add}
+use lib.Pow.{pow-pos}
+use borrow.Rule.Slice.PartMut.{putMid, post-is}
+use borrow.Author.Tests.{lt-ltb, le-ltb, ltb-true, ltb-false, eqb-true, eqb-false}
+use Rattle.bitstream.specs.Bits.{bits, bitAt, number}
+use Rattle.bitstream.specs.Reading.{got, choose}
+use Rattle.bitstream.proofs.Numbers.{bit-lt, number-lt, number-add, number-one}
+use Rattle.huffman.specs.Code.{Formed, tokenCode, treeOf}
+use Rattle.huffman.specs.Answer.{branch}
+use Rattle.huffman.specs.Lookup.{spread, lookupOf}
+use Rattle.huffman.proofs.Nodes.{formed-length}
+use Rattle.huffman.proofs.Codes.{Left, left-start, left-leaf, left-on}
+
+-- ---- filling with one entry
+pub filled-with : (l : List ℕ) (i e : ℕ) → i < length l → take i l ≡ replicate i e → take (i + 1) (set l i e) ≡ replicate (i + 1) e
+filled-with l i e h g = rw (add-one i) (take-suc-set l i e h ∙ (ap (λ (x : List ℕ). x ++ e ∷ []) g ∙ snoc i))
+  where
+    snoc : (n : ℕ) → replicate n e ++ e ∷ [] ≡ replicate (suc n) e
+    snoc zero = refl
+    snoc (suc n) = ap (λ (x : List ℕ). e ∷ x) (snoc n)
+
+pub filled-whole : (l : List ℕ) (i e : ℕ) → i ≡ length l → take i l ≡ replicate i e → l ≡ replicate (length l) e
+filled-whole l i e h g = sym (take-all i l (omega (arith, h))) ∙ (g ∙ ap (λ (n : ℕ). replicate n e) h)
+
+-- ---- the ways of a part
+module _ (nodes values : List ℕ) where
+  abbrev at-node : ℕ → ℕ
+  at-node node = getD nodes (node % 64) 0
+
+  pub spread-leaf : (n node : ℕ) → at-node node < 128 → spread nodes values n node ≡ replicate (2 ^ n) (getD values (at-node node % 32) 0 + (8 - n) * 2 ^ 36)
+  unfolding spread
+  spread-leaf zero node h = rw (lt-ltb _ _ h)
+  spread-leaf (suc n) node h = rw (lt-ltb _ _ h)
+
+  pub spread-none : (n node : ℕ) → n ≡ 0 → 128 ≤ at-node node → spread nodes values n node ≡ 0 ∷ []
+  unfolding spread
+  spread-none zero node e h = rw (le-ltb _ _ h)
+  spread-none (suc n) node e h = absurd (omega (arith, e))
+
+  spread-suc : (n node : ℕ) → 128 ≤ at-node node → spread nodes values (suc n) node ≡ spread nodes values n (node % 64 + 1) ++ spread nodes values n (at-node node - 128)
+  unfolding spread
+  spread-suc n node h = rw (le-ltb _ _ h)
+
+  pub spread-fork : (n node : ℕ) → 0 < n → 128 ≤ at-node node → spread nodes values n node ≡ spread nodes values (n - 1) (node % 64 + 1) ++ spread nodes values (n - 1) (at-node node - 128)
+  spread-fork zero node e h = absurd (omega (arith, e))
+  spread-fork (suc n) node e h = let z : suc n - 1 ≡ n = omega arith in spread-suc n node h ∙ (λ i. spread nodes values (sym z i) (node % 64 + 1) ++ spread nodes values (sym z i) (at-node node - 128))
+
+  joined : (n a b : ℕ) → length (spread nodes values n a) ≡ 2 ^ n → length (spread nodes values n b) ≡ 2 ^ n → length (spread nodes values n a ++ spread nodes values n b) ≡ 2 ^ suc n
+  joined n a b x y = length-append (spread nodes values n a) (spread nodes values n b) ∙ rw (x, y, pow-suc) (omega arith)
+
+  by-node : {X : Type 0} (node : ℕ) → (at-node node < 128 → X) → (128 ≤ at-node node → X) → X
+  by-node {X} node f g = go (ltb (getD nodes (node % 64) 0) 128) refl
+    where
+      go : (t : Bool) → ltb (getD nodes (node % 64) 0) 128 ≡ t → X
+      go true t = f (ltb-true _ _ t)
+      go false t = g (ltb-false _ _ t)
+
+  spread-length : (n node : ℕ) → length (spread nodes values n node) ≡ 2 ^ n
+  spread-length zero node = by-node node (λ h. ap length (spread-leaf 0 node h) ∙ refl) (λ h. ap length (spread-none 0 node refl h))
+  spread-length (suc n) node =
+      by-node node (λ h. ap length (spread-leaf (suc n) node h) ∙ length-replicate (2 ^ suc n) (getD values (at-node node % 32) 0 + (8 - suc n) * 2 ^ 36))
+      (λ h. ap length (spread-suc n node h) ∙ joined n (node % 64 + 1) (at-node node - 128) (spread-length n (node % 64 + 1)) (spread-length n (at-node node - 128)))
+
+pub lookup-length : (nodes values : List ℕ) → length (lookupOf nodes values) ≡ 256
+lookup-length nodes values = spread-length nodes values 8 0
+
+-- ---- the two halves of a part, filled one after the other
+pub halves : (n : ℕ) → 0 < n → 2 ^ n ≡ 2 * 2 ^ (n - 1)
+halves zero h = absurd (omega (arith, h))
+halves (suc n) h = let z : suc n - 1 ≡ n = omega arith in rw (z, pow-suc) (omega arith)
+
+pub both-halves : (l xs ys : List ℕ) (half end : ℕ) → length xs ≡ length (take half l) → half ≤ end → end ≡ length l → putMid half (end - half) (xs ++ drop half l) ys ≡ xs ++ ys
+both-halves l xs ys half end h u e =
+    let a : length xs ≡ half = h ∙ length-take-le half l (omega arith) in
+    let w : end ≡ length (xs ++ drop half l) = e ∙ sym (length-front l xs half h) in
+    ap₂ (λ (x z : List ℕ). x ++ (ys ++ z)) (take-at xs (drop half l) half a) (post-is half end (xs ++ drop half l) u ∙ (ap (λ (n : ℕ). drop n (xs ++ drop half l)) w ∙ drop-length (xs ++ drop half l))) ∙ ap (λ (z : List ℕ). xs ++ z) (append-nil ys)
+
+pub one-entry : (l : List ℕ) (e : ℕ) → length l ≡ 1 → set l 0 e ≡ e ∷ []
+one-entry [] e h = absurd (omega (arith, h))
+one-entry (x ∷ []) e h = refl
+one-entry (x ∷ y ∷ l) e h = absurd (omega (arith, h))
+
+-- ---- what an entry says of the code at a place: the token, and how many bits it has
+module _ (nodes values p : List ℕ) (at : ℕ) (long : length nodes ≡ 64) where
+  pub record Found (e : ℕ) : Type 0 where
+    pub token : ℕ
+    pub taken : ℕ
+    pub is : e ≡ getD values (token % 32) 0 + taken * 2 ^ 36
+    pub few : taken ≤ 8
+    pub code : tokenCode (treeOf nodes) p at ≡ got token (at + taken)
+
+  one-more : (n i : ℕ) → number p i (suc n) ≡ bitAt p i * 2 ^ n + number p (i + 1) n
+  one-more n i = let z : 1 + n ≡ suc n = omega arith in ap (λ (m : ℕ). number p i m) (sym z) ∙ (number-add p i 1 n ∙ ap (λ (x : ℕ). x * 2 ^ n + number p (i + 1) n) (number-one p i))
+
+  abbrev at-leaf : ℕ → Type 0
+  at-leaf node = getD nodes (node % 64) 0 < 128
+
+  leaf-found : (n node place k : ℕ) → n ≤ 8 → node < 64 → Left nodes p at node place → place + n ≡ at + 8 → k < 2 ^ n → getD nodes (node % 64) 0 < 128 → Found (getD (spread nodes values n node) k 0)
+  leaf-found n node place k m l g w h f =
+      let z : node % 64 ≡ node = omega arith in
+      let e : getD (spread nodes values n node) k 0 ≡ getD values (getD nodes (node % 64) 0 % 32) 0 + (8 - n) * 2 ^ 36 = ap (λ (x : List ℕ). getD x k 0) (spread-leaf nodes values n node f) ∙ getD-replicate (2 ^ n) k _ 0 h in
+      let q : place ≡ at + (8 - n) = omega (arith, w, m) in
+      record {
+        token = getD nodes node 0;
+        taken = 8 - n;
+        is = e ∙ ap (λ (x : ℕ). getD values (getD nodes x 0 % 32) 0 + (8 - n) * 2 ^ 36) z;
+        few = omega arith;
+        code = left-leaf nodes p at node place g (rw z at f) ∙ ap (λ (x : ℕ). got (getD nodes node 0) x) q;
+      }
+
+  -- the half that the next bit tells
+  in-half : (n i x y : ℕ) (P : ℕ → Type 0) → P (getD (spread nodes values n (choose (eqb (bitAt p i) 0) x y)) (number p (i + 1) n) 0) → P (getD (spread nodes values n x ++ spread nodes values n y) (number p i (suc n)) 0)
+  in-half n i x y P = go (eqb (bitAt p i) 0) refl
+    where
+      go : (t : Bool) → eqb (bitAt p i) 0 ≡ t → P (getD (spread nodes values n (choose t x y)) (number p (i + 1) n) 0) → P (getD (spread nodes values n x ++ spread nodes values n y) (number p i (suc n)) 0)
+      go true t h =
+          let b : bitAt p i ≡ 0 = eqb-true _ _ t in
+          let k : number p i (suc n) ≡ number p (i + 1) n = one-more n i ∙ rw b (omega arith) in
+          rw (k, List·getD-append (spread nodes values n x) (spread nodes values n y) 0 (number p (i + 1) n) (rw (spread-length nodes values n x) (number-lt p (i + 1) n))) h
+      go false t h =
+          let b : bitAt p i ≡ 1 = omega (arith, bit-lt p i, eqb-false (bitAt p i) 0 t) in
+          let k : number p i (suc n) ≡ length (spread nodes values n x) + number p (i + 1) n = one-more n i ∙ rw (b, spread-length nodes values n x) (omega arith) in
+          rw (k, getD-append-add (spread nodes values n x) (spread nodes values n y) (number p (i + 1) n) 0) h
+
+  found : (n node place : ℕ) → n ≤ 8 → node < 64 → Left nodes p at node place → place + n ≡ at + 8 → at + 8 ≤ bits p → (_≡_ {A = ℕ} (getD (spread nodes values n node) (number p place n) 0) 0 → ⊥) → Found (getD (spread nodes values n node) (number p place n) 0)
+  found zero node place m l g w b h =
+      by-node nodes values node (leaf-found 0 node place _ m l g w (number-lt p place 0))
+      (λ f. absurd (h (ap (λ (x : List ℕ). getD x (number p place 0) 0) (spread-none nodes values 0 node refl f) ∙ none (number p place 0))))
+    where
+      none : (k : ℕ) → _≡_ {A = ℕ} (getD (0 ∷ []) k 0) 0
+      none zero = refl
+      none (suc k) = refl
+  found (suc n) node place m l g w b h =
+      by-node nodes values node (leaf-found (suc n) node place _ m l g w (number-lt p place (suc n)))
+      (λ f. go f (λ node place u v x y z. found n node place u v x y b z))
+    where
+      go : 128 ≤ getD nodes (node % 64) 0
+          → ((node place : ℕ) → n ≤ 8 → node < 64 → Left nodes p at node place → place + n ≡ at + 8 → (_≡_ {A = ℕ} (getD (spread nodes values n node) (number p place n) 0) 0 → ⊥) → Found (getD (spread nodes values n node) (number p place n) 0))
+          → Found (getD (spread nodes values (suc n) node) (number p place (suc n)) 0)
+      go f r =
+          let z : node % 64 ≡ node = omega arith in
+          let v = getD nodes (node % 64) 0 in
+          let o = left-on nodes p at node place v (branch (node % 64) v (bitAt p place)) g (ap (λ (x : ℕ). getD nodes x 0) z) f (omega (arith, w, b)) (ap (λ (x : ℕ). branch x v (bitAt p place)) z) in
+          let s = spread-suc nodes values n node f in
+          let e = ap (λ (x : List ℕ). getD x (number p place (suc n)) 0) s in
+          rw e (in-half n place (node % 64 + 1) (v - 128) Found (r (branch (node % 64) v (bitAt p place)) (place + 1) (omega (arith, m)) (omega (arith, o .1, long)) (o .2) (omega (arith, w))
+          (λ q. h (e ∙ in-half n place (node % 64 + 1) (v - 128) (λ x. _≡_ {A = ℕ} x 0) q))))
+
+  pub found-code : Formed nodes → at + 8 ≤ bits p → (_≡_ {A = ℕ} (getD (lookupOf nodes values) (number p at 8) 0) 0 → ⊥) → Found (getD (lookupOf nodes values) (number p at 8) 0)
+  found-code f b h = found 8 0 at (omega arith) (omega arith) (left-start nodes p at f) refl b h

@@ -1,0 +1,17 @@
+-- `huffman::fill_by` meets its contract. Assumes nothing.
+use borrow.Author.Needs.{needs}
+use native.Mathlib.Omega.{arith}
+use Rattle.huffman.proofs.fill_by.Statement.{statement}
+use Rattle.huffman.proofs.fill_by.Tie as tie
+
+spread-requires : tie.Need-spread-requires
+spread-requires c κs = let p = c .before .before .before .before .pre in (p .0, p .1, omega arith, omega arith, p .2)
+
+same-length : tie.Need-same-length
+same-length c = search needs
+
+returns : tie.Need-returns
+returns c = search needs
+
+pub fill-by-spec : {M : Type 1} → statement M
+fill-by-spec = tie.close (tie.spec spread-requires same-length returns)
