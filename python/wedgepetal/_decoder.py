@@ -8,9 +8,9 @@ import numpy as np
 import numpy.typing as npt
 
 from . import _library as lib
-from ._faults import Held
+from ._faults import Held, Refused
 from ._frame import Kind, Lease
-from ._library import library, refused
+from ._library import library
 from ._memory import free
 from ._session import Bytes, Numbers, Sizes, sizes
 
@@ -65,7 +65,7 @@ class Decoder:
         lengths = np.zeros(lib.LENGTH_NUMBERS, np.uint64)
         number = library.wedgepetal_work_lengths(*_lists(session, lengths))
         if number:
-            raise refused(number)
+            raise Refused(number)
         self.memory = 3 * self.sizes.buffer + int(lengths[lib.WORK_BYTES]) + lib.TABLE_BYTES
         limit = free() if max_memory is None else max_memory
         if limit is not None and self.memory > limit:
@@ -84,7 +84,7 @@ class Decoder:
         place = np.zeros(1, np.uint64)
         number = library.wedgepetal_setup(setup, len(setup), *_lists(table, place))
         if number:
-            raise refused(number, int(place[0]))
+            raise Refused(number, int(place[0]))
         return table
 
     def restart(self) -> None:
@@ -110,7 +110,7 @@ class Decoder:
         )
         answer = [int(n) for n in self._answer]
         if number:
-            raise refused(number, answer[lib.PLACE])
+            raise Refused(number, answer[lib.PLACE])
         kind = _KINDS[answer[lib.KIND]]
         self._previous = new
         if kind is Kind.INTRA:

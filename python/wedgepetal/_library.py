@@ -6,8 +6,6 @@ import os
 from pathlib import Path
 from typing import Dict, Iterator, List, Tuple
 
-from ._faults import Refused
-
 VERSION = "0.1.0"
 FILE = "libwedgepetal.so.0"
 
@@ -78,11 +76,6 @@ library = _load()
 def text(number: int) -> str:
     """What the number of a refusal means."""
     return str(library.wedgepetal_refusal_text(number).decode())
-
-
-def refused(number: int, place: int = 0) -> Refused:
-    """The exception of a refusal."""
-    return Refused(number, text(number), place)
 
 
 def version() -> Tuple[str, str]:
