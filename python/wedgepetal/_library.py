@@ -14,6 +14,7 @@ SIZE_NUMBERS = 16
 LENGTH_NUMBERS = 11
 ANSWER_NUMBERS = 8
 TABLE_BYTES = 28184
+Y4M_HEADER_BYTES = 82
 
 CS, REFERENCES, KEY_FRAMES, OTHERS = 11, 16, 17, 18
 BUFFER, PLANES = 3, 4
@@ -29,6 +30,8 @@ _LISTS: Dict[str, int] = {
     "wedgepetal_work_lengths": 2,
     "wedgepetal_frame": 17,
     "wedgepetal_rgb": 4,
+    "wedgepetal_y4m_header": 3,
+    "wedgepetal_y4m_frame": 4,
 }
 
 
