@@ -590,6 +590,27 @@ static inline uint32_t wedgepetal_frame_in(const struct wedgepetal_work *work, u
                             WEDGEPETAL_ANSWER_NUMBERS);
 }
 
+/* wedgepetal_shot with these slices, and with three buffers of buffer_length bytes
+ * each that lie one behind the other. answers has 8 numbers for each packet. */
+static inline uint32_t wedgepetal_shot_in(const struct wedgepetal_work *work, uint64_t *session,
+                                          uint64_t *names, const uint64_t *lengths, size_t count,
+                                          const uint8_t *packets, size_t packets_length,
+                                          const uint8_t *table, uint8_t *buffers,
+                                          size_t buffer_length, uint64_t *answers)
+{
+    const uint64_t *n = work->lengths;
+    return wedgepetal_shot(session, WEDGEPETAL_SESSION_NUMBERS, names, WEDGEPETAL_NAME_NUMBERS,
+                           lengths, count, packets, packets_length, table, WEDGEPETAL_TABLE_BYTES,
+                           work->records, n[WEDGEPETAL_RECORDS], work->coded, n[WEDGEPETAL_CODED],
+                           work->coefs, n[WEDGEPETAL_COEFS], work->dc, n[WEDGEPETAL_DC],
+                           work->lasts, n[WEDGEPETAL_LASTS], work->flags, n[WEDGEPETAL_FLAGS],
+                           work->bits, n[WEDGEPETAL_BITS], work->supers, n[WEDGEPETAL_SUPERS],
+                           work->modes, n[WEDGEPETAL_MODES], work->active, n[WEDGEPETAL_ACTIVE],
+                           buffers, buffer_length, buffers + buffer_length, buffer_length,
+                           buffers + 2 * buffer_length, buffer_length, answers,
+                           WEDGEPETAL_ANSWER_NUMBERS * count);
+}
+
 #ifdef __cplusplus
 }
 #endif

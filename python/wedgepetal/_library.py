@@ -17,6 +17,7 @@ TABLE_BYTES = 28184
 Y4M_HEADER_BYTES = 82
 
 CS, REFERENCES, KEY_FRAMES, OTHERS = 11, 16, 17, 18
+GOLDEN, PREVIOUS = 0, 1
 BUFFER, PLANES = 3, 4
 WORK_BYTES = 10
 NUMBER, PLACE, KIND, QI_COUNT, QIS, TOKENS = 0, 1, 2, 3, 4, 7
@@ -28,7 +29,7 @@ _LISTS: Dict[str, int] = {
     "wedgepetal_setup": 3,
     "wedgepetal_sizes": 2,
     "wedgepetal_work_lengths": 2,
-    "wedgepetal_frame": 17,
+    "wedgepetal_shot": 19,
     "wedgepetal_rgb": 4,
     "wedgepetal_y4m_header": 3,
     "wedgepetal_y4m_frame": 4,
