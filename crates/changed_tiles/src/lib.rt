@@ -23,13 +23,7 @@ fn length_of(set: Settings, s: Session) -> u64
     ensures { λ r. ⌜ r ≡ mapLengthOf set s ⌝ }
 {
     let format = headers::pixel_format(s.fields.pf);
-    tile_map::map_length(
-        format,
-        s.fields.fmbw,
-        s.fields.fmbh,
-        set.plane,
-        set.tile,
-    )
+    tile_map::map_length(format, s.fields.fmbw, s.fields.fmbh, set.plane, set.tile)
 }
 
 // The length of the map of a session's frames.
@@ -131,8 +125,22 @@ pub fn frame(
         return reading::refusal(1, 0, s);
     }
     let answer = theora::frame(
-        s, packet, table, records, coded, coefs, dc, lasts, flags, bits, supers, modes, active,
-        golden, previous, new,
+        s,
+        packet,
+        table,
+        records,
+        coded,
+        coefs,
+        dc,
+        lasts,
+        flags,
+        bits,
+        supers,
+        modes,
+        active,
+        golden,
+        previous,
+        new,
     );
     let verdict = answer.verdict;
     update_map(set, s, verdict, previous, new, map);

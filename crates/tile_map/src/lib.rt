@@ -61,14 +61,7 @@ fn mark(byte: u8, previous: &[u8], new: &[u8], at: usize, n: usize) -> u8
 }
 
 // Marks the tiles in which a row of samples differs.
-fn mark_tiles(
-    previous: &[u8],
-    new: &[u8],
-    from: usize,
-    row: usize,
-    tile: usize,
-    map: &mut [u8],
-)
+fn mark_tiles(previous: &[u8], new: &[u8], from: usize, row: usize, tile: usize, map: &mut [u8])
     requires { ⌜ IsTile tile × (row % 8 ≡ 0) × Both (now previous) (now new) from row × (length (now map) ≡ tiles tile row) × Flags (now map) ⌝ }
     ensures { λ _. ⌜ now (map .exit) ≡ marked (now (previous .entry)) (now (new .entry)) from row tile (now (map .entry)) ⌝ }
 {
@@ -82,14 +75,7 @@ fn mark_tiles(
 }
 
 // The same, with one look at the whole row before: most rows of most frames are as they were.
-fn mark_row(
-    previous: &[u8],
-    new: &[u8],
-    from: usize,
-    row: usize,
-    tile: usize,
-    map: &mut [u8],
-)
+fn mark_row(previous: &[u8], new: &[u8], from: usize, row: usize, tile: usize, map: &mut [u8])
     requires { ⌜ IsTile tile × (row % 8 ≡ 0) × Both (now previous) (now new) from row × (length (now map) ≡ tiles tile row) × Flags (now map) ⌝ }
     ensures { λ _. ⌜ now (map .exit) ≡ marked (now (previous .entry)) (now (new .entry)) from row tile (now (map .entry)) ⌝ }
 {

@@ -37,7 +37,11 @@ fn return_length(answer: MapLength, list: &mut [u64]) -> u32
 
 // How many bytes a map of changed tiles has.
 #[no_mangle]
-pub extern "C" fn wedgepetal_tiles_length(settings: &[u64], session: &[u64], length: &mut [u64]) -> u32
+pub extern "C" fn wedgepetal_tiles_length(
+    settings: &[u64],
+    session: &[u64],
+    length: &mut [u64],
+) -> u32
     ensures { λ r. ⌜ gives r (now (length .exit)) ≡ lengthCall (now (settings .entry)) (now (session .entry)) (now (length .entry)) ⌝ }
 {
     let k = lists_refusal(settings, session, length.len(), 1);
@@ -82,8 +86,24 @@ pub extern "C" fn wedgepetal_tiles_frame(
         let set = settings_list::settings_of(settings);
         let s = theora_c::session_of(session);
         let done = changed_tiles::frame(
-            set, s, packet, table, records, coded, coefs, dc, lasts, flags, bits, supers, modes, active,
-            golden, previous, new, map,
+            set,
+            s,
+            packet,
+            table,
+            records,
+            coded,
+            coefs,
+            dc,
+            lasts,
+            flags,
+            bits,
+            supers,
+            modes,
+            active,
+            golden,
+            previous,
+            new,
+            map,
         );
         return theora_c::return_frame(done, session, answer);
     }
