@@ -67,29 +67,29 @@ extern "C" {
 /* The numbers of refusals. */
 enum {
     WEDGEPETAL_ACCEPTED = 0,
-    WEDGEPETAL_LENGTH = 1,          /* a lent list has another length than the published one */
-    WEDGEPETAL_NOT_THIS_HEADER = 2, /* the type byte or "theora" is not the wanted one */
-    WEDGEPETAL_VERSION = 3,         /* VMAJ is not 3, or VMIN is not 2 */
-    WEDGEPETAL_PACKET_END = 4,      /* a read passes the end of the packet */
-    WEDGEPETAL_FIELD_RANGE = 5,     /* an identification field breaks its range */
-    WEDGEPETAL_RESERVED = 6,        /* PF is 1, or the 3 last identification bits are not 0 */
-    WEDGEPETAL_SETUP_FAULT = 7,     /* setup: NBMS above 384, a matrix index not below NBMS, a qi sum
-                                       above 63, a code longer than 32, a 33rd leaf */
-    WEDGEPETAL_SESSION = 8,         /* the session's identification fields break 5, 6 or their widths,
-                                       or its others are not below 2 to the power KFGSHIFT */
-    WEDGEPETAL_TABLE = 8,           /* no accepted setup packet leaves this table memory (the same
-                                       number as for a session) */
+    WEDGEPETAL_WRONG_LENGTH = 1,    /* a lent list has another length than the published one */
+    WEDGEPETAL_OTHER_HEADER = 2,    /* the type byte or "theora" is not the wanted one */
+    WEDGEPETAL_OTHER_VERSION = 3,   /* VMAJ is not 3, or VMIN is not 2 */
+    WEDGEPETAL_PACKET_ENDS = 4,     /* a read passes the end of the packet */
+    WEDGEPETAL_OUT_OF_RANGE = 5,    /* an identification field breaks its range */
+    WEDGEPETAL_BAD_FORMAT = 6,      /* PF is 1, or the 3 last identification bits are not 0 */
+    WEDGEPETAL_BAD_SETUP = 7,       /* setup: NBMS above 384, a matrix index not below NBMS, a qi
+                                       sum above 63, a code longer than 32, a 33rd leaf */
+    WEDGEPETAL_NOT_GENUINE = 8,     /* the session's identification fields break 5, 6 or their
+                                       widths, or its others are not below 2 to the power
+                                       KFGSHIFT; or no accepted setup packet leaves this table
+                                       memory */
     WEDGEPETAL_NO_REFERENCES = 9,   /* an inter or empty packet, and no references */
-    WEDGEPETAL_NOT_A_FRAME = 10,    /* the first bit of a frame packet is 1 */
-    WEDGEPETAL_FRAME_RESERVED = 11, /* an intra frame's 3 reserved bits are not 0 */
-    WEDGEPETAL_RUN = 12,            /* a run exceeds the bits still wanted */
-    WEDGEPETAL_TOKEN = 13,          /* a token moves its block past position 64 */
-    WEDGEPETAL_OUTPUT = 14,         /* the lent output is too short */
-    WEDGEPETAL_COUNT_PASSED = 17,   /* key frames would pass 64 bits, or others would not stay below
-                                       2 to the power KFGSHIFT; found after all else */
-    WEDGEPETAL_COLOUR_SPACE = 18,   /* CS is neither 1 nor 2 */
-    WEDGEPETAL_ABSENT = 255         /* the frame has no such block, macro block or sample, or there is
-                                       no such type, plane or qi */
+    WEDGEPETAL_NO_FRAME = 10,       /* the first bit of a frame packet is 1 */
+    WEDGEPETAL_RESERVED_BITS = 11,  /* an intra frame's 3 reserved bits are not 0 */
+    WEDGEPETAL_LONG_RUN = 12,       /* a run exceeds the bits still wanted */
+    WEDGEPETAL_PAST_BLOCK = 13,     /* a token moves its block past position 64 */
+    WEDGEPETAL_SHORT_OUTPUT = 14,   /* the lent output is too short */
+    WEDGEPETAL_UNCOUNTED = 17,      /* key frames would pass 64 bits, or others would not stay
+                                       below 2 to the power KFGSHIFT; found after all else */
+    WEDGEPETAL_UNKNOWN_COLOUR = 18, /* CS is neither 1 nor 2 */
+    WEDGEPETAL_ABSENT = 255         /* the frame has no such block, macro block or sample, or
+                                       there is no such type, plane or qi */
 };
 
 /* A session is a list of 19 numbers: the identification fields, whether
@@ -377,6 +377,75 @@ static inline uint32_t wedgepetal_frame_in(const struct wedgepetal_work *work, u
                             work->active, n[WEDGEPETAL_ACTIVE], golden, buffer_length, previous,
                             buffer_length, new_frame, buffer_length, answer,
                             WEDGEPETAL_ANSWER_NUMBERS);
+}
+
+/* ---- Which tiles changed.
+ *
+ * settings is a list of 4 numbers: the side of a tile in samples (8, 16 or 32),
+ * shot_first (at most shot_last), shot_last (at most 999,999) and the plane (0 to
+ * 2). A map has one byte for each tile of that plane, row by row from the bottom,
+ * each row from the left; tiles at the right and top may be partial.
+ *
+ * Refusals of both calls, in the order in which they are found: 1 for the list of
+ * settings, 20 for settings out of these ranges, 1 for the session's list, 8 for
+ * its numbers, 1 for any other list, map among them; then, of the frame call, as
+ * wedgepetal_frame. */
+
+/* How many bytes a map has: ceil(columns / side) times ceil(rows / side) of the
+ * plane's samples. length (1 number) receives it. */
+uint32_t wedgepetal_tiles_length(const uint64_t *settings, size_t settings_length,
+                                 const uint64_t *session, size_t session_length,
+                                 uint64_t *length, size_t length_length);
+
+/* wedgepetal_frame, and the map of the tiles that changed.
+ *
+ * settings  (4 numbers)
+ * map       receives 1 for a tile in which some sample of new_frame differs from
+ *           previous, else 0; all 1 after a frame that is accepted without
+ *           references, all 0 after an empty packet. A refused call leaves it as
+ *           it was, so that it is still the map of the last accepted packet
+ *
+ * All else is as in wedgepetal_frame; a refusal by 20 or for a list of another
+ * length than it must have leaves answer too as it was, one for map says 1 there. */
+uint32_t wedgepetal_tiles_frame(const uint64_t *settings, size_t settings_length,
+                                uint64_t *session, size_t session_length,
+                                const uint8_t *packet, size_t packet_length,
+                                const uint8_t *table, size_t table_length,
+                                uint32_t *records, size_t records_length,
+                                uint64_t *coded, size_t coded_length,
+                                int16_t *coefs, size_t coefs_length,
+                                int16_t *dc, size_t dc_length,
+                                uint8_t *lasts, size_t lasts_length,
+                                uint8_t *flags, size_t flags_length,
+                                uint8_t *bits, size_t bits_length,
+                                uint8_t *supers, size_t supers_length,
+                                uint8_t *modes, size_t modes_length,
+                                uint64_t *active, size_t active_length,
+                                const uint8_t *golden, size_t golden_length,
+                                const uint8_t *previous, size_t previous_length,
+                                uint8_t *new_frame, size_t new_frame_length,
+                                uint64_t *answer, size_t answer_length,
+                                uint8_t *map, size_t map_length);
+
+/* wedgepetal_tiles_frame with the slices of work memory in one struct, as
+ * wedgepetal_frame_in. */
+static inline uint32_t wedgepetal_tiles_frame_in(const struct wedgepetal_work *work, const uint64_t *settings,
+                                                 uint64_t *session, const uint8_t *packet, size_t packet_length,
+                                                 const uint8_t *table, const uint8_t *golden,
+                                                 const uint8_t *previous, uint8_t *new_frame,
+                                                 size_t buffer_length, uint64_t *answer,
+                                                 uint8_t *map, size_t map_length)
+{
+    const uint64_t *n = work->lengths;
+    return wedgepetal_tiles_frame(settings, 4, session, WEDGEPETAL_SESSION_NUMBERS, packet, packet_length,
+                                  table, WEDGEPETAL_TABLE_BYTES, work->records, n[WEDGEPETAL_RECORDS],
+                                  work->coded, n[WEDGEPETAL_CODED], work->coefs, n[WEDGEPETAL_COEFS],
+                                  work->dc, n[WEDGEPETAL_DC], work->lasts, n[WEDGEPETAL_LASTS],
+                                  work->flags, n[WEDGEPETAL_FLAGS], work->bits, n[WEDGEPETAL_BITS],
+                                  work->supers, n[WEDGEPETAL_SUPERS], work->modes, n[WEDGEPETAL_MODES],
+                                  work->active, n[WEDGEPETAL_ACTIVE], golden, buffer_length, previous,
+                                  buffer_length, new_frame, buffer_length, answer,
+                                  WEDGEPETAL_ANSWER_NUMBERS, map, map_length);
 }
 
 #ifdef __cplusplus

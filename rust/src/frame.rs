@@ -102,7 +102,7 @@ impl<'a> Frame<'a> {
         if bytes.len() as u64 == sizes.buffer {
             Ok(Frame { sizes, bytes })
         } else {
-            Err(Refusal::LENGTH)
+            Err(Refusal::WRONG_LENGTH)
         }
     }
 

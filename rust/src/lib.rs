@@ -11,11 +11,11 @@
 //! use wedgepetal::{Refusal, identification};
 //!
 //! // A packet that ends before its type byte.
-//! assert_eq!(identification(b""), Err(Refusal::PACKET_END));
+//! assert_eq!(identification(b""), Err(Refusal::PACKET_ENDS));
 //! // A comment header is another header.
-//! assert_eq!(identification(b"\x81theora"), Err(Refusal::NOT_THIS_HEADER));
+//! assert_eq!(identification(b"\x81theora"), Err(Refusal::OTHER_HEADER));
 //! // One whose fourth letter is wrong.
-//! assert_eq!(identification(b"\x80theXra"), Err(Refusal::NOT_THIS_HEADER.at(32)));
+//! assert_eq!(identification(b"\x80theXra"), Err(Refusal::OTHER_HEADER.at(32)));
 //! ```
 //!
 //! ```no_run

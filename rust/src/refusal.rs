@@ -4,7 +4,7 @@ use std::error::Error;
 use std::fmt;
 
 /// A refusal: its number and its bit place. The constants have place 0;
-/// `Refusal::RUN.at(5311)` is a refusal by the same number at another place.
+/// `Refusal::LONG_RUN.at(5311)` is a refusal by the same number at another place.
 #[derive(Clone, Copy, Debug, PartialEq, Eq, Hash)]
 pub struct Refusal {
     /// The number.
@@ -16,42 +16,41 @@ pub struct Refusal {
 
 impl Refusal {
     /// A lent list has another length than the published one.
-    pub const LENGTH: Refusal = Refusal::by(1);
+    pub const WRONG_LENGTH: Refusal = Refusal::by(1);
     /// The type byte or "theora" is not the wanted one.
-    pub const NOT_THIS_HEADER: Refusal = Refusal::by(2);
+    pub const OTHER_HEADER: Refusal = Refusal::by(2);
     /// VMAJ is not 3, or VMIN is not 2.
-    pub const VERSION: Refusal = Refusal::by(3);
+    pub const OTHER_VERSION: Refusal = Refusal::by(3);
     /// A read passes the end of the packet.
-    pub const PACKET_END: Refusal = Refusal::by(4);
+    pub const PACKET_ENDS: Refusal = Refusal::by(4);
     /// An identification field breaks its range.
-    pub const FIELD_RANGE: Refusal = Refusal::by(5);
+    pub const OUT_OF_RANGE: Refusal = Refusal::by(5);
     /// PF is 1, or the 3 last identification bits are not 0.
-    pub const RESERVED: Refusal = Refusal::by(6);
+    pub const BAD_FORMAT: Refusal = Refusal::by(6);
     /// Setup: NBMS above 384, a matrix index not below NBMS, a qi sum above
     /// 63, a code longer than 32, or a 33rd leaf.
-    pub const SETUP_FAULT: Refusal = Refusal::by(7);
+    pub const BAD_SETUP: Refusal = Refusal::by(7);
     /// The session's identification fields break 5, 6 or their widths, or its
-    /// packets since the last key frame are not below 2 to the power KFGSHIFT.
-    pub const SESSION: Refusal = Refusal::by(8);
-    /// No accepted setup packet leaves this table memory.
-    pub const TABLE: Refusal = Refusal::by(8);
+    /// packets since the last key frame are not below 2 to the power KFGSHIFT;
+    /// or no accepted setup packet leaves this table memory.
+    pub const NOT_GENUINE: Refusal = Refusal::by(8);
     /// An inter or empty packet, and no references.
     pub const NO_REFERENCES: Refusal = Refusal::by(9);
     /// The first bit of a frame packet is 1: it is a header.
-    pub const NOT_A_FRAME: Refusal = Refusal::by(10);
+    pub const NO_FRAME: Refusal = Refusal::by(10);
     /// An intra frame's 3 reserved bits are not 0.
-    pub const FRAME_RESERVED: Refusal = Refusal::by(11);
+    pub const RESERVED_BITS: Refusal = Refusal::by(11);
     /// A run exceeds the bits still wanted.
-    pub const RUN: Refusal = Refusal::by(12);
+    pub const LONG_RUN: Refusal = Refusal::by(12);
     /// A token moves its block past position 64.
-    pub const TOKEN: Refusal = Refusal::by(13);
+    pub const PAST_BLOCK: Refusal = Refusal::by(13);
     /// The lent output is too short.
-    pub const OUTPUT: Refusal = Refusal::by(14);
+    pub const SHORT_OUTPUT: Refusal = Refusal::by(14);
     /// A key frame more than 64 bits count, or so many other packets since the
     /// last one that they would not stay below 2 to the power KFGSHIFT.
-    pub const COUNT_PASSED: Refusal = Refusal::by(17);
+    pub const UNCOUNTED: Refusal = Refusal::by(17);
     /// CS is neither 1 nor 2.
-    pub const COLOUR_SPACE: Refusal = Refusal::by(18);
+    pub const UNKNOWN_COLOUR: Refusal = Refusal::by(18);
     /// The frame has no such block, macro block or sample, or there is no such
     /// type, plane or qi.
     pub const ABSENT: Refusal = Refusal::by(255);
@@ -168,15 +167,15 @@ mod tests {
     #[test]
     fn refusals_in_words() {
         assert_eq!(
-            Refusal::RUN.at(5311).in_packet(1113),
+            Refusal::LONG_RUN.at(5311).in_packet(1113),
             "refused by 12, a run exceeds the bits still wanted, at bit 5,311 of 8,904"
         );
         assert_eq!(
-            Refusal::VERSION.at(56).to_string(),
+            Refusal::OTHER_VERSION.at(56).to_string(),
             "refused by 3, VMAJ is not 3, or VMIN is not 2, at bit 56"
         );
         assert_eq!(
-            Refusal::LENGTH.in_packet(9),
+            Refusal::WRONG_LENGTH.in_packet(9),
             "refused by 1, a lent length differs from the published one"
         );
     }

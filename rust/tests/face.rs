@@ -68,12 +68,18 @@ fn red_green_and_blue() {
     assert!(out[48..768].iter().all(|byte| *byte == 0));
     assert_eq!(out[768..], [9, 9]);
     let mut short = vec![9; 767];
-    assert_eq!(session.rgb(&planes, &mut short), Err(Refusal::OUTPUT));
+    assert_eq!(session.rgb(&planes, &mut short), Err(Refusal::SHORT_OUTPUT));
     session.cs = 0;
-    assert_eq!(session.rgb(&planes, &mut short), Err(Refusal::COLOUR_SPACE));
-    assert_eq!(session.rgb(&planes[1..], &mut short), Err(Refusal::LENGTH));
+    assert_eq!(
+        session.rgb(&planes, &mut short),
+        Err(Refusal::UNKNOWN_COLOUR)
+    );
+    assert_eq!(
+        session.rgb(&planes[1..], &mut short),
+        Err(Refusal::WRONG_LENGTH)
+    );
     session.fmbh = 0;
-    assert_eq!(session.rgb(&planes, &mut short), Err(Refusal::SESSION));
+    assert_eq!(session.rgb(&planes, &mut short), Err(Refusal::NOT_GENUINE));
     assert_eq!(short, [9; 767]);
 }
 
@@ -99,14 +105,14 @@ fn what_is_no_setup_header_or_table() {
     let packet = setup_packet(|_| 7);
     // In the token of the last tree; the packet's 1,274 bits fill 160 bytes.
     let cut = setup(&packet[..packet.len() - 1]);
-    assert_eq!(cut, Err(Refusal::PACKET_END.at(1269)));
-    assert_eq!(setup(b"\x80theora"), Err(Refusal::NOT_THIS_HEADER));
-    assert_eq!(setup(b"\x82theorA"), Err(Refusal::NOT_THIS_HEADER.at(48)));
+    assert_eq!(cut, Err(Refusal::PACKET_ENDS.at(1269)));
+    assert_eq!(setup(b"\x80theora"), Err(Refusal::OTHER_HEADER));
+    assert_eq!(setup(b"\x82theorA"), Err(Refusal::OTHER_HEADER.at(48)));
     let mut bytes = setup(&packet).unwrap().bytes().to_vec();
     bytes[lists::TABLE_BYTES - 1] = 1;
-    assert_eq!(Table::from_bytes(&bytes), Err(Refusal::TABLE));
+    assert_eq!(Table::from_bytes(&bytes), Err(Refusal::NOT_GENUINE));
     bytes.pop();
-    assert_eq!(Table::from_bytes(&bytes), Err(Refusal::LENGTH));
+    assert_eq!(Table::from_bytes(&bytes), Err(Refusal::WRONG_LENGTH));
     let mut place = [7];
     assert_eq!(lists::setup(&packet, &mut bytes, &mut place), 1);
     assert_eq!((bytes[0], place), (0x82, [0]));
@@ -120,8 +126,8 @@ fn what_is_no_setup_header_or_table() {
 
 #[test]
 fn refusals() {
-    assert_eq!(identification(b""), Err(Refusal::PACKET_END));
-    assert_eq!(session(1, 1, 1).sizes(), Err(Refusal::SESSION));
+    assert_eq!(identification(b""), Err(Refusal::PACKET_ENDS));
+    assert_eq!(session(1, 1, 1).sizes(), Err(Refusal::NOT_GENUINE));
     assert_eq!(session(1, 1, 0).block_at(6), Err(Refusal::ABSENT));
     assert_eq!(lists::sizes(&[0; 18], &mut []), 1);
     assert_eq!(lists::sizes(&[0; 19], &mut []), 8);
@@ -152,9 +158,9 @@ fn sessions_are_lists() {
     // KFGSHIFT is 6.
     assert!(with_references.sizes().is_ok());
     with_references.others = 64;
-    assert_eq!(with_references.sizes(), Err(Refusal::SESSION));
-    assert_eq!(with_references.block_at(0), Err(Refusal::SESSION));
-    assert_eq!(with_references.work_lengths(), Err(Refusal::SESSION));
+    assert_eq!(with_references.sizes(), Err(Refusal::NOT_GENUINE));
+    assert_eq!(with_references.block_at(0), Err(Refusal::NOT_GENUINE));
+    assert_eq!(with_references.work_lengths(), Err(Refusal::NOT_GENUINE));
 }
 
 #[test]

@@ -76,7 +76,7 @@ fn work_lengths() {
     assert_eq!(lengths.bytes, 153 * 6 + 6 + 1);
     let huge = session(65535, 65535, 3).work_lengths().unwrap();
     assert_eq!(huge.coefs, 64 * 51_538_034_700);
-    assert_eq!(session(1, 1, 1).work_lengths(), Err(Refusal::SESSION));
+    assert_eq!(session(1, 1, 1).work_lengths(), Err(Refusal::NOT_GENUINE));
     let mut list = [7; lists::LENGTH_NUMBERS];
     assert_eq!(lists::work_lengths(&[0; 18], &mut list), 1);
     assert_eq!(lists::work_lengths(&[0; 19], &mut list[1..]), 8);
@@ -152,10 +152,10 @@ fn refused_packets_leave_all_as_it_was() {
     player.decode(&intra(9, 10)).unwrap();
     let before = shown(&player);
     for (bits, refusal) in [
-        ("1", Refusal::NOT_A_FRAME),
-        ("0 0 000011 0 001", Refusal::FRAME_RESERVED.at(9)),
-        ("0 0 000011 0 000 1001", Refusal::PACKET_END.at(16)),
-        ("0 1 000100 0 0 110 0", Refusal::RUN.at(10)),
+        ("1", Refusal::NO_FRAME),
+        ("0 0 000011 0 001", Refusal::RESERVED_BITS.at(9)),
+        ("0 0 000011 0 000 1001", Refusal::PACKET_ENDS.at(16)),
+        ("0 1 000100 0 0 110 0", Refusal::LONG_RUN.at(10)),
     ] {
         assert_eq!(player.decode(&packet(bits)), Err(refusal), "{bits}");
         assert_eq!(shown(&player), before);
@@ -174,7 +174,7 @@ fn a_token_past_position_64_is_refused() {
     let bits = format!("0 0 000011 0 000 0000 0000 {ones} 0000 0000");
     let past = packet(&format!("{bits} 111111"));
     // The code of a lone leaf has no bits: the token begins at its extra ones.
-    assert_eq!(player.decode(&past), Err(Refusal::TOKEN.at(64)));
+    assert_eq!(player.decode(&past), Err(Refusal::PAST_BLOCK.at(64)));
     let to_the_end = packet(&format!("{bits} {}", "111110".repeat(6)));
     let answer = player.decode(&to_the_end).unwrap();
     assert_eq!((answer.kind, answer.tokens), (Kind::Intra, 12));
@@ -234,12 +234,12 @@ fn packets_since_a_key_frame_stay_below_the_bound() {
             let (before, at) = (shown(&player), place(&player));
             assert_eq!(at.1, (1 << shift) - 1);
             for packet in [Vec::new(), inter(0, 9, 0)] {
-                assert_eq!(player.decode(&packet), Err(Refusal::COUNT_PASSED));
+                assert_eq!(player.decode(&packet), Err(Refusal::UNCOUNTED));
             }
             // A fault of the packet comes first.
             let cut = inter(0, 9, 0)[..2].to_vec();
             let refusal = player.decode(&cut).unwrap_err();
-            assert_eq!(refusal.number, Refusal::PACKET_END.number);
+            assert_eq!(refusal.number, Refusal::PACKET_ENDS.number);
             assert_eq!((shown(&player), place(&player)), (before, at));
         }
     }
@@ -264,10 +264,10 @@ fn key_frames_stay_within_64_bits() {
     };
     assert_eq!(call(&mut counted), Ok(Kind::Intra));
     assert_eq!((counted.key_frames, counted.others), (u64::MAX, 0));
-    assert_eq!(call(&mut counted), Err(Refusal::COUNT_PASSED));
+    assert_eq!(call(&mut counted), Err(Refusal::UNCOUNTED));
     assert_eq!((counted.key_frames, counted.others), (u64::MAX, 0));
     counted.others = 64;
-    assert_eq!(call(&mut counted), Err(Refusal::SESSION));
+    assert_eq!(call(&mut counted), Err(Refusal::NOT_GENUINE));
 }
 
 #[test]
@@ -286,7 +286,7 @@ fn memory_of_other_lengths_is_refused() {
         };
         session.frame(&intra(9, 10), &table, work, buffers).err()
     };
-    let length = Some(Refusal::LENGTH);
+    let length = Some(Refusal::WRONG_LENGTH);
     assert_eq!(call(&mut large, &old, &old, &mut new), length);
     assert_eq!(call(&mut small, &old[1..], &old, &mut new), length);
     assert_eq!(call(&mut small, &old, &old[1..], &mut new), length);
@@ -399,7 +399,7 @@ fn calls_on_lists() {
 #[test]
 fn what_cannot_be_played() {
     let refused = Player::new(session(1, 1, 1), table()).unwrap_err();
-    assert_eq!(refused, Unplayable::Refused(Refusal::SESSION));
+    assert_eq!(refused, Unplayable::Refused(Refusal::NOT_GENUINE));
     let memory = Unplayable::Memory(1 << 43).to_string();
     assert!(memory.contains("8796093022208 bytes of memory"));
 }

@@ -81,12 +81,12 @@ static void try_table(void)
 
     make_setup();
     expect("setup bits", setup.count, 1210);
-    expect("no table yet", wedgepetal_table(table, t), WEDGEPETAL_TABLE);
+    expect("no table yet", wedgepetal_table(table, t), WEDGEPETAL_NOT_GENUINE);
     expect("setup", wedgepetal_setup(setup.bytes, sizeof setup.bytes, table, t, place, 1), 0);
     expect("no place", place[0], 0);
     expect("type byte", table[0], 0x82);
     expect("table", wedgepetal_table(table, t), 0);
-    expect("short table", wedgepetal_table(table, t - 1), WEDGEPETAL_LENGTH);
+    expect("short table", wedgepetal_table(table, t - 1), WEDGEPETAL_WRONG_LENGTH);
     expect("loop_limit", wedgepetal_loop_limit(table, t, 63, limit, 1), 0);
     expect("limit", limit[0], 0);
     expect("qi 64", wedgepetal_loop_limit(table, t, 64, limit, 1), WEDGEPETAL_ABSENT);
@@ -95,15 +95,15 @@ static void try_table(void)
     expect("inter AC", matrix[63], 16);
     expect("type 2", wedgepetal_matrix(table, t, 2, 0, 0, matrix, m), WEDGEPETAL_ABSENT);
     table[t - 1] = 1;
-    expect("a bit behind", wedgepetal_table(table, t), WEDGEPETAL_TABLE);
+    expect("a bit behind", wedgepetal_table(table, t), WEDGEPETAL_NOT_GENUINE);
     expect("no list for the place", wedgepetal_setup(setup.bytes, 151, table, t, place, 0),
-           WEDGEPETAL_LENGTH);
+           WEDGEPETAL_WRONG_LENGTH);
     expect("kept", table[0], 0x82);
-    expect("cut", wedgepetal_setup(setup.bytes, 151, table, t, place, 1), WEDGEPETAL_PACKET_END);
+    expect("cut", wedgepetal_setup(setup.bytes, 151, table, t, place, 1), WEDGEPETAL_PACKET_ENDS);
     expect("in the last tree's token", place[0], 1205);
     expect("cleared", table[0] + table[t - 1], 0);
     expect("short table", wedgepetal_setup(setup.bytes, 151, table, t - 1, place, 1),
-           WEDGEPETAL_LENGTH);
+           WEDGEPETAL_WRONG_LENGTH);
     expect("no place", place[0], 0);
 }
 
@@ -214,29 +214,29 @@ static void try_refusals(struct lent *m, const uint64_t *lengths, uint64_t *sess
     refused("empty", call(m, lengths, session, &inter, 0, answer), answer,
             WEDGEPETAL_NO_REFERENCES, 0);
     refused("a header", call(m, lengths, session, &other, 1, answer), answer,
-            WEDGEPETAL_NOT_A_FRAME, 0);
-    refused("cut", call(m, lengths, session, &intra, 3, answer), answer, WEDGEPETAL_PACKET_END, 24);
+            WEDGEPETAL_NO_FRAME, 0);
+    refused("cut", call(m, lengths, session, &intra, 3, answer), answer, WEDGEPETAL_PACKET_ENDS, 24);
     expect("work is clear", count(m->work, WORK, 0), WORK);
     expect("new is kept", count(m->new_frame, BUFFER, PATTERN), BUFFER);
     intra.bytes[1] |= 0x10;
     refused("reserved", call(m, lengths, session, &intra, 4, answer), answer,
-            WEDGEPETAL_FRAME_RESERVED, 9);
+            WEDGEPETAL_RESERVED_BITS, 9);
     table[0] ^= 1;
-    refused("table", call(m, lengths, session, &intra, 4, answer), answer, WEDGEPETAL_TABLE, 0);
+    refused("table", call(m, lengths, session, &intra, 4, answer), answer, WEDGEPETAL_NOT_GENUINE, 0);
     expect("work is clear", count(m->work, WORK, 0), WORK);
     table[0] ^= 1;
     for (i = 0; i < WEDGEPETAL_WORK_BYTES; i++) {
         memcpy(wrong, lengths, sizeof wrong);
         wrong[i]--;
-        refused("length", call(m, wrong, session, &intra, 4, answer), answer, WEDGEPETAL_LENGTH, 0);
+        refused("length", call(m, wrong, session, &intra, 4, answer), answer, WEDGEPETAL_WRONG_LENGTH, 0);
     }
     expect("work is kept", count(m->work, WORK, PATTERN), WORK);
     refused("buffer",
             wedgepetal_frame_in(&work, session, intra.bytes, 4, table, m->golden, m->previous,
                                 m->new_frame, BUFFER - 1, answer),
-            answer, WEDGEPETAL_LENGTH, 0);
+            answer, WEDGEPETAL_WRONG_LENGTH, 0);
     session[WEDGEPETAL_PF] = 1;
-    refused("session", call(m, lengths, session, &intra, 4, answer), answer, WEDGEPETAL_SESSION, 0);
+    refused("session", call(m, lengths, session, &intra, 4, answer), answer, WEDGEPETAL_NOT_GENUINE, 0);
     expect("work is kept", count(m->work, WORK, PATTERN), WORK);
     session[WEDGEPETAL_PF] = 0;
     expect("session is kept", (uint64_t)memcmp(session, before, sizeof before), 0);
@@ -280,17 +280,17 @@ static void try_accepted(struct lent *m, const uint64_t *lengths, uint64_t *sess
     expect("two others", session[WEDGEPETAL_OTHERS], 2);
     session[WEDGEPETAL_OTHERS] = 63;
     refused("one too many", call(m, lengths, session, &inter, 0, answer), answer,
-            WEDGEPETAL_COUNT_PASSED, 0);
+            WEDGEPETAL_UNCOUNTED, 0);
     refused("a cut comes first", call(m, lengths, session, &inter, 4, answer), answer,
-            WEDGEPETAL_PACKET_END, 29);
+            WEDGEPETAL_PACKET_ENDS, 29);
     expect("others as they were", session[WEDGEPETAL_OTHERS], 63);
     expect("work is clear", count(m->work, WORK, 0), WORK);
     session[WEDGEPETAL_KEY_FRAMES] = UINT64_MAX;
     refused("no more key frames", call(m, lengths, session, &intra, 4, answer), answer,
-            WEDGEPETAL_COUNT_PASSED, 0);
+            WEDGEPETAL_UNCOUNTED, 0);
     session[WEDGEPETAL_OTHERS] = 64;
     refused("too many others", call(m, lengths, session, &intra, 4, answer), answer,
-            WEDGEPETAL_SESSION, 0);
+            WEDGEPETAL_NOT_GENUINE, 0);
     expect("new is kept", count(m->new_frame, BUFFER, PATTERN), BUFFER);
     expect("golden is only read", count(m->golden, BUFFER, PATTERN), BUFFER);
 }
@@ -303,7 +303,7 @@ static void try_frames(uint64_t *session)
 
     session[WEDGEPETAL_FMBW] = session[WEDGEPETAL_FMBH] = 1;
     session[WEDGEPETAL_PICW] = session[WEDGEPETAL_PICH] = 16;
-    expect("short", wedgepetal_work_lengths(session, s, lengths, 10), WEDGEPETAL_LENGTH);
+    expect("short", wedgepetal_work_lengths(session, s, lengths, 10), WEDGEPETAL_WRONG_LENGTH);
     expect("work_lengths", wedgepetal_work_lengths(session, s, lengths, 11), 0);
     expect("coefs", lengths[WEDGEPETAL_COEFS], 384);
     expect("supers", lengths[WEDGEPETAL_SUPERS], 6);
@@ -336,12 +336,12 @@ static void try_rgb(void)
     memset(planes + 256, 128, 128);
     memset(out, 7, sizeof out);
     expect("unknown space", wedgepetal_rgb(session, s, planes, 384, out, 767, written, 1),
-           WEDGEPETAL_COLOUR_SPACE);
+           WEDGEPETAL_UNKNOWN_COLOUR);
     expect("short planes", wedgepetal_rgb(session, s, planes, 383, out, 767, written, 1),
-           WEDGEPETAL_LENGTH);
+           WEDGEPETAL_WRONG_LENGTH);
     session[WEDGEPETAL_CS] = 2;
     expect("short output", wedgepetal_rgb(session, s, planes, 384, out, 767, written, 1),
-           WEDGEPETAL_OUTPUT);
+           WEDGEPETAL_SHORT_OUTPUT);
     expect("nothing written", out[0], 7);
     expect("rgb", wedgepetal_rgb(session, s, planes, 384, out, sizeof out, written, 1), 0);
     expect("bytes", written[0], 768);
@@ -352,7 +352,7 @@ static void try_rgb(void)
     expect("behind it", out[768], 7);
     session[WEDGEPETAL_FMBW] = 0;
     expect("no session", wedgepetal_rgb(session, s, planes, 384, out, sizeof out, written, 1),
-           WEDGEPETAL_SESSION);
+           WEDGEPETAL_NOT_GENUINE);
 }
 
 int main(void)
@@ -369,18 +369,18 @@ int main(void)
     expect("references", session[WEDGEPETAL_REFERENCES], 0);
     expect("nothing counted", session[WEDGEPETAL_KEY_FRAMES] + session[WEDGEPETAL_OTHERS], 0);
     expect("cut", wedgepetal_identification(packet, 41, session, s, number, 1),
-           WEDGEPETAL_PACKET_END);
+           WEDGEPETAL_PACKET_ENDS);
     expect("in KFGSHIFT", number[0], 326);
     expect("short", wedgepetal_identification(packet, 41, session, s - 1, number, 1),
-           WEDGEPETAL_LENGTH);
+           WEDGEPETAL_WRONG_LENGTH);
     expect("two places", wedgepetal_identification(packet, 41, session, s, place, 2),
-           WEDGEPETAL_LENGTH);
+           WEDGEPETAL_WRONG_LENGTH);
     expect("kept", number[0] + place[0], 326);
 
     expect("sizes", wedgepetal_sizes(session, s, sizes, WEDGEPETAL_SIZE_NUMBERS), 0);
     expect("NBS", sizes[WEDGEPETAL_NBS], 1800);
     expect("Cr offset", sizes[WEDGEPETAL_PLANE_CR + 2], 96000);
-    expect("short", wedgepetal_sizes(session, s, sizes, 15), WEDGEPETAL_LENGTH);
+    expect("short", wedgepetal_sizes(session, s, sizes, 15), WEDGEPETAL_WRONG_LENGTH);
 
     expect("block_at", wedgepetal_block_at(session, s, 10, block, 3), 0);
     expect("block x", block[1], 3);
@@ -401,7 +401,7 @@ int main(void)
 
     session[WEDGEPETAL_PF] = 1;
     expect("bad session", wedgepetal_sizes(session, s, sizes, WEDGEPETAL_SIZE_NUMBERS),
-           WEDGEPETAL_SESSION);
+           WEDGEPETAL_NOT_GENUINE);
     session[WEDGEPETAL_PF] = 0;
     try_table();
     try_frames(session);

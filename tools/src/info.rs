@@ -197,7 +197,7 @@ impl StreamInfo {
     fn new(stream: Stream, places: Option<&Limit>) -> StreamInfo {
         StreamInfo {
             stream,
-            header: Err(Refusal::PACKET_END.in_packet(0)),
+            header: Err(Refusal::PACKET_ENDS.in_packet(0)),
             setup: None,
             packets: 0,
             gaps: Vec::new(),

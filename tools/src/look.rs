@@ -59,9 +59,9 @@ impl Look {
         let mut bytes = vec![0; 768 * (named.fmbw * named.fmbh) as usize];
         match named.rgb(frame.bytes(), &mut bytes) {
             Ok(_) => Ok((16 * named.fmbw as usize, bytes)),
-            Err(Refusal::COLOUR_SPACE) if session.cs == 0 => Err(format!(
+            Err(Refusal::UNKNOWN_COLOUR) if session.cs == 0 => Err(format!(
                 "{}: the recording says 0, which is unknown; --colour-space 1 or 2 names it",
-                Refusal::COLOUR_SPACE
+                Refusal::UNKNOWN_COLOUR
             )),
             Err(refusal) => Err(refusal.to_string()),
         }
