@@ -163,8 +163,10 @@ impl Run {
         counts.reached = u64::from(players.reference.reached);
         self.lists.of_recording(&mut self.random, &caller, frames)?;
         let by_frames = players.by_frames();
+        // Numbers of its own, so that all else is tried as without it.
+        let random = &mut Random::new(1);
         self.shots
-            .of_recording(&mut self.random, &caller, frames, &by_frames)?;
+            .of_recording(random, &caller, frames, &by_frames)?;
         Ok(counts)
     }
 

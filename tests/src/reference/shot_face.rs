@@ -165,3 +165,99 @@ impl ShotLists<'_> {
         left.session[OTHERS] = session.others;
     }
 }
+
+#[cfg(test)]
+mod tests {
+    use super::super::session::Fields;
+    use super::super::setup::setup;
+    use super::super::setup::tests::small;
+    use super::super::table_memory::left_by;
+    use super::*;
+
+    /// An intra frame with qi 63, in which token 0 ends each block.
+    const INTRA: [u8; 4] = [63, 0, 0, 0];
+
+    /// One macro block in 4:2:0, with this reference number; at most three
+    /// packets may follow a key frame.
+    fn session(references: u64) -> [u64; SESSION_NUMBERS] {
+        let fields = Fields {
+            kfgshift: 2,
+            ..Fields::of_frame(1, 1, 0)
+        };
+        fields.session(references)
+    }
+
+    /// A call with so many numbers for the answers; the buffers are all 10, 20
+    /// and 30.
+    fn call(
+        session: &[u64],
+        names: &[u64],
+        lengths: &[u64],
+        packets: &[u8],
+        answers: usize,
+    ) -> ShotLeft {
+        let header = small();
+        let table = TableMemory::new(left_by(header.bytes(), &setup(header.bytes())));
+        let lists = ShotLists {
+            session,
+            names,
+            lengths,
+            packets,
+            table: &table,
+            work: [6, 6, 384, 6, 6, 6, 6, 6, 1, 6],
+            buffers: [&[10; 384], &[20; 384], &[30; 384]],
+            answers: &vec![9; answers],
+        };
+        let left = lists.call(Way::Second);
+        assert_eq!(left, lists.call(Way::First));
+        left
+    }
+
+    #[test]
+    fn packets_in_turn() {
+        // Empty without references, intra, empty, no frame packet, empty.
+        let packets = [&INTRA[..], &[0x80, 77]].concat();
+        let left = call(&session(0), &[8, 9], &[0, 4, 0, 1, 0], &packets, 40);
+        let numbers: Vec<u64> = left.answers.chunks(8).map(|answer| answer[0]).collect();
+        assert_eq!(numbers, [9, 0, 0, 10, 0]);
+        assert_eq!((left.number, left.work), (0, Work::Zero));
+        assert_eq!(left.names, [0, 2]);
+        assert_eq!(left.session[REFERENCES..], [1, 1, 2]);
+        assert_eq!(left.buffers, [(); 3].map(|()| vec![128; 384]));
+    }
+
+    #[test]
+    fn the_first_free_buffer() {
+        for (names, new) in [([0, 0], 1), ([0, 1], 2), ([1, 2], 0), ([2, 0], 1)] {
+            let left = call(&session(5), &names, &[0], &[], 8);
+            assert_eq!(left.names, [names[0], new]);
+            assert_eq!(left.session[REFERENCES], 5);
+            let previous = 10 * (names[1] + 1) as u8;
+            assert_eq!(left.buffers[new as usize], [previous; 384]);
+        }
+    }
+
+    #[test]
+    fn refusals_in_order() {
+        let refused = |session: &[u64], names: &[u64], lengths: &[u64], answers, number| {
+            let left = call(session, names, lengths, &INTRA, answers);
+            assert_eq!((left.number, left.work), (number, Work::Untouched));
+            assert_eq!((&left.session[..], &left.names[..]), (session, names));
+            assert_eq!(left.answers, vec![9; answers]);
+            assert_eq!(left.buffers.map(|buffer| buffer[0]), [10, 20, 30]);
+        };
+        let mut unsound = session(1);
+        unsound[15] = 1;
+        refused(&unsound[1..], &[3, 0], &[5], 7, 1);
+        refused(&unsound, &[3], &[5], 7, 1);
+        refused(&unsound, &[3, 0], &[5], 7, 8);
+        refused(&session(1), &[3, 0], &[5], 7, 1);
+        refused(&session(1), &[3, 0], &[5], 8, 8);
+        refused(&session(1), &[0, 3], &[5], 8, 8);
+        refused(&session(1), &[0, 1], &[5], 8, 16);
+        refused(&session(0), &[0, 3], &[5], 8, 16);
+        refused(&session(0), &[3, 3], &[u64::MAX; 2], 16, 16);
+        refused(&session(0), &[3, 3], &[], 0, 0);
+        assert_eq!(call(&session(0), &[3, 3], &[4], &INTRA, 8).number, 0);
+    }
+}
