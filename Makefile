@@ -32,16 +32,16 @@ endif
 
 all: $(static) $(shared)
 
-$(out)/about.o: c/about.c include/wedgepetal.h
+$(out)/about.o: c/about.c include/wedgepetal.h Makefile
 	@mkdir -p $(out)
 	$(CC) $(CPPFLAGS) $(CFLAGS) -fPIC -Iinclude -c $< -o $@
 
 # The proved objects as they are, and one more.
-$(static): $(archive) $(out)/about.o
+$(static): $(archive) $(out)/about.o Makefile
 	cp $(archive) $@
 	$(AR) rsD $@ $(out)/about.o
 
-$(shared): $(static) c/exports.map
+$(shared): $(static) c/exports.map Makefile
 	$(CC) $(CFLAGS) $(LDFLAGS) -shared -Wl,-soname,$(soname) -Wl,--version-script,c/exports.map -Wl,-z,defs -Wl,-z,now \
 		-Wl,-z,noexecstack -Wl,--whole-archive $(static) -Wl,--no-whole-archive -o $@
 	ln -sf $(notdir $@) $(out)/$(soname)

@@ -3,10 +3,11 @@
  *
  *   bench RECORDING.ogv..
  *
- * All packets are read into memory first; only decoding is timed, by the processor's time. Each decoder goes over the whole recording in turn,
- * several rounds, and its fastest round counts. One line of a table for each recording: the frame's size in macro blocks,
- * the number of frames, microseconds per frame of each decoder, the ratios, and which share of our time the test of table
- * memory and the clearing of work memory take.
+ * All packets are read into memory first; only decoding is timed, by the processor's time. This decoder has three ways: the whole recording
+ * in one shot call, a shot call for each packet, a frame call for each packet. Each way and each decoder goes over the whole recording in
+ * turn, several rounds, and the median counts. One line of a table for each recording: the frame's size in macro blocks, the number of
+ * frames, microseconds per frame, the ratios, and which share of the frame calls' time the test of table memory and the clearing of work
+ * memory take.
  */
 #define _POSIX_C_SOURCE 200809L
 #include "common.h"
@@ -15,13 +16,13 @@
 #include <libavcodec/avcodec.h>
 #include <theora/theoradec.h>
 
-enum { LEAST_ROUNDS = 3, MOST_ROUNDS = 400 };
+enum { LEAST_ROUNDS = 5, MOST_ROUNDS = 400 };
 _Static_assert(AV_INPUT_BUFFER_PADDING_SIZE <= BEHIND, "FFmpeg reads further");
-static const double ENOUGH_SECONDS = 1.0;
+static const double ENOUGH_SECONDS = 1.5;
 
 /* ---- this decoder */
 
-/* What a caller lends for a recording's frames. golden, previous and new are three buffers, handed on by number. */
+/* What a caller lends for a recording's frames. The three buffers are handed on by number. */
 struct lent {
     uint64_t session[WEDGEPETAL_SESSION_NUMBERS], sizes[WEDGEPETAL_SIZE_NUMBERS], lengths[WEDGEPETAL_LENGTH_NUMBERS];
     uint8_t *table, *planes[3];
@@ -56,8 +57,67 @@ static void give_back(struct lent *l)
     }
 }
 
-/* Decodes the whole recording. */
-static double our_round(const struct recording *r)
+/* A shot of so many packets, joined together, whose session, names and buffers go on from the one before. */
+static void play(const struct lent *l, const struct wedgepetal_work *w, uint64_t *session, uint64_t *names, const uint64_t *lengths, size_t count,
+                 const uint8_t *packets, size_t bytes, uint64_t *answers)
+{
+    const uint64_t *n = w->lengths;
+    size_t buffer = l->sizes[WEDGEPETAL_BUFFER];
+    if (wedgepetal_shot(session, WEDGEPETAL_SESSION_NUMBERS, names, WEDGEPETAL_NAME_NUMBERS, lengths, count, packets, bytes, l->table,
+                        WEDGEPETAL_TABLE_BYTES, w->records, n[WEDGEPETAL_RECORDS], w->coded, n[WEDGEPETAL_CODED], w->coefs, n[WEDGEPETAL_COEFS],
+                        w->dc, n[WEDGEPETAL_DC], w->lasts, n[WEDGEPETAL_LASTS], w->flags, n[WEDGEPETAL_FLAGS], w->bits, n[WEDGEPETAL_BITS],
+                        w->supers, n[WEDGEPETAL_SUPERS], w->modes, n[WEDGEPETAL_MODES], w->active, n[WEDGEPETAL_ACTIVE], l->planes[0], buffer,
+                        l->planes[1], buffer, l->planes[2], buffer, answers, WEDGEPETAL_ANSWER_NUMBERS * count) != 0) {
+        fail("a shot is refused");
+    }
+}
+
+/* Decodes the whole recording by one shot call, or by one for each packet. */
+static double shots_round(const struct recording *r, size_t at_once)
+{
+    struct lent l = lend(r);
+    struct wedgepetal_work work = wedgepetal_work_in(l.memory, l.lengths);
+    size_t count = r->count - HEADERS, bytes = 0, at = 0;
+    uint64_t names[WEDGEPETAL_NAME_NUMBERS] = {WEDGEPETAL_NO_BUFFER, WEDGEPETAL_NO_BUFFER};
+    uint64_t *lengths = memory(count * sizeof *lengths), *answers = memory(count * WEDGEPETAL_ANSWER_NUMBERS * sizeof *answers);
+    uint8_t *joined;
+    double start;
+    for (size_t i = 0; i < count; i++) {
+        bytes += lengths[i] = r->lengths[HEADERS + i];
+    }
+    joined = memory(bytes);
+    for (size_t i = 0; i < count; i++) {
+        memcpy(joined + at, r->packets[HEADERS + i], lengths[i]);
+        at += lengths[i];
+    }
+    at = 0;
+    start = now();
+    for (size_t i = 0; i < count; i += at_once) {
+        play(&l, &work, l.session, names, lengths + i, at_once, joined + at, bytes - at, answers + WEDGEPETAL_ANSWER_NUMBERS * i);
+        for (size_t k = i; k < i + at_once; k++) {
+            at += lengths[k];
+        }
+    }
+    start = now() - start;
+    free(lengths);
+    free(answers);
+    free(joined);
+    give_back(&l);
+    return start;
+}
+
+static double shot_round(const struct recording *r)
+{
+    return shots_round(r, r->count - HEADERS);
+}
+
+static double single_round(const struct recording *r)
+{
+    return shots_round(r, 1);
+}
+
+/* Decodes the whole recording by one frame call for each packet. */
+static double frame_round(const struct recording *r)
 {
     struct lent l = lend(r);
     struct wedgepetal_work work = wedgepetal_work_in(l.memory, l.lengths);
@@ -187,27 +247,48 @@ static double ffmpeg_round(const struct recording *r)
 
 /* ---- side by side */
 
+enum { SHOT, SINGLE, FRAME, THEORA, FFMPEG, WAYS };
+static double (*const rounds[WAYS])(const struct recording *) = {shot_round, single_round, frame_round, theora_round, ffmpeg_round};
+
+static int by_size(const void *a, const void *b)
+{
+    double x = *(const double *)a, y = *(const double *)b;
+    return (x > y) - (x < y);
+}
+
+static void ratio(double ours, double other)
+{
+    if (other < 0) {
+        printf(" - |");
+    } else {
+        printf(" %.2f |", ours / other);
+    }
+}
+
 static void compare(const char *path)
 {
+    static double times[WAYS][MOST_ROUNDS];
     struct recording r = read_recording(path);
-    double best[3] = {1e9, 1e9, 1e9}, began = now();
-    double frames = (double)(r.count - HEADERS);
+    double median[WAYS], began = now(), frames = (double)(r.count - HEADERS);
     struct shares shares = call_shares(&r);
     const unsigned char *id = r.packets[0];
-    for (int round = 0; round < LEAST_ROUNDS || (now() - began < ENOUGH_SECONDS && round < MOST_ROUNDS); round++) {
-        double t[3] = {our_round(&r), theora_round(&r), ffmpeg_round(&r)};
-        for (int k = 0; k < 3; k++) {
-            best[k] = t[k] < best[k] ? t[k] : best[k];
+    size_t round = 0;
+    for (; round < LEAST_ROUNDS || (now() - began < ENOUGH_SECONDS && round < MOST_ROUNDS); round++) {
+        for (int k = 0; k < WAYS; k++) {
+            times[k][round] = rounds[k](&r);
         }
     }
-    printf("| %s | %d × %d | %.0f | %.1f | %.1f | ", base_name(path), id[10] << 8 | id[11], id[12] << 8 | id[13], frames,
-           best[0] / frames * 1e6, best[1] / frames * 1e6);
-    if (best[2] < 0) {
-        printf("- | %.2f | - |", best[0] / best[1]);
-    } else {
-        printf("%.1f | %.2f | %.2f |", best[2] / frames * 1e6, best[0] / best[1], best[0] / best[2]);
+    printf("| %s | %d × %d | %.0f |", base_name(path), id[10] << 8 | id[11], id[12] << 8 | id[13], frames);
+    for (int k = 0; k < WAYS; k++) {
+        qsort(times[k], round, sizeof times[k][0], by_size);
+        median[k] = times[k][round / 2];
+        printf(median[k] < 0 ? " - |" : " %.1f |", median[k] / frames * 1e6);
     }
-    printf(" %.0f | %.0f |\n", 100 * shares.table * frames / best[0], 100 * shares.clearing * frames / best[0]);
+    ratio(median[SHOT], median[FRAME]);
+    ratio(median[SHOT], median[THEORA]);
+    ratio(median[SHOT], median[FFMPEG]);
+    ratio(median[FRAME], median[THEORA]);
+    printf(" %.0f | %.0f |\n", 100 * shares.table * frames / median[FRAME], 100 * shares.clearing * frames / median[FRAME]);
     fflush(stdout);
     forget(&r);
 }
@@ -215,9 +296,9 @@ static void compare(const char *path)
 int main(int count, char **words)
 {
     av_log_set_level(AV_LOG_QUIET);
-    printf("| recording | macro blocks | frames | ours, µs a frame | libtheora | FFmpeg | ours / libtheora | ours / FFmpeg "
-           "| table test, %% of ours | clearing, %% |\n");
-    printf("|---|---|---|---|---|---|---|---|---|---|\n");
+    printf("| recording | macro blocks | frames | shot, µs a frame | a packet a shot | frame calls | libtheora | FFmpeg | shot / frame calls "
+           "| shot / libtheora | shot / FFmpeg | frame calls / libtheora | table test, %% of frame calls | clearing, %% |\n");
+    printf("|---|---|---|---|---|---|---|---|---|---|---|---|---|---|\n");
     for (int k = 1; k < count; k++) {
         compare(words[k]);
     }

@@ -29,7 +29,7 @@ const char *wedgepetal_refusal_text(uint32_t number)
     case WEDGEPETAL_NOT_GENUINE:
         return "the identification fields break 5, 6 or their widths, "
                "the packets since the last key frame are not below 2 to the power KFGSHIFT, "
-               "a shot's name is not 0 to 2, or no accepted setup packet leaves this table memory";
+               "or no accepted setup packet leaves this table memory";
     case WEDGEPETAL_NO_REFERENCES:
         return "an inter or empty packet and no references";
     case WEDGEPETAL_NO_FRAME:
@@ -43,18 +43,19 @@ const char *wedgepetal_refusal_text(uint32_t number)
     case WEDGEPETAL_SHORT_OUTPUT:
         return "the lent output is too short";
     case WEDGEPETAL_PAST_PACKETS:
-        return "the lengths of a shot's packets reach past their end";
+        return "the lengths of the packets reach past their end";
     case WEDGEPETAL_UNCOUNTED:
         return "the key frames would pass 64 bits, "
                "or the packets since the last one would reach 2 to the power KFGSHIFT";
     case WEDGEPETAL_UNKNOWN_COLOUR:
         return "CS is neither 1 nor 2";
     case WEDGEPETAL_LATER_VERSION:
-        return "a reader for version 1 is given settings of version 2";
+        return "a reader for version 1 is given a text that begins with the line version=2";
     case WEDGEPETAL_BAD_SETTINGS:
-        return "the settings, their text or the version are not as they must be";
+        return "settings out of range, plane 1 or 2 as version 1, a version other than 1 and 2, "
+               "or a text that is none of the reader's version";
     case WEDGEPETAL_OTHER_STREAM:
-        return "the stream is none that the writer writes";
+        return "the stream is none that the writer of frames writes";
     case WEDGEPETAL_ABSENT:
         return "the frame has no such block, macro block or sample, "
                "or there is no such type, plane or qi";

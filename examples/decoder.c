@@ -57,33 +57,27 @@ static int allocate(struct decoder *d)
         return 0;
     }
     d->work = wedgepetal_work_in(d->work_memory, lengths);
-    d->golden = d->previous = d->planes;
+    d->previous = d->planes;
     return 1;
 }
 
-/* The buffer that is neither golden nor previous. */
-static uint8_t *free_buffer(const struct decoder *d)
-{
-    size_t buffer = d->sizes[WEDGEPETAL_BUFFER];
-    uint8_t *candidate = d->planes;
-    while (candidate == d->golden || candidate == d->previous) {
-        candidate += buffer;
-    }
-    return candidate;
-}
-
+/* A packet is a shot of one. Many packets, joined together, could be decoded at once: then only the last frames are
+ * left. */
 uint32_t decoder_next(struct decoder *d, const uint8_t *packet, size_t length, uint64_t *answer)
 {
-    uint8_t *new_frame = free_buffer(d);
-    uint32_t number = wedgepetal_frame_in(&d->work, d->session, packet, length, d->table, d->golden, d->previous,
-                                          new_frame, d->sizes[WEDGEPETAL_BUFFER], answer);
-    if (number == 0) {
-        d->previous = new_frame;
-        if (answer[WEDGEPETAL_KIND] == WEDGEPETAL_INTRA) {
-            d->golden = new_frame;
-        }
+    size_t buffer = d->sizes[WEDGEPETAL_BUFFER];
+    uint64_t lengths[1];
+    uint32_t number;
+    lengths[0] = length;
+    number = wedgepetal_shot_in(&d->work, d->session, d->names, lengths, 1, packet, length, d->table, d->planes,
+                                buffer, answer);
+    if (number != 0) {
+        return number;
     }
-    return number;
+    if (answer[WEDGEPETAL_NUMBER] == 0) {
+        d->previous = d->planes + d->names[WEDGEPETAL_PREVIOUS] * buffer;
+    }
+    return (uint32_t)answer[WEDGEPETAL_NUMBER];
 }
 
 int decoder_begin(struct decoder *d, struct recording *shot)

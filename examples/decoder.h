@@ -12,8 +12,9 @@ struct decoder {
     uint64_t sizes[WEDGEPETAL_SIZE_NUMBERS];
     uint8_t table[WEDGEPETAL_TABLE_BYTES];
     struct wedgepetal_work work;
+    uint64_t names[WEDGEPETAL_NAME_NUMBERS]; /* which of the three buffers hold golden and previous */
     uint8_t *work_memory, *planes;
-    const uint8_t *golden, *previous;
+    const uint8_t *previous; /* the last accepted frame */
 };
 
 /* Reads the three headers and asks for memory. 1 if all went well; else it says why not, and gives 0. */

@@ -33,8 +33,8 @@
  * any number of threads at once, as long as no list that one call writes is a
  * list of another call that runs meanwhile; sessions, table memory and planes
  * that are only read may be shared. A call may be interrupted by a signal, and
- * made in its handler. It needs at most 48 KiB of stack (measured, not proved:
- * 36 kB for a frame; tests/c/stack.c), which a small thread must have.
+ * made in its handler. It needs at most 48 KiB of stack, which a small thread
+ * must have (measured, not proved: 33 kB for a matrix, 29 kB for a frame).
  *
  * Each call returns 0 if it is accepted, else the number of its refusal. Where
  * several numbers apply, they are found in this order: 1 for the session's list,
@@ -588,6 +588,96 @@ static inline uint32_t wedgepetal_frame_in(const struct wedgepetal_work *work, u
                             work->active, n[WEDGEPETAL_ACTIVE], golden, buffer_length, previous,
                             buffer_length, new_frame, buffer_length, answer,
                             WEDGEPETAL_ANSWER_NUMBERS);
+}
+
+/* wedgepetal_shot with these slices, and with three buffers of buffer_length bytes
+ * each that lie one behind the other. answers has 8 numbers for each packet. */
+static inline uint32_t wedgepetal_shot_in(const struct wedgepetal_work *work, uint64_t *session,
+                                          uint64_t *names, const uint64_t *lengths, size_t count,
+                                          const uint8_t *packets, size_t packets_length,
+                                          const uint8_t *table, uint8_t *buffers,
+                                          size_t buffer_length, uint64_t *answers)
+{
+    const uint64_t *n = work->lengths;
+    return wedgepetal_shot(session, WEDGEPETAL_SESSION_NUMBERS, names, WEDGEPETAL_NAME_NUMBERS,
+                           lengths, count, packets, packets_length, table, WEDGEPETAL_TABLE_BYTES,
+                           work->records, n[WEDGEPETAL_RECORDS], work->coded, n[WEDGEPETAL_CODED],
+                           work->coefs, n[WEDGEPETAL_COEFS], work->dc, n[WEDGEPETAL_DC],
+                           work->lasts, n[WEDGEPETAL_LASTS], work->flags, n[WEDGEPETAL_FLAGS],
+                           work->bits, n[WEDGEPETAL_BITS], work->supers, n[WEDGEPETAL_SUPERS],
+                           work->modes, n[WEDGEPETAL_MODES], work->active, n[WEDGEPETAL_ACTIVE],
+                           buffers, buffer_length, buffers + buffer_length, buffer_length,
+                           buffers + 2 * buffer_length, buffer_length, answers,
+                           WEDGEPETAL_ANSWER_NUMBERS * count);
+}
+
+/* ---- Which tiles changed.
+ *
+ * settings is a list of 4 numbers: the side of a tile in samples (8, 16 or 32),
+ * shot_first (at most shot_last), shot_last (at most 999,999) and the plane (0 to
+ * 2). A map has one byte for each tile of that plane, row by row from the bottom,
+ * each row from the left; tiles at the right and top may be partial.
+ *
+ * Refusals of both calls, in the order in which they are found: 1 for the list of
+ * settings, 20 for settings out of these ranges, 1 for the session's list, 8 for
+ * its numbers, 1 for any other list, map among them; then, of the frame call, as
+ * wedgepetal_frame. */
+
+/* How many bytes a map has: ceil(columns / side) times ceil(rows / side) of the
+ * plane's samples. length (1 number) receives it. */
+uint32_t wedgepetal_tiles_length(const uint64_t *settings, size_t settings_length,
+                                 const uint64_t *session, size_t session_length,
+                                 uint64_t *length, size_t length_length);
+
+/* wedgepetal_frame, and the map of the tiles that changed.
+ *
+ * settings  (4 numbers)
+ * map       receives 1 for a tile in which some sample of new_frame differs from
+ *           previous, else 0; all 1 after a frame that is accepted without
+ *           references, all 0 after an empty packet. A refused call leaves it as
+ *           it was, so that it is still the map of the last accepted packet
+ *
+ * All else is as in wedgepetal_frame; a refusal by 20 or for a list of another
+ * length than it must have leaves answer too as it was, one for map says 1 there. */
+uint32_t wedgepetal_tiles_frame(const uint64_t *settings, size_t settings_length,
+                                uint64_t *session, size_t session_length,
+                                const uint8_t *packet, size_t packet_length,
+                                const uint8_t *table, size_t table_length,
+                                uint32_t *records, size_t records_length,
+                                uint64_t *coded, size_t coded_length,
+                                int16_t *coefs, size_t coefs_length,
+                                int16_t *dc, size_t dc_length,
+                                uint8_t *lasts, size_t lasts_length,
+                                uint8_t *flags, size_t flags_length,
+                                uint8_t *bits, size_t bits_length,
+                                uint8_t *supers, size_t supers_length,
+                                uint8_t *modes, size_t modes_length,
+                                uint64_t *active, size_t active_length,
+                                const uint8_t *golden, size_t golden_length,
+                                const uint8_t *previous, size_t previous_length,
+                                uint8_t *new_frame, size_t new_frame_length,
+                                uint64_t *answer, size_t answer_length,
+                                uint8_t *map, size_t map_length);
+
+/* wedgepetal_tiles_frame with the slices of work memory in one struct, as
+ * wedgepetal_frame_in. */
+static inline uint32_t wedgepetal_tiles_frame_in(const struct wedgepetal_work *work, const uint64_t *settings,
+                                                 uint64_t *session, const uint8_t *packet, size_t packet_length,
+                                                 const uint8_t *table, const uint8_t *golden,
+                                                 const uint8_t *previous, uint8_t *new_frame,
+                                                 size_t buffer_length, uint64_t *answer,
+                                                 uint8_t *map, size_t map_length)
+{
+    const uint64_t *n = work->lengths;
+    return wedgepetal_tiles_frame(settings, WEDGEPETAL_SETTINGS_NUMBERS, session, WEDGEPETAL_SESSION_NUMBERS, packet, packet_length,
+                                  table, WEDGEPETAL_TABLE_BYTES, work->records, n[WEDGEPETAL_RECORDS],
+                                  work->coded, n[WEDGEPETAL_CODED], work->coefs, n[WEDGEPETAL_COEFS],
+                                  work->dc, n[WEDGEPETAL_DC], work->lasts, n[WEDGEPETAL_LASTS],
+                                  work->flags, n[WEDGEPETAL_FLAGS], work->bits, n[WEDGEPETAL_BITS],
+                                  work->supers, n[WEDGEPETAL_SUPERS], work->modes, n[WEDGEPETAL_MODES],
+                                  work->active, n[WEDGEPETAL_ACTIVE], golden, buffer_length, previous,
+                                  buffer_length, new_frame, buffer_length, answer,
+                                  WEDGEPETAL_ANSWER_NUMBERS, map, map_length);
 }
 
 #ifdef __cplusplus

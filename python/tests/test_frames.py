@@ -1,6 +1,7 @@
 """Frames: what the stored streams must give, planes, regions, colours, and memory that is viewed."""
 import gc
 import io
+import pickle
 from fractions import Fraction
 from pathlib import Path
 
@@ -54,6 +55,18 @@ def test_a_refusal_is_raised_and_the_next_packet_can_be_decoded():
         assert (caught.value.number, caught.value.place, caught.value.packet) == (4, 479, 9)
         numbers.extend(frame.number for frame in shot)
     assert numbers == list(range(14))
+
+
+def test_refusals_and_gaps_go_through_pickle():
+    """As they do on their way out of a pool of processes."""
+    refused = pickle.loads(pickle.dumps(wedgepetal.Refused(12, 5311, 17)))
+    assert repr(refused) == "Refused(12, 5311, 17)"
+    assert str(refused) == "packet 17: refused by 12, a run exceeds the bits still wanted, at bit 5,311"
+    assert str(wedgepetal.Refused(18)) == "refused by 18, CS is neither 1 nor 2"
+    gap = wedgepetal.Gap("page 8 is damaged or missing, before byte 154511", 92, 5.933333, 13)
+    gap.left_out = 26
+    again = pickle.loads(pickle.dumps(gap))
+    assert str(again) == str(gap) and again.left_out == 26
 
 
 def test_headers_are_refused_with_their_packet():

@@ -17,10 +17,11 @@ from ._library import VERSION as __version__
 from ._library import version as library_version
 from ._session import Region, Session
 from ._shot import Shot, load, open
+from ._y4m import write_y4m
 
 __all__ = [
     "Fault", "Frame", "Gap", "Held", "Kind", "NoRecording", "Refused", "Region", "Session", "SeveralStreams", "Shot",
-    "library_version", "load", "open",
+    "library_version", "load", "open", "write_y4m",
 ]
 
 # Tracebacks name exceptions as users do.

@@ -8,9 +8,9 @@ import numpy as np
 import numpy.typing as npt
 
 from . import _library as lib
-from ._faults import Held
+from ._faults import Held, Refused
 from ._frame import Kind, Lease
-from ._library import library, refused
+from ._library import library
 from ._memory import free
 from ._session import Bytes, Numbers, Sizes, sizes
 
@@ -54,9 +54,9 @@ class Answer(NamedTuple):
 class Decoder:
     """Lends the library a session, table memory, work memory and three plane buffers.
 
-    After an accepted intra frame the new buffer is golden and previous, after another accepted frame previous. The next
-    frame goes into the first buffer that is neither. If that is still viewed it is left to its views and other memory
-    takes its place (``keep``), or there is no room for a frame (`Held`).
+    Each packet is a shot of one: the library puts the next frame into the first buffer that holds neither golden nor
+    previous, and says where both lie. If that buffer is still viewed it is left to its views and other memory takes its
+    place (``keep``), or there is no room for a frame (`Held`).
     """
 
     def __init__(self, session: Numbers, setup: bytes, keep: bool, max_memory: Optional[int]) -> None:
@@ -65,7 +65,7 @@ class Decoder:
         lengths = np.zeros(lib.LENGTH_NUMBERS, np.uint64)
         number = library.wedgepetal_work_lengths(*_lists(session, lengths))
         if number:
-            raise refused(number)
+            raise Refused(number)
         self.memory = 3 * self.sizes.buffer + int(lengths[lib.WORK_BYTES]) + lib.TABLE_BYTES
         limit = free() if max_memory is None else max_memory
         if limit is not None and self.memory > limit:
@@ -75,7 +75,8 @@ class Decoder:
         self._work = [np.empty(int(n), dtype) for n, dtype in zip(lengths, _SLICES)]
         self._keep = keep
         self._buffers: List[Buffer] = [Buffer(self.sizes.buffer) for _ in range(3)]
-        self._golden = self._previous = 0
+        self._names = np.zeros(2, np.uint64)
+        self._length = np.zeros(1, np.uint64)
         self._answer = np.zeros(lib.ANSWER_NUMBERS, np.uint64)
 
     @staticmethod
@@ -84,36 +85,33 @@ class Decoder:
         place = np.zeros(1, np.uint64)
         number = library.wedgepetal_setup(setup, len(setup), *_lists(table, place))
         if number:
-            raise refused(number, int(place[0]))
+            raise Refused(number, int(place[0]))
         return table
 
     def restart(self) -> None:
         """Packets are missing here: only an intra frame is accepted next."""
         self.session[lib.REFERENCES] = 0
 
-    def make_room(self) -> int:
-        """Which buffer the next frame goes into. Nobody views it."""
-        new = min({0, 1, 2} - {self._golden, self._previous})
+    def make_room(self) -> None:
+        """Sees to it that nobody views the buffer that the next frame goes into."""
+        held = {int(name) for name in self._names} if self.session[lib.REFERENCES] else set()
+        new = min({0, 1, 2} - held)
         if self._buffers[new].is_held:
             if not self._keep:
                 raise Held('an earlier frame is still viewed: drop it or copy its planes, or open with held="keep"')
             self._buffers[new] = Buffer(self.sizes.buffer)
-        return new
 
     def decode(self, packet: bytes) -> Answer:
         """Decodes a packet. A refusal changes nothing."""
-        new = self.make_room()
-        golden, previous = self._buffers[self._golden], self._buffers[self._previous]
-        number = library.wedgepetal_frame(
-            *_lists(self.session), packet, len(packet), *_lists(self._table, *self._work),
-            *_lists(golden.memory, previous.memory, self._buffers[new].memory, self._answer),
+        self.make_room()
+        self._length[0] = len(packet)
+        number = library.wedgepetal_shot(
+            *_lists(self.session, self._names, self._length), packet, len(packet), *_lists(self._table, *self._work),
+            *_lists(*(buffer.memory for buffer in self._buffers), self._answer),
         )
         answer = [int(n) for n in self._answer]
-        if number:
-            raise refused(number, answer[lib.PLACE])
-        kind = _KINDS[answer[lib.KIND]]
-        self._previous = new
-        if kind is Kind.INTRA:
-            self._golden = new
+        if number or answer[lib.NUMBER]:
+            raise Refused(number or answer[lib.NUMBER], 0 if number else answer[lib.PLACE])
+        lease = self._buffers[int(self._names[lib.PREVIOUS])].lease()
         qi = tuple(answer[lib.QIS : lib.QIS + answer[lib.QI_COUNT]])
-        return Answer(self._buffers[new].lease(), kind, qi, answer[lib.TOKENS])
+        return Answer(lease, _KINDS[answer[lib.KIND]], qi, answer[lib.TOKENS])

@@ -37,12 +37,18 @@ class Refused(Fault):
     packet: Optional[int]
     """The number of the packet in its stream, from 0; none where the refusal is that of no packet."""
 
-    def __init__(self, number: int, text: str, place: int = 0, packet: Optional[int] = None) -> None:
+    def __init__(self, number: int, place: int = 0, packet: Optional[int] = None) -> None:
         self.number = number
         self.place = place
         self.packet = packet
-        self.text = text
-        super().__init__(number, text, place, packet)
+        super().__init__(number, place, packet)
+
+    @property
+    def text(self) -> str:
+        """What the number means, as the library says it."""
+        from ._library import text
+
+        return text(self.number)
 
     @property
     def has_place(self) -> bool:

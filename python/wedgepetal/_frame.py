@@ -6,7 +6,8 @@ from typing import Any, Dict, Optional, Tuple
 
 import numpy as np
 
-from ._library import CS, SESSION_NUMBERS, library, refused
+from ._faults import Refused
+from ._library import CS, SESSION_NUMBERS, library
 from ._session import Bytes, Numbers, Session, Sizes
 
 
@@ -148,5 +149,5 @@ class Frame:
             out.ctypes.data, out.size, written.ctypes.data, 1,
         )
         if number:
-            raise refused(number)
+            raise Refused(number)
         return self.session.region(self.region, 0).cut(out)

@@ -6,8 +6,6 @@ import os
 from pathlib import Path
 from typing import Dict, Iterator, List, Tuple
 
-from ._faults import Refused
-
 VERSION = "0.1.0"
 FILE = "libwedgepetal.so.0"
 
@@ -16,8 +14,10 @@ SIZE_NUMBERS = 16
 LENGTH_NUMBERS = 11
 ANSWER_NUMBERS = 8
 TABLE_BYTES = 28184
+Y4M_HEADER_BYTES = 82
 
 CS, REFERENCES, KEY_FRAMES, OTHERS = 11, 16, 17, 18
+GOLDEN, PREVIOUS = 0, 1
 BUFFER, PLANES = 3, 4
 WORK_BYTES = 10
 NUMBER, PLACE, KIND, QI_COUNT, QIS, TOKENS = 0, 1, 2, 3, 4, 7
@@ -29,8 +29,10 @@ _LISTS: Dict[str, int] = {
     "wedgepetal_setup": 3,
     "wedgepetal_sizes": 2,
     "wedgepetal_work_lengths": 2,
-    "wedgepetal_frame": 17,
+    "wedgepetal_shot": 19,
     "wedgepetal_rgb": 4,
+    "wedgepetal_y4m_header": 3,
+    "wedgepetal_y4m_frame": 4,
 }
 
 
@@ -78,11 +80,6 @@ library = _load()
 def text(number: int) -> str:
     """What the number of a refusal means."""
     return str(library.wedgepetal_refusal_text(number).decode())
-
-
-def refused(number: int, place: int = 0) -> Refused:
-    """The exception of a refusal."""
-    return Refused(number, text(number), place)
 
 
 def version() -> Tuple[str, str]:

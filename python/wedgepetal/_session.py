@@ -8,7 +8,8 @@ from typing import Dict, NamedTuple, Optional, Tuple
 import numpy as np
 import numpy.typing as npt
 
-from ._library import BUFFER, PLANES, SESSION_NUMBERS, SIZE_NUMBERS, library, refused
+from ._faults import Refused
+from ._library import BUFFER, PLANES, SESSION_NUMBERS, SIZE_NUMBERS, library
 
 Numbers = npt.NDArray[np.uint64]
 Bytes = npt.NDArray[np.uint8]
@@ -100,7 +101,7 @@ def identification(packet: bytes) -> Tuple[Session, Numbers]:
         packet, len(packet), numbers.ctypes.data, SESSION_NUMBERS, place.ctypes.data, 1
     )
     if number:
-        raise refused(number, int(place[0]))
+        raise Refused(number, int(place[0]))
     return Session(*(int(n) for n in numbers[:16])), numbers
 
 
@@ -118,7 +119,7 @@ def sizes(session: Numbers) -> Sizes:
     numbers = np.zeros(SIZE_NUMBERS, np.uint64)
     number = library.wedgepetal_sizes(session.ctypes.data, SESSION_NUMBERS, numbers.ctypes.data, SIZE_NUMBERS)
     if number:
-        raise refused(number)
+        raise Refused(number)
     n = [int(value) for value in numbers]
     planes = tuple((n[p + 2], 8 * n[p], 8 * n[p + 1]) for p in range(PLANES, SIZE_NUMBERS, 4))
     return Sizes(n[BUFFER], planes)

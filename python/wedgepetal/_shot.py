@@ -145,7 +145,7 @@ class Shot(Iterator[Frame]):
         try:
             answer = self._decoder.decode(packet.bytes)
         except Refused as error:
-            refused = Refused(error.number, error.text, error.place, number)
+            refused = Refused(error.number, error.place, number)
         else:
             self._gap = None
             return self._frame(answer, number, position)
@@ -248,7 +248,7 @@ def _of_packet(number: int, read: Callable[[], T]) -> T:
     try:
         return read()
     except Refused as error:
-        refused = Refused(error.number, error.text, error.place, number)
+        refused = Refused(error.number, error.place, number)
     raise refused
 
 

@@ -33,7 +33,7 @@ impl FrameAnswer {
     }
 
     /// The answer that the list of an accepted frame stands for.
-    fn from_list(list: &[u64; ANSWER_NUMBERS]) -> FrameAnswer {
+    pub(crate) fn from_list(list: &[u64; ANSWER_NUMBERS]) -> FrameAnswer {
         let [_, _, kind, count, qis @ .., tokens] = *list;
         FrameAnswer {
             kind: match kind {
@@ -52,8 +52,8 @@ impl FrameAnswer {
 impl Session {
     /// Decodes a frame packet into `buffers.new`. If it is an intra frame, the
     /// session has references afterwards; it counts key frames, and the other
-    /// packets since the last one. [`Player`](crate::Player) also hands
-    /// the frames on from call to call.
+    /// packets since the last one. The caller hands the frames on from call to
+    /// call; [`Session::shot`] does that itself.
     ///
     /// # Errors
     ///

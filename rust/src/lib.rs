@@ -2,8 +2,8 @@
 //!
 //! A recording's first packet is its identification header ([`identification`]
 //! gives the [`Session`]), the third its setup header ([`setup`] gives the
-//! [`Table`]). A [`Player`] of both decodes the packets that follow, one by one,
-//! into planes. Whatever a packet holds, each call ends with an answer, and a
+//! [`Table`]). A [`Player`] of both decodes the packets that follow, one by one
+//! or many in one call, into planes. Whatever a packet holds, each call ends with an answer, and a
 //! refusal ([`Refusal`]) changes nothing and says where in the packet it was
 //! found.
 //!
@@ -48,6 +48,7 @@ mod player;
 mod refusal;
 mod session;
 mod settings;
+mod shot;
 mod table;
 mod work;
 
@@ -58,6 +59,7 @@ pub use player::{Player, Unplayable};
 pub use refusal::Refusal;
 pub use session::{Session, identification};
 pub use settings::{SETTINGS_BYTES, Settings};
+pub use shot::{Names, Packets};
 pub use table::{MatrixType, Table, setup};
 pub use work::{Work, WorkLengths};
 

@@ -31,6 +31,13 @@ pub const LENGTH_NUMBERS: usize = 11;
 /// there is none), its place, kind, how many qi, three qi, how many tokens.
 pub const ANSWER_NUMBERS: usize = 8;
 
+/// How many numbers name the buffers of a shot: where golden lies, and where
+/// previous.
+pub const NAME_NUMBERS: usize = 2;
+
+/// The name that golden and previous have without references.
+pub const NO_BUFFER: u64 = 3;
+
 /// How many bytes table memory has.
 pub const TABLE_BYTES: usize = 28_184;
 
@@ -239,6 +246,46 @@ mod face {
             new_length: usize,
             answer: *mut u64,
             answer_length: usize,
+        ) -> u32;
+        pub fn wedgepetal_shot(
+            session: *mut u64,
+            session_length: usize,
+            names: *mut u64,
+            names_length: usize,
+            lengths: *const u64,
+            lengths_length: usize,
+            packets: *const u8,
+            packets_length: usize,
+            table: *const u8,
+            table_length: usize,
+            records: *mut u32,
+            records_length: usize,
+            coded: *mut u64,
+            coded_length: usize,
+            coefs: *mut i16,
+            coefs_length: usize,
+            dc: *mut i16,
+            dc_length: usize,
+            lasts: *mut u8,
+            lasts_length: usize,
+            flags: *mut u8,
+            flags_length: usize,
+            bits: *mut u8,
+            bits_length: usize,
+            supers: *mut u8,
+            supers_length: usize,
+            modes: *mut u8,
+            modes_length: usize,
+            active: *mut u64,
+            active_length: usize,
+            first: *mut u8,
+            first_length: usize,
+            second: *mut u8,
+            second_length: usize,
+            third: *mut u8,
+            third_length: usize,
+            answers: *mut u64,
+            answers_length: usize,
         ) -> u32;
     }
 }
@@ -647,6 +694,70 @@ pub fn frame(
             buffers.new.len(),
             answer.as_mut_ptr(),
             answer.len(),
+        )
+    }
+}
+
+/// Decodes all packets of a shot in order, as one [`frame`] for each would:
+/// `lengths` has their lengths, `packets` their bytes joined together, and
+/// `answers` (8 numbers for each packet) receives their answers, also of those
+/// that are refused. `names` (2 numbers) says which of the three buffers holds
+/// golden and which previous, before and after; without references it is
+/// ignored before, and [`NO_BUFFER`] twice after. Each new frame goes into the
+/// first buffer that holds neither.
+#[allow(clippy::too_many_arguments)]
+pub fn shot(
+    session: &mut [u64],
+    names: &mut [u64],
+    lengths: &[u64],
+    packets: &[u8],
+    table: &[u8],
+    work: WorkSlices<'_>,
+    buffers: [&mut [u8]; 3],
+    answers: &mut [u64],
+) -> u32 {
+    let [first, second, third] = buffers;
+    // SAFETY: as in `identification`.
+    unsafe {
+        face::wedgepetal_shot(
+            session.as_mut_ptr(),
+            session.len(),
+            names.as_mut_ptr(),
+            names.len(),
+            lengths.as_ptr(),
+            lengths.len(),
+            packets.as_ptr(),
+            packets.len(),
+            table.as_ptr(),
+            table.len(),
+            work.records.as_mut_ptr(),
+            work.records.len(),
+            work.coded.as_mut_ptr(),
+            work.coded.len(),
+            work.coefs.as_mut_ptr(),
+            work.coefs.len(),
+            work.dc.as_mut_ptr(),
+            work.dc.len(),
+            work.lasts.as_mut_ptr(),
+            work.lasts.len(),
+            work.flags.as_mut_ptr(),
+            work.flags.len(),
+            work.bits.as_mut_ptr(),
+            work.bits.len(),
+            work.supers.as_mut_ptr(),
+            work.supers.len(),
+            work.modes.as_mut_ptr(),
+            work.modes.len(),
+            work.active.as_mut_ptr(),
+            work.active.len(),
+            first.as_mut_ptr(),
+            first.len(),
+            second.as_mut_ptr(),
+            second.len(),
+            third.as_mut_ptr(),
+            third.len(),
+            answers.as_mut_ptr(),
+            answers.len(),
         )
     }
 }

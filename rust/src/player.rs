@@ -1,18 +1,34 @@
 //! A recording's packets decoded one after the other.
 
-use crate::lists::{Buffers, TABLE_BYTES};
+use crate::lists::TABLE_BYTES;
 use crate::work::zeros;
-use crate::{Frame, FrameAnswer, Kind, Refusal, Session, Sizes, Table, Work};
+use crate::{Frame, FrameAnswer, Names, Packets, Refusal, Session, Sizes, Table, Work};
 use std::error::Error;
 use std::fmt;
-use std::mem::take;
 
-/// Decodes the frame packets of a recording, and hands the frames on: after an
-/// accepted intra frame the new frame becomes golden and previous, after
-/// another accepted packet previous; after a refusal all stay.
+/// Decodes the frame packets of a recording, by [`Session::shot`]: the proved
+/// call takes golden and previous from its three plane buffers, puts the new
+/// frame into the third and names both for the next call. A player keeps what
+/// the call answers, and nothing else.
 ///
-/// It holds three plane buffers, so that there is always one that is neither
-/// golden nor previous. Frames are handed on by their number, and not copied.
+/// [`Player::decode`] takes one packet, after which [`Player::frame`] is its
+/// frame: so frames are handed out as they come. [`Player::decode_all`] takes
+/// many in one call, after which only the last frame is there; each call tests
+/// table memory and clears work memory once, so that fewer calls are faster.
+/// Both may be mixed: a shot is the same however it is cut. Who wants every
+/// hundredth frame decodes a hundred packets a call.
+///
+/// ```
+/// # fn every_hundredth(player: &mut wedgepetal::Player, packets: &[Vec<u8>]) {
+/// for chunk in packets.chunks(100) {
+///     let answers = player.decode_all(chunk);
+///     let refused = answers.iter().filter(|answer| answer.is_err()).count();
+///     if let Some(frame) = player.frame() {
+///         println!("{refused} refused, then {:?}", frame.planes()[0].row(0));
+///     }
+/// }
+/// # }
+/// ```
 #[derive(Debug)]
 pub struct Player {
     session: Session,
@@ -20,9 +36,7 @@ pub struct Player {
     table: Table,
     work: Work,
     buffers: [Vec<u8>; 3],
-    /// Which buffer is the golden frame, and which the previous one.
-    golden: usize,
-    previous: usize,
+    names: Names,
 }
 
 /// Why a recording cannot be played.
@@ -52,8 +66,7 @@ impl Player {
         Ok(Player {
             work: Work::new(&lengths).map_err(no_memory)?,
             buffers: [buffer()?, buffer()?, buffer()?],
-            golden: 0,
-            previous: 0,
+            names: Names::NONE,
             session: Session {
                 references: false,
                 key_frames: 0,
@@ -80,6 +93,7 @@ impl Player {
     /// an intra frame is accepted next. Key frames are counted on.
     pub fn restart(&mut self) {
         self.session.references = false;
+        self.names = Names::NONE;
     }
 
     /// Decodes the next packet.
@@ -91,38 +105,48 @@ impl Player {
     /// their bounds. Everything is then as it was, and the next packet can be
     /// decoded.
     pub fn decode(&mut self, packet: &[u8]) -> Result<FrameAnswer, Refusal> {
-        let free = self.free();
-        let mut new = take(&mut self.buffers[free]);
-        let buffers = Buffers {
-            golden: &self.buffers[self.golden],
-            previous: &self.buffers[self.previous],
-            new: &mut new,
-        };
-        let answer = self
-            .session
-            .frame(packet, &self.table, &mut self.work, buffers);
-        self.buffers[free] = new;
-        if let Ok(FrameAnswer { kind, .. }) = answer {
-            self.previous = free;
-            if kind == Kind::Intra {
-                self.golden = free;
-            }
-        }
-        answer
+        let lengths = [packet.len() as u64];
+        let answers = self.shot(Packets {
+            lengths: &lengths,
+            bytes: packet,
+        });
+        answers[0]
     }
 
-    /// The buffer that is neither golden nor previous.
-    fn free(&self) -> usize {
-        (0..3)
-            .find(|i| *i != self.golden && *i != self.previous)
-            .expect("two of three buffers are in use at most")
+    /// Decodes the next packets in one call, in order. Their answers, one for
+    /// each, are those that [`Player::decode`] would give, also of packets behind
+    /// a refused one. The last accepted frame is there afterwards.
+    pub fn decode_all(
+        &mut self,
+        packets: &[impl AsRef<[u8]>],
+    ) -> Vec<Result<FrameAnswer, Refusal>> {
+        let packets: Vec<&[u8]> = packets.iter().map(AsRef::as_ref).collect();
+        let lengths: Vec<u64> = packets.iter().map(|packet| packet.len() as u64).collect();
+        self.shot(Packets {
+            lengths: &lengths,
+            bytes: &packets.concat(),
+        })
+    }
+
+    /// Decodes packets whose lengths are those of their bytes.
+    fn shot(&mut self, packets: Packets<'_>) -> Vec<Result<FrameAnswer, Refusal>> {
+        let buffers = self.buffers.each_mut().map(Vec::as_mut_slice);
+        self.session
+            .shot(
+                &mut self.names,
+                packets,
+                &self.table,
+                &mut self.work,
+                buffers,
+            )
+            .expect("all that a player lends is sound")
     }
 
     /// The last accepted frame, if there was one.
     pub fn frame(&self) -> Option<Frame<'_>> {
-        let bytes = &self.buffers[self.previous];
-        let frame = Frame::new(&self.sizes, bytes).expect("the buffers have the session's length");
-        self.session.references.then_some(frame)
+        // Without references it names none of the three.
+        let bytes = self.buffers.get(self.names.previous as usize)?;
+        Some(Frame::new(&self.sizes, bytes).expect("the buffers have the session's length"))
     }
 
     /// The session: its fields, whether there is a frame yet, and the place of

@@ -32,7 +32,8 @@ impl Refusal {
     pub const BAD_SETUP: Refusal = Refusal::by(7);
     /// The session's identification fields break 5, 6 or their widths, or its
     /// packets since the last key frame are not below 2 to the power KFGSHIFT;
-    /// or no accepted setup packet leaves this table memory.
+    /// or a shot with references has a name that is not 0 to 2; or no accepted
+    /// setup packet leaves this table memory.
     pub const NOT_GENUINE: Refusal = Refusal::by(8);
     /// An inter or empty packet, and no references.
     pub const NO_REFERENCES: Refusal = Refusal::by(9);

@@ -19,8 +19,9 @@ static const uint8_t *packet;
 static size_t packet_length;
 static uint64_t session[WEDGEPETAL_SESSION_NUMBERS], number[1], matrix[WEDGEPETAL_MATRIX_NUMBERS];
 static uint64_t answer[WEDGEPETAL_ANSWER_NUMBERS];
+static uint64_t shot_session[WEDGEPETAL_SESSION_NUMBERS], shot_names[WEDGEPETAL_NAME_NUMBERS];
 static uint64_t film[WEDGEPETAL_FILM_NUMBERS], settings[WEDGEPETAL_SETTINGS_NUMBERS] = {32, 0, 999999, 2};
-static uint8_t *golden, *previous, *new_frame, *picture, *stream;
+static uint8_t *golden, *previous, *new_frame, *picture, *stream, *shot_planes;
 static size_t buffer, picture_length;
 static struct wedgepetal_work work;
 static uint32_t answered;
@@ -55,6 +56,20 @@ static void frame(void)
 {
     answered = wedgepetal_frame_in(&work, session, packet, packet_length, table, golden, previous,
                                    new_frame, buffer, answer);
+}
+
+/* A shot of this packet, which goes on with its own session and buffers. */
+static void shot(void)
+{
+    const uint64_t *n = work.lengths, length[1] = {packet_length};
+    answered = wedgepetal_shot(
+        shot_session, WEDGEPETAL_SESSION_NUMBERS, shot_names, WEDGEPETAL_NAME_NUMBERS, length, 1,
+        packet, packet_length, table, sizeof table, work.records, n[WEDGEPETAL_RECORDS], work.coded,
+        n[WEDGEPETAL_CODED], work.coefs, n[WEDGEPETAL_COEFS], work.dc, n[WEDGEPETAL_DC], work.lasts,
+        n[WEDGEPETAL_LASTS], work.flags, n[WEDGEPETAL_FLAGS], work.bits, n[WEDGEPETAL_BITS],
+        work.supers, n[WEDGEPETAL_SUPERS], work.modes, n[WEDGEPETAL_MODES], work.active,
+        n[WEDGEPETAL_ACTIVE], shot_planes, buffer, shot_planes + buffer, buffer,
+        shot_planes + 2 * buffer, buffer, answer, WEDGEPETAL_ANSWER_NUMBERS);
 }
 
 /* The picture of the new frame, as one of colour space 1. */
@@ -109,15 +124,15 @@ static struct {
     size_t most;
 } calls[] = {
     {"identification", identification, 0}, {"setup", setup, 0},           {"table", test_table, 0},
-    {"loop_limit", loop_limit, 0},         {"matrix", one_matrix, 0},     {"frame", frame, 0},
-    {"rgb", rgb, 0},                       {"y4m_frame", y4m_frame, 0},   {"y4m_header", y4m_header, 0},
-    {"y4m_write", y4m_write, 0},           {"y4m_read", y4m_read, 0},
+    {"loop_limit", loop_limit, 0},         {"matrix", one_matrix, 0},     {"shot", shot, 0},
+    {"frame", frame, 0},                   {"rgb", rgb, 0},               {"y4m_frame", y4m_frame, 0},
+    {"y4m_header", y4m_header, 0},         {"y4m_write", y4m_write, 0},   {"y4m_read", y4m_read, 0},
     {"settings_write", settings_write, 0}, {"settings_read", settings_read, 0},
 };
 
 enum {
-    IDENTIFICATION, SETUP, TABLE, LOOP_LIMIT, MATRIX, FRAME, RGB, Y4M_FRAME, Y4M_HEADER, Y4M_WRITE,
-    Y4M_READ, SETTINGS_WRITE, SETTINGS_READ, CALLS
+    IDENTIFICATION, SETUP, TABLE, LOOP_LIMIT, MATRIX, SHOT, FRAME, RGB, Y4M_FRAME, Y4M_HEADER,
+    Y4M_WRITE, Y4M_READ, SETTINGS_WRITE, SETTINGS_READ, CALLS
 };
 
 /* ---- the painted stack */
@@ -185,11 +200,13 @@ static void begin_frames(void)
     wedgepetal_work_lengths(session, WEDGEPETAL_SESSION_NUMBERS, lengths, WEDGEPETAL_LENGTH_NUMBERS);
     buffer = sizes[WEDGEPETAL_BUFFER];
     golden = calloc(3, buffer);
+    shot_planes = calloc(3, buffer);
+    memcpy(shot_session, session, sizeof session);
     work = wedgepetal_work_in(malloc(lengths[WEDGEPETAL_WORK_BYTES]), lengths);
     picture_length = 768 * sizes[WEDGEPETAL_NMBS];
     picture = malloc(picture_length);
     stream = malloc(buffer + 6 + WEDGEPETAL_Y4M_HEADER_BYTES);
-    if (golden == NULL || work.coded == NULL || picture == NULL || stream == NULL) {
+    if (golden == NULL || shot_planes == NULL || work.coded == NULL || picture == NULL || stream == NULL) {
         abort();
     }
     previous = golden + buffer;
@@ -199,6 +216,7 @@ static void begin_frames(void)
 static void next_frame(void)
 {
     int which;
+    accepted(SHOT);
     call(FRAME);
     if (answered == 0) {
         memcpy(previous, new_frame, buffer);
@@ -286,6 +304,7 @@ static void deepest_trees(void)
     packet_length = (bits + 7) / 8;
     accepted(SETUP);
     ask_table();
+    accepted(SHOT);
     call(FRAME);
 }
 

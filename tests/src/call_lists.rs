@@ -32,9 +32,12 @@ pub struct Report {
 /// What is kept from call to call.
 #[derive(Clone, PartialEq, Eq)]
 pub struct State {
-    session: Vec<u64>,
-    golden: Vec<u8>,
-    previous: Vec<u8>,
+    /// The session.
+    pub session: Vec<u64>,
+    /// The golden frame.
+    pub golden: Vec<u8>,
+    /// The previous frame.
+    pub previous: Vec<u8>,
 }
 
 /// What a call brings.

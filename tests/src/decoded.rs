@@ -16,6 +16,7 @@ use crate::reference::samples::ways::Way;
 use crate::reference::session::{Fields, SESSION_NUMBERS, Session};
 use crate::reference::setup::setup;
 use crate::said;
+use crate::shots::{self, ByFrames};
 use std::collections::BTreeMap;
 use std::fmt;
 use std::fs::{self, File};
@@ -84,6 +85,7 @@ pub fn compare(files: &[String]) -> Result<(), String> {
         four: FourCases::default(),
         damaged: frames::Report::default(),
         lists: call_lists::Report::default(),
+        shots: shots::Report::default(),
         headers: padding::Counts::default(),
     };
     for file in files {
@@ -101,6 +103,10 @@ pub fn compare(files: &[String]) -> Result<(), String> {
     println!("headers:\n{}", run.headers);
     println!("damaged packets, and all packets padded:\n{}", run.damaged);
     println!("lists with other calls among the packets:\n{}", run.lists);
+    println!(
+        "whole in one call, as by one call a packet: {}",
+        run.shots.recordings
+    );
     let padded = run.damaged.padded.missed_of_frames(padding::OF_FRAME);
     let missed = [run.four.missed(), padded, run.headers.missed(&[])].concat();
     crate::all_tried(&missed, files.len() >= ENOUGH_RECORDINGS)
@@ -115,6 +121,8 @@ struct Run {
     damaged: frames::Report,
     /// Lists of calls.
     lists: call_lists::Report,
+    /// Whole recordings as shots.
+    shots: shots::Report,
     /// The headers, with bytes behind them.
     headers: padding::Counts,
 }
@@ -154,6 +162,11 @@ impl Run {
         }
         counts.reached = u64::from(players.reference.reached);
         self.lists.of_recording(&mut self.random, &caller, frames)?;
+        let by_frames = players.by_frames();
+        // Numbers of its own, so that all else is tried as without it.
+        let random = &mut Random::new(1);
+        self.shots
+            .of_recording(random, &caller, frames, &by_frames)?;
         Ok(counts)
     }
 
@@ -258,6 +271,8 @@ impl Counts {
 struct Players<'a> {
     reference: Player<'a>,
     library: State,
+    /// The library's answers, one after the other.
+    answers: Vec<u64>,
 }
 
 impl<'a> Players<'a> {
@@ -270,6 +285,17 @@ impl<'a> Players<'a> {
         Players {
             reference: Player::new(decoder, &Fields::of_session(session)),
             library: State::fresh(random, session, length),
+            answers: Vec::new(),
+        }
+    }
+
+    /// What the library's frame calls answered and left.
+    fn by_frames(&self) -> ByFrames<'_> {
+        ByFrames {
+            answers: &self.answers,
+            session: &self.library.session,
+            golden: &self.library.golden,
+            previous: &self.library.previous,
         }
     }
 
@@ -297,6 +323,7 @@ impl<'a> Players<'a> {
             line: said::frame(read.kind, &read.qis, &left.new),
             packet: read,
         };
+        self.answers.extend(&left.answer);
         self.library.hand_on(left);
         Ok(frame)
     }

@@ -13,6 +13,7 @@ mod four_streams;
 mod frame_calls;
 mod frames;
 mod generate;
+mod lent;
 mod library;
 mod orders;
 mod packets;
@@ -24,6 +25,8 @@ mod said;
 mod sessions;
 mod setup_header;
 mod setups;
+mod shot_calls;
+mod shots;
 mod streams;
 mod tables;
 mod wild;
@@ -39,7 +42,7 @@ use std::time::Instant;
 const USAGE: &str = "\
 usage: compare [--packets N] [--sessions N] [--orders MAX] [--setups N]
                [--tables N] [--matrices N] [--frames N] [--calls N]
-               [--lists N] [--parts N] [--seed S]
+               [--lists N] [--shots N] [--parts N] [--seed S]
                [--stream FILE.. | --decode FILE.. | --say FILE.. | --four FILE..
                 | --wild FILE.. | --time]
 
@@ -53,6 +56,7 @@ usage: compare [--packets N] [--sessions N] [--orders MAX] [--setups N]
   --calls N     frame calls with any session, table memory and lengths (20000)
   --lists N     lists of frame calls, each of which gets what the one before
                 handed on (500)
+  --shots N     whole shots in one call, and as many with one to five faults (2000)
   --parts N     frames made of random block data, and the parts of making one
                 on their extremes and on random values (2000)
   --seed S      where the random numbers start (1)
@@ -62,7 +66,7 @@ usage: compare [--packets N] [--sessions N] [--orders MAX] [--setups N]
   --decode FILE..
                 nothing but recordings, decoded by the independent implementation
                 and the library: every frame must be libtheora's; damaged packets;
-                lists of calls; comes last
+                lists of calls; the whole recording as one shot; comes last
   --say FILE..  compares nothing: prints what the independent implementation says of
                 each packet of recordings; comes last
   --four FILE.. compares nothing: writes Ogg files with every case of four vectors,
@@ -73,10 +77,12 @@ usage: compare [--packets N] [--sessions N] [--orders MAX] [--setups N]
                 the packets that cause the most work
 ";
 
-/// With fewer packets or calls, fewer lists of calls, or fewer table memories
-/// of which every matrix is compared, it is no fault if something was not met.
+/// With fewer packets or calls, fewer lists of calls or shots, or fewer table
+/// memories of which every matrix is compared, it is no fault if something was not
+/// met.
 const ENOUGH_PACKETS: u64 = 20_000;
 const ENOUGH_LISTS: u64 = 500;
+const ENOUGH_SHOTS: u64 = 2_000;
 const ENOUGH_TABLES: u64 = 10;
 
 /// How much is compared.
@@ -90,6 +96,7 @@ struct Options {
     frames: u64,
     calls: u64,
     lists: u64,
+    shots: u64,
     parts: u64,
     seed: u64,
     /// What is done in place of all else.
@@ -125,6 +132,7 @@ impl Default for Options {
             frames: 20_000,
             calls: 20_000,
             lists: 500,
+            shots: 2_000,
             parts: 2_000,
             seed: 1,
             instead: None,
@@ -193,6 +201,7 @@ fn options(words: &[String]) -> Result<Options, String> {
             "--frames" => options.frames = value,
             "--calls" => options.calls = value,
             "--lists" => options.lists = value,
+            "--shots" => options.shots = value,
             "--parts" => options.parts = value,
             "--seed" => options.seed = value,
             _ => return Err(format!("{name}: no such option")),
@@ -293,7 +302,7 @@ fn compare_setups(random: &mut Random, options: &Options) -> Result<(), String> 
     all_tried(&missed, options.matrices >= ENOUGH_TABLES)
 }
 
-/// Frame packets and frame calls.
+/// Frame packets, frame calls and shots.
 fn compare_frames(random: &mut Random, options: &Options) -> Result<(), String> {
     let start = Instant::now();
     let report = frames::compare(random, options.frames)?;
@@ -311,7 +320,13 @@ fn compare_frames(random: &mut Random, options: &Options) -> Result<(), String> 
     let report = call_lists::compare(random, options.lists)?;
     heading("lists of frame calls", start);
     println!("{report}");
-    all_tried(&report.missed(), options.lists >= ENOUGH_LISTS)
+    all_tried(&report.missed(), options.lists >= ENOUGH_LISTS)?;
+
+    let start = Instant::now();
+    let report = shots::compare(random, options.shots)?;
+    heading("whole shots", start);
+    println!("{report}");
+    all_tried(&report.missed(), options.shots >= ENOUGH_SHOTS)
 }
 
 /// The parts of making a frame.
@@ -366,6 +381,7 @@ mod tests {
             frames: 500,
             calls: 500,
             lists: 20,
+            shots: 40,
             parts: 20,
             seed: 11,
             ..Options::default()

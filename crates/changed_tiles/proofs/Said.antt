@@ -9,7 +9,7 @@ use lib.ListN.{length, getD, replicate, length-replicate, getD-replicate}
 use lib.Seq.{ext-getD}
 use Rattle.bitstream.specs.Reading.{Outcome, got, refused, choose}
 use Rattle.geometry.specs.declared.Block.{Block}
-use Rattle.geometry.specs.Sizes.{across, up, squares}
+use Rattle.geometry.specs.Sizes.{across, up, squares as tiles}
 use Rattle.geometry.specs.Frame.{InFrame, block}
 use Rattle.geometry.proofs.Products.{squares-begin}
 use Rattle.geometry.proofs.Raster.{raster-back}
@@ -97,8 +97,8 @@ module _ (set : Settings) (st : State) (c : Call) (map : List ℕ) (a : Asked) (
         let tile = settings-tile set (h .settings) in
         let ex = tile-eights t x (tile .1) in
         let ey = tile-eights t y (tile .1) in
-        let bx = tiles-begin t (8 * across f w p) x (tile .0) (o .column) in
-        let by = tiles-begin t (8 * up f hh p) y (tile .0) (o .row) in
+        let bx = squares-begin t (8 * across f w p) x (tile .0) (o .column) in
+        let by = squares-begin t (8 * up f hh p) y (tile .0) (o .row) in
         let b = block p (t / 8 * x) (t / 8 * y) in
         let there : InFrame f w hh b = record { of-three = settings-plane set (h .settings); column = omega (arith, ex, bx); row = omega (arith, ey, by) } in
         let coded = first-codes-all st c a (h .place) e (h .asked) .1 b there in

@@ -6,7 +6,7 @@ use mathlib.Core.List.{List, []}
 use mathlib.Core.Logic.{_⊎_}
 use lib.ListN.{length, getD, replicate}
 use Rattle.bitstream.specs.Reading.{got, refused}
-use Rattle.geometry.specs.Sizes.{across, squares}
+use Rattle.geometry.specs.Sizes.{across, squares as tiles}
 use Rattle.headers.specs.Sizes.{format}
 use Rattle.settings.specs.declared.Settings.{Settings}
 use Rattle.settings.specs.Settings.{settingsFit}

@@ -9,9 +9,9 @@ use lib.Seq.{take-all}
 use borrow.Rule.Slice.PartMut.{putMid}
 use Rattle.geometry.specs.declared.PixelFormat.{PixelFormat}
 use Rattle.geometry.specs.declared.Plane.{Plane}
-use Rattle.geometry.specs.Sizes.{across, up, planeBlocks, blocksOf, blocksBefore, squares, planeOf}
+use Rattle.geometry.specs.Sizes.{across, up, planeBlocks, blocksOf, blocksBefore, squares as tiles, planeOf}
 use Rattle.geometry.specs.Order.{inTurn}
-use Rattle.geometry.specs.Tile.{reach}
+use Rattle.geometry.specs.Square.{reach}
 use Rattle.geometry.proofs.SizeLaws.{before-next, before-to, across-small, up-small}
 use Rattle.rows.proofs.Facts.{row-fits, taken-more, in-turn-more}
 use Rattle.tile_map.specs.Tiles.{stripMap, planeMap, mapLength, tileMap, IsTile, Both}

@@ -10,8 +10,8 @@ use borrow.Author.Tests.{eq-eqb, ne-eqb}
 use lib.Dec.{eqb}
 use lib.ListN.{length, getD}
 use Rattle.geometry.specs.declared.PixelFormat.{PixelFormat}
-use Rattle.geometry.specs.Sizes.{across, up, blocksBefore, squares}
-use Rattle.geometry.specs.Tile.{reach}
+use Rattle.geometry.specs.Sizes.{across, up, blocksBefore, squares as tiles}
+use Rattle.geometry.specs.Square.{reach}
 use Rattle.geometry.specs.Frame.{block}
 use Rattle.geometry.specs.Sample.{sampleAt, sampleIn}
 use Rattle.geometry.proofs.Grids.{even-length, even-at}
@@ -53,7 +53,7 @@ module _ (f : PixelFormat) (w h p t : ℕ) where
       let er : t * (r / t) + r % t ≡ r = div-add-mod r t in
       let mc = mod-lt c some in
       let mr = mod-lt r some in (
-        record { column = tiles-reach t (8 * across f w p) (c / t) some (omega (arith, l .column)); row = tiles-reach t (8 * up f h p) (r / t) some (omega (arith, l .row)) },
+        record { column = squares-reach t (8 * across f w p) (c / t) some (omega (arith, l .column)); row = squares-reach t (8 * up f h p) (r / t) some (omega (arith, l .row)) },
         record { left = omega arith; right = omega arith; bottom = omega arith; top = omega arith },
       )
 

@@ -11,8 +11,8 @@ use lib.Seq.{getD-set-same, getD-set-other, ext-getD}
 use Rattle.bitstream.specs.Lists.{tabulated}
 use Rattle.bitstream.specs.Reading.{choose}
 use Rattle.bitstream.proofs.Lists.{tabulated-length, tabulated-at, tabulated-same, tabulated-is}
-use Rattle.geometry.specs.Sizes.{squares}
-use Rattle.geometry.specs.Tile.{reach}
+use Rattle.geometry.specs.Sizes.{squares as tiles}
+use Rattle.geometry.specs.Square.{reach}
 use Rattle.geometry.proofs.Products.{squares-begin}
 use Rattle.tile_map.specs.Tiles.{some, differ, flag, changedIn, stripMap, IsTile, Flags, marked}
 use Rattle.tile_map.proofs.Some.{some-more, differ-part}
@@ -54,7 +54,7 @@ module _ (l : List ℕ) (f : ℕ → ℕ) (x v : ℕ) (there : x < length l) whe
 -- ---- where the tiles of a row lie
 module _ (t row x : ℕ) (there : x < tiles t row) (tile : IsTile t) where
   pub column-inside : t * x < row
-  column-inside = tiles-begin t row x (tile .0) there
+  column-inside = squares-begin t row x (tile .0) there
 
   pub reach-inside : t * x + reach t row x ≤ row
   reach-inside = omega (arith, column-inside)

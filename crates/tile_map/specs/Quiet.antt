@@ -7,7 +7,7 @@ use mathlib.Core.Logic.{_⊎_, _≢_}
 use lib.ListN.{getD}
 use Rattle.geometry.specs.declared.PixelFormat.{PixelFormat}
 use Rattle.geometry.specs.declared.Block.{Block}
-use Rattle.geometry.specs.Sizes.{across, up, squares}
+use Rattle.geometry.specs.Sizes.{across, up, squares as tiles}
 use Rattle.geometry.specs.Frame.{InFrame, block}
 use Rattle.geometry.specs.Sample.{sampleAt}
 use Rattle.ways.specs.Ways.{Picture, AlongCoded}

@@ -8,9 +8,9 @@ use lib.ListN.{length, getD}
 use Rattle.bitstream.specs.Lists.{tabulated}
 use Rattle.bitstream.specs.Reading.{choose}
 use Rattle.geometry.specs.declared.PixelFormat.{PixelFormat}
-use Rattle.geometry.specs.Sizes.{across, up, blocksBefore, squares}
+use Rattle.geometry.specs.Sizes.{across, up, blocksBefore, squares as tiles}
 use Rattle.geometry.specs.Order.{inTurn}
-use Rattle.geometry.specs.Tile.{reach}
+use Rattle.geometry.specs.Square.{reach}
 
 -- the test holds for some number below n
 unfoldable pub some : ℕ → (ℕ → Bool) → Bool

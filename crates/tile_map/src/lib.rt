@@ -4,7 +4,7 @@ ghost use mathlib.Core.Path.{_≡_};
 ghost use Prim.Native.Nat.{_+_, _*_, _%_, _≤_, _<_, min};
 ghost use lib.ListN.{length};
 ghost use Rattle.bitstream.specs.Reading.{choose};
-ghost use Rattle.geometry.specs.Sizes.{squares, blocksOf, largest};
+ghost use Rattle.geometry.specs.Sizes.{squares as tiles, blocksOf, largest};
 ghost use Rattle.tile_map.specs.Tiles.{differ, stripMap, planeMap, mapLength, tileMap, IsTile, Both, Flags, marked};
 
 // Whether some of the n samples from `at` on differs. The loop looks at all of them, so that the compiler takes sixteen at a time.

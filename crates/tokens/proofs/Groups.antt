@@ -1,5 +1,5 @@
 -- Where groups of positions begin, and the lookups that change there. Assumes nothing.
-use Prim.Native.Nat.{ℕ, zero, suc, _+_, _-_, _≤_}
+use Prim.Native.Nat.{ℕ, zero, suc, _+_, _-_, _≤_, _<_}
 use native.Mathlib.Omega.{arith}
 use mathlib.Core.Path.{_≡_, sym, _∙_}
 use mathlib.Core.List.{List}
@@ -35,14 +35,15 @@ same-group k h =
 
 -- ---- a lookup before the first position, after the choices were read, and at the next position
 module _ (nodes : List ℕ) where
-  pub current-start : (choice : ℕ) (lookup : List ℕ) → length lookup ≡ 256 → Current nodes 0 choice lookup
-  current-start choice lookup h = (h, λ b. absurd (omega (arith, inside 0 b)))
+  pub current-start : (choice n : ℕ) (lookup : List ℕ) → length lookup ≡ 256 → Current nodes 0 choice n lookup
+  current-start choice n lookup h = (h, λ b _. absurd (omega (arith, inside 0 b)))
 
-  pub current-chosen : (k : ℕ) (ch : Choices) (p : List ℕ) (i : ℕ) {ch′ : Choices} {e : ℕ} → choices k ch p i ≡ got ch′ e → (of : Choices → ℕ) (lookup : List ℕ) → Current nodes k (of ch) lookup → Current nodes k (of ch′) lookup
-  current-chosen k ch p i {ch′} {e} h of lookup g = (g .0, λ b. let z : ch ≡ ch′ = same (sym (choices-kept k ch p i (inside k b)) ∙ h) in rw (← z) (g .1 b))
+  pub current-chosen : (k : ℕ) (ch : Choices) (p : List ℕ) (i : ℕ) {ch′ : Choices} {e : ℕ} → choices k ch p i ≡ got ch′ e → (of : Choices → ℕ) (n : ℕ) (lookup : List ℕ) → Current nodes k (of ch) n lookup → Current nodes k (of ch′) n lookup
+  current-chosen k ch p i {ch′} {e} h of n lookup g = (g .0, λ b. let z : ch ≡ ch′ = same (sym (choices-kept k ch p i (inside k b)) ∙ h) in rw (← z) (g .1 b))
     where
       same : got ch i ≡ got ch′ e → ch ≡ ch′
       same z = cc
 
-  pub current-on : (k choice : ℕ) (lookup : List ℕ) → Ready nodes k choice lookup → Current nodes (k + 1) choice lookup
-  current-on k choice lookup g = (g .size, λ b. rw (same-group k b) g)
+  -- the blocks become fewer
+  pub current-on : (k choice n m : ℕ) (lookup : List ℕ) → m ≤ n → Ready nodes k choice n lookup → Current nodes (k + 1) choice m lookup
+  current-on k choice n m lookup h g = (g .0, λ b l. rw (same-group k b) (g .1 (omega (arith, h, l))))

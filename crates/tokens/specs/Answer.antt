@@ -162,12 +162,12 @@ nodesAt nodes j = take 64 (drop (64 * j) nodes)
 unfoldable pub beginsGroup : ℕ → Bool
 beginsGroup k = choose (eqb k 0) true (not (eqb (group k) (group (k - 1))))
 
--- the lookup of the table that is used at the position k by a choice, and what of it stands before the position: where a group begins, room
-abbrev pub Ready : List ℕ → ℕ → ℕ → List ℕ → Type 0
-Ready nodes k choice lookup = Lookup (nodesAt nodes (16 * group k + choice)) lookup
+-- the lookup of the table that is used at the position k by a choice, for n blocks: for none it may be any; and what of it stands before the position: where a group begins, room
+abbrev pub Ready : List ℕ → ℕ → ℕ → ℕ → List ℕ → Type 0
+Ready nodes k choice n lookup = (length lookup ≡ 256) × (0 < n → Lookup (nodesAt nodes (16 * group k + choice)) lookup)
 
-abbrev pub Current : List ℕ → ℕ → ℕ → List ℕ → Type 0
-Current nodes k choice lookup = (length lookup ≡ 256) × (beginsGroup k ≡ false → Ready nodes k choice lookup)
+abbrev pub Current : List ℕ → ℕ → ℕ → ℕ → List ℕ → Type 0
+Current nodes k choice n lookup = (length lookup ≡ 256) × (beginsGroup k ≡ false → 0 < n → Lookup (nodesAt nodes (16 * group k + choice)) lookup)
 
 -- n trees; law `trees-of` of proofs/Tables says that `treesOf` undoes `tablesOf`
 unfoldable pub treesFrom : ℕ → List ℕ → List Tree

@@ -288,7 +288,7 @@ fn one_if_due(p: u8, k: usize) -> usize
 }
 
 // Writes the blocks of a list that stand at the position k to the front of `due`: how many they are.
-// No branch depends on where a block stands: half of them are elsewhere, and a visit's test for it was mispredicted so often that it took a tenth of the decoding time.
+// No branch depends on where a block stands. A third of the blocks are elsewhere, and a branch for each is mispredicted: 7 % of the time of the recording cif.
 fn gather(positions: &[u8], blocks: &[u64], k: usize, due: &mut [u64]) -> usize
     requires { ⌜ (length (now blocks) ≤ length (now due)) × Below (length (now positions)) (now blocks) ⌝ }
     ensures { λ r. ⌜ (take r (now (due .exit)) ≡ dueOf k (now (positions .entry)) (now (blocks .entry))) × (r ≤ length (now (blocks .entry))) ⌝ }
@@ -331,7 +331,7 @@ fn pass_blocks(
     lasts: &mut [u8],
     coefs: &mut [i16],
 ) -> Visit
-    requires { ⌜ (length (now packet) ≤ longest) × Formed (now nodes) × Lookup (now nodes) (now lookup) × (length (now due) ≡ 64) ⌝ }
+    requires { ⌜ (length (now packet) ≤ longest) × Formed (now nodes) × (0 < length (now blocks) → Lookup (now nodes) (now lookup)) × (length (now due) ≡ 64) ⌝ }
     requires { ⌜ Shape (now positions) (now lasts) (now coefs) × (k < 64) × Below (length (now positions)) (now blocks) × (tokens + room (now positions) < 2 ^ 60) ⌝ }
     ensures { λ r. ⌜ Visited r (now (positions .exit)) (now (lasts .exit)) (now (coefs .exit)) (pass (treeOf (now (nodes .entry))) k (now (blocks .entry)) (stateOf (now (positions .entry)) (now (lasts .entry)) (now (coefs .entry)) run tokens) (now (packet .entry)) at) ⌝ }
 {
@@ -475,7 +475,7 @@ fn pass_table(
     lasts: &mut [u8],
     coefs: &mut [i16],
 ) -> Visit
-    requires { ⌜ (length (now packet) ≤ longest) × Tables (now nodes) × (j < 80) × Lookup (nodesAt (now nodes) j) (now lookup) ⌝ }
+    requires { ⌜ (length (now packet) ≤ longest) × Tables (now nodes) × (j < 80) × (0 < length (now blocks) → Lookup (nodesAt (now nodes) j) (now lookup)) ⌝ }
     requires { ⌜ Shape (now positions) (now lasts) (now coefs) × (k < 64) × Below (length (now positions)) (now blocks) × (tokens + room (now positions) < 2 ^ 60) ⌝ }
     ensures { λ r. ⌜ Visited r (now (positions .exit)) (now (lasts .exit)) (now (coefs .exit)) (pass (treeAt (now (nodes .entry)) j) k (now (blocks .entry)) (stateOf (now (positions .entry)) (now (lasts .entry)) (now (coefs .entry)) run tokens) (now (packet .entry)) at) ⌝ }
 {
@@ -518,7 +518,7 @@ fn read_position(
     lasts: &mut [u8],
     coefs: &mut [i16],
 ) -> Visit
-    requires { ⌜ (length (now packet) ≤ longest) × Tables (now nodes) × (y < 16) × (c < 16) × (k < 64) × Ready (now nodes) k y (now «luma_lookup») × Ready (now nodes) k c (now «chroma_lookup») ⌝ }
+    requires { ⌜ (length (now packet) ≤ longest) × Tables (now nodes) × (y < 16) × (c < 16) × (k < 64) × Ready (now nodes) k y lumas (now «luma_lookup») × Ready (now nodes) k c (end - luma) (now «chroma_lookup») ⌝ }
     requires { ⌜ (lumas ≤ luma) × (luma ≤ end) × (end ≤ length (now active)) × Below (length (now positions)) (take lumas (now active)) × Below (length (now positions)) (take (end - luma) (drop luma (now active))) ⌝ }
     requires { ⌜ Shape (now positions) (now lasts) (now coefs) × (tokens + room (now positions) < 2 ^ 60) ⌝ }
     ensures { λ r. ⌜ Visited r (now (positions .exit)) (now (lasts .exit)) (now (coefs .exit)) (atPosition (treesOf (now (nodes .entry))) (take lumas (now (active .entry))) (take (end - luma) (drop luma (now (active .entry)))) k (choicesOf y c) (stateOf (now (positions .entry)) (now (lasts .entry)) (now (coefs .entry)) run tokens) (now (packet .entry)) at) ⌝ }
@@ -567,11 +567,15 @@ fn begins_group(k: usize) -> bool
     group_of(k) != group_of(k - 1)
 }
 
-// Fills the lookup of the table that is used at the position k by a choice, where a group begins; else it is there.
-fn renew_lookup(nodes: &[u8], k: usize, choice: usize, lookup: &mut [u64])
-    requires { ⌜ Tables (now nodes) × (choice < 16) × Current (now nodes) k choice (now lookup) ⌝ }
-    ensures { λ _. ⌜ Ready (now (nodes .entry)) k choice (now (lookup .exit)) ⌝ }
+// Fills the lookup of the table that is used at the position k by a choice, where a group begins; else it is there. For no block none is filled:
+// one takes some 2,700 instructions, and a frame has up to ten: a twentieth of the instructions for 1 by 1 macro blocks.
+fn renew_lookup(nodes: &[u8], k: usize, choice: usize, count: usize, lookup: &mut [u64])
+    requires { ⌜ Tables (now nodes) × (choice < 16) × Current (now nodes) k choice count (now lookup) ⌝ }
+    ensures { λ _. ⌜ Ready (now (nodes .entry)) k choice count (now (lookup .exit)) ⌝ }
 {
+    if count == 0 {
+        return;
+    }
     if !begins_group(k) {
         return;
     }
@@ -613,8 +617,8 @@ fn read_positions(
                 return Visit::Refused(number, e);
             }
             Chosen::Tables(a, b, next) => {
-                renew_lookup(nodes, k, a, &mut luma_lookup);
-                renew_lookup(nodes, k, b, &mut chroma_lookup);
+                renew_lookup(nodes, k, a, lumas, &mut luma_lookup);
+                renew_lookup(nodes, k, b, end - luma, &mut chroma_lookup);
                 let one = read_position(
                     packet,
                     next,

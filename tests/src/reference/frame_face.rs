@@ -153,7 +153,7 @@ impl Lists<'_> {
 }
 
 /// The answer to a refused call: its number and place, and zeros.
-fn refused(fault: Fault) -> [u64; ANSWER_NUMBERS] {
+pub fn refused(fault: Fault) -> [u64; ANSWER_NUMBERS] {
     let mut list = [0; ANSWER_NUMBERS];
     list[0] = fault.number.into();
     list[1] = fault.place;

@@ -22,6 +22,7 @@ pub mod ranges;
 pub mod samples;
 pub mod session;
 pub mod setup;
+pub mod shot_face;
 pub mod sizes;
 pub mod table_face;
 pub mod table_memory;

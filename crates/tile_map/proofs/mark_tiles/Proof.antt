@@ -5,8 +5,8 @@ use mathlib.Core.Path.{_≡_, refl, sym, ap, _∙_, subst}
 use mathlib.Core.List.{List}
 use lib.ListN.{length, getD, length-set}
 use Rattle.bitstream.specs.Reading.{choose}
-use Rattle.geometry.specs.Tile.{reach}
-use Rattle.geometry.specs.Sizes.{squares}
+use Rattle.geometry.specs.Square.{reach}
+use Rattle.geometry.specs.Sizes.{squares as tiles}
 use Rattle.tile_map.specs.Tiles.{differ}
 use Rattle.tile_map.proofs.Strips.{set-front, set-rest, column-inside, reach-inside, reach-eights, marked-is}
 use borrow.Author.Needs.{needs}

@@ -6,9 +6,9 @@ use mathlib.Core.Path.{_≡_, refl, sym, ap, _∙_, subst}
 use mathlib.Core.List.{List}
 use lib.ListN.{length, take, drop}
 use lib.Seq.{take-all}
-use Rattle.geometry.specs.Sizes.{squares}
+use Rattle.geometry.specs.Sizes.{squares as tiles}
 use Rattle.geometry.specs.Order.{inTurn}
-use Rattle.geometry.specs.Tile.{reach}
+use Rattle.geometry.specs.Square.{reach}
 use Rattle.output.proofs.Splices.{part-length}
 use Rattle.rows.proofs.Facts.{row-fits}
 use Rattle.tile_map.specs.Tiles.{stripMap}

@@ -90,7 +90,7 @@ visit-blocks-requires : tie.Need-visit-blocks-requires Inv-loop μ-loop
 visit-blocks-requires c κs =
     let l = c .before .before .before .before .before .before .before .before .before .before .before .before .loop in
     let h = c .before .before .before .before .before .before .before .before .before .before .before .before .before .before .before .before .before .before .before .before .pre .1 .0 in (
-      (c .before .before .before .before .before .before .before .before .before .before .before .before .before .before .before .before .before .before .before .before .pre .0 .0, c .before .before .before .before .before .before .before .before .before .before .before .before .before .before .before .before .before .before .before .before .pre .0 .1, c .before .before .before .before .before .before .before .before .before .before .before .before .before .before .before .before .before .before .before .before .pre .0 .2),
+      (c .before .before .before .before .before .before .before .before .before .before .before .before .before .before .before .before .before .before .before .before .pre .0 .0, c .before .before .before .before .before .before .before .before .before .before .before .before .before .before .before .before .before .before .before .before .pre .0 .1, c .before .before .before .before .before .before .before .before .before .before .before .before .before .before .before .before .before .before .before .before .pre .0 .2 (omega (arith, c .before .before .before .before .before .before .before .before .before .before .before .loop-test .taken))),
       (
         record { lasts = l .inv .2 ∙ h .lasts ∙ sym (l .inv .1); coefs = omega (arith, l .inv .1, l .inv .3, h .coefs); few = omega (arith, l .inv .1, h .few) },
         c .before .before .before .before .before .before .before .before .before .before .before .before .before .before .before .before .before .before .before .before .pre .1 .1,

@@ -33,7 +33,7 @@ slice-aggregate-pass-blocks c = search needs
 pass-blocks-requires : tie.Need-pass-blocks-requires
 pass-blocks-requires c κs =
     let a = c .before .before .before .before .before .before .before .before .before .before .before .args in
-    ((c .before .before .before .before .before .before .before .before .before .before .before .pre .0 .0, rw (wide (a .j)) (formed-at (a .nodes .now) (c .before .before .before .before .before .before .before .before .before .before .before .pre .0 .1) (a .j) (c .before .before .before .before .before .before .before .before .before .before .before .pre .0 .2)), rw (wide (a .j)) (c .before .before .before .before .before .before .before .before .before .before .before .pre .0 .3), refl), c .before .before .before .before .before .before .before .before .before .before .before .pre .1)
+    ((c .before .before .before .before .before .before .before .before .before .before .before .pre .0 .0, rw (wide (a .j)) (formed-at (a .nodes .now) (c .before .before .before .before .before .before .before .before .before .before .before .pre .0 .1) (a .j) (c .before .before .before .before .before .before .before .before .before .before .before .pre .0 .2)), λ h. rw (wide (a .j)) (c .before .before .before .before .before .before .before .before .before .before .before .pre .0 .3 h), refl), c .before .before .before .before .before .before .before .before .before .before .before .pre .1)
 
 same-length : tie.Need-same-length
 same-length c = search needs

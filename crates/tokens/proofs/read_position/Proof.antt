@@ -6,6 +6,7 @@ use mathlib.Core.Path.{_≡_, sym, ap, _∙_}
 use mathlib.Core.List.{List}
 use lib.ListN.{length, take, drop}
 use lib.Seq.{length-take-le}
+use borrow.Rule.Slice.PartMut.{mid-len}
 use Rattle.bitstream.specs.Reading.{Outcome, got}
 use Rattle.huffman.specs.Tree.{Tree}
 use Rattle.tokens.specs.Tokens.{TokenState, stateOf, pass, choicesOf, table}
@@ -61,8 +62,9 @@ slice-aggregate-pass-table c = let u = c .before .before .before .before .before
 pass-table-requires : tie.Need-pass-table-requires
 pass-table-requires c κs =
     let p = c .before .before .before .before .before .before .before .before .before .before .before .before .pre in
+    let a = c .before .before .before .before .before .before .before .before .before .before .before .before .args in
     let g = c .before .before .before .before .group-of .ensures in
-    ((p .0 .0, p .0 .1, omega (arith, p .0 .2, g .1), rw (g .0) (p .0 .5)), (p .1 .1 .0, p .0 .4, p .1 .0 .3, p .1 .1 .1))
+    ((p .0 .0, p .0 .1, omega (arith, p .0 .2, g .1), λ h. rw (g .0) (p .0 .5 .1 (omega (arith, h, length-take-le (a .lumas) (a .active .now) (omega (arith, p .1 .0)))))), (p .1 .1 .0, p .0 .4, p .1 .0 .3, p .1 .1 .1))
 
 enum-known-one : tie.Need-enum-known-one
 enum-known-one c = search needs
@@ -112,7 +114,7 @@ pass-table-requires-2 c κs =
     let r = pass-goes (table (treesOf (a .nodes .now)) (a .k) (a .y)) (a .k) (a .packet .now) (p .0 .4) (lumas u) (s u) (a .at) (all-below (length (a .positions .now)) (lumas u) (p .1 .0 .3)) (first c) in
     let g = c .before .before .before .before .before .before .before .before .before .before .before .before .before .before .before .before .before .group-of .ensures in
     let n = w .kept .1 .1 .1 .1 .1 .1 .1 .1 .1 .0 in (
-      (p .0 .0, p .0 .1, omega (arith, p .0 .3, g .1), rw (g .0) (p .0 .6)),
+      (p .0 .0, p .0 .1, omega (arith, p .0 .3, g .1), λ h. rw (g .0) (p .0 .6 .1 (omega (arith, h, mid-len (a .luma) (a .end) (a .active .now) (p .1 .0 .2))))),
       (
         record { lasts = w .kept .1 .1 .1 .1 .1 .1 .1 .1 .1 .1 .0 ∙ h .lasts ∙ sym n; coefs = omega (arith, n, w .kept .1 .1 .1 .1 .1 .1 .1 .1 .1 .1 .1 .0, h .coefs); few = omega (arith, n, h .few) },
         p .0 .4,

@@ -24,7 +24,7 @@ Inv-loop packet at nodes luma positions₀ lasts₀ coefs₀ active₀ luma-look
     × (count + room positions ≤ room positions₀) × Lists (length positions₀) positions active luma lumas end
     × (positionsFrom (treesOf nodes) (ranks 0 luma) (ranks luma (length positions₀ - luma)) 64 0 (choicesOf 0 0) (stateOf positions₀ lasts₀ coefs₀ 0 0) packet at
     ≡ positionsFrom (treesOf nodes) (ranks 0 luma) (ranks luma (length positions₀ - luma)) (64 - k) k (choicesOf y c) (stateOf positions lasts coefs left count) packet place)
-    × Current nodes k y luma-lookup × Current nodes k c chroma-lookup
+    × Current nodes k y lumas luma-lookup × Current nodes k c (end - luma) chroma-lookup
 
 abbrev μ-loop : tie.MeasureT-loop
 μ-loop packet at nodes luma positions₀ lasts₀ coefs₀ active₀ luma-lookup₀ chroma-lookup₀ k₀ place₀ y₀ c₀ left₀ count₀ lumas₀ end₀ positions lasts coefs active luma-lookup chroma-lookup k place y c left count lumas end = 64 - k
@@ -91,8 +91,8 @@ loop-holds c =
       omega arith,
       lists-start (length (a .positions .now)) (a .positions .now) (a .active .now) (a .luma) (u .pre .0 .2) (u .pre .1 .1) (u .pre .1 .2),
       refl,
-      current-start _ _ _ refl,
-      current-start _ _ _ refl,
+      current-start _ _ _ _ refl,
+      current-start _ _ _ _ refl,
     )
 
 read-choices-requires : tie.Need-read-choices-requires Inv-loop μ-loop
@@ -132,7 +132,10 @@ renew-lookup-requires c κs =
     let u = c .before .before .before .before .before in
     let l = u .before .loop in
     let v = u .before .before .before .before .before .before .before in
-    (v .pre .0 .1, small c .0, current-chosen (v .args .nodes .now) (l .k) (ch u) (v .args .packet .now) (l .place) (are c) (λ x. x .luma) (l .luma-lookup) (l .inv .10))
+    (v .pre .0 .1, small c .0, current-chosen (v .args .nodes .now) (l .k) (ch u) (v .args .packet .now) (l .place) (are c) (λ x. x .luma) (l .lumas) (l .luma-lookup) (l .inv .10))
+
+sub-renew-lookup : tie.Need-sub-renew-lookup Inv-loop μ-loop
+sub-renew-lookup c = c .before .before .before .before .before .before .before .before .loop .inv .8 .from
 
 slice-aggregate-renew-lookup-2 : tie.Need-slice-aggregate-renew-lookup-2 Inv-loop μ-loop
 slice-aggregate-renew-lookup-2 c = sym (c .before .before .before .before .before .before .before .before .before .loop .inv .11 .0)
@@ -143,13 +146,13 @@ renew-lookup-requires-2 c κs =
     let u = d .before .before .before .before .before in
     let l = u .before .loop in
     let v = u .before .before .before .before .before .before .before in
-    (v .pre .0 .1, small d .1, current-chosen (v .args .nodes .now) (l .k) (ch u) (v .args .packet .now) (l .place) (are d) (λ x. x .chroma) (l .chroma-lookup) (l .inv .11))
+    (v .pre .0 .1, small d .1, current-chosen (v .args .nodes .now) (l .k) (ch u) (v .args .packet .now) (l .place) (are d) (λ x. x .chroma) (l .end - v .args .luma) (l .chroma-lookup) (l .inv .11))
 
 slice-aggregate-read-position : tie.Need-slice-aggregate-read-position Inv-loop μ-loop
-slice-aggregate-read-position c = sym (c .before .before .before .before .before .renew-lookup .ensures .size)
+slice-aggregate-read-position c = sym (c .before .before .before .before .before .renew-lookup .ensures .0)
 
 slice-aggregate-read-position-2 : tie.Need-slice-aggregate-read-position-2 Inv-loop μ-loop
-slice-aggregate-read-position-2 c = sym (c .before .before .before .renew-lookup2 .ensures .size)
+slice-aggregate-read-position-2 c = sym (c .before .before .before .renew-lookup2 .ensures .0)
 
 read-position-requires : tie.Need-read-position-requires Inv-loop μ-loop
 read-position-requires c κs =
@@ -248,8 +251,8 @@ loop-again c =
       le-trans (r .tokens) (l .inv .7),
       lists-on n (l .positions) (l .active) (a .luma) (l .lumas) (l .end) (p .0 .2) (l .inv .8) (w .last .1 .1 .1 .1 .1 .1 .1 .1 .1 .1 .1 .1 .1 .1 .0) (v .last .1 .0) (v .result .0) (v .result .1) (r .later) (v .kept .1 .0) (v .ensures),
       l .inv .9 ∙ positions-got (trees u) (lumas u) (chromas u) (l .k) (ch u) (s u) (a .packet .now) (l .place) (u .loop-test .taken) (are e) g,
-      current-on (a .nodes .now) (l .k) (ch₂ e .luma) _ (c .before .before .before .before .before .before .before .before .before .before .before .before .before .before .before .before .before .before .before .before .before .before .before .before .renew-lookup .ensures),
-      current-on (a .nodes .now) (l .k) (ch₂ e .chroma) _ (c .before .before .before .before .before .before .before .before .before .before .before .before .before .before .before .before .before .before .before .before .before .renew-lookup2 .ensures),
+      current-on (a .nodes .now) (l .k) (ch₂ e .luma) (l .lumas) (v .result .0) _ (v .ensures .fewer) (c .before .before .before .before .before .before .before .before .before .before .before .before .before .before .before .before .before .before .before .before .before .before .before .before .renew-lookup .ensures),
+      current-on (a .nodes .now) (l .k) (ch₂ e .chroma) (l .end - a .luma) (v .result .1 - a .luma) _ (omega (arith, v .ensures .to)) (c .before .before .before .before .before .before .before .before .before .before .before .before .before .before .before .before .before .before .before .before .before .renew-lookup2 .ensures),
     )
 
 same-length-9 : tie.Need-same-length-9 Inv-loop μ-loop
@@ -288,6 +291,7 @@ read-positions-spec =
     enum-known-choice-2
     slice-aggregate-renew-lookup
     renew-lookup-requires
+    sub-renew-lookup
     slice-aggregate-renew-lookup-2
     renew-lookup-requires-2
     slice-aggregate-read-position

@@ -15,11 +15,14 @@ use Rattle.tokens.proofs.Tables.{formed-at, nodes-long, wide}
 use Rattle.tokens.proofs.renew_lookup.Statement.{statement}
 use Rattle.tokens.proofs.renew_lookup.Tie as tie
 
+returns : tie.Need-returns
+returns c = (c .before .before .before .pre .2 .0, λ h. absurd (omega (arith, h, c .if1 .taken)))
+
 begins-group-requires : tie.Need-begins-group-requires
 begins-group-requires c κs = search needs
 
-returns : tie.Need-returns
-returns c = c .before .before .before .before .pre .2 .1 (sym (c .before .begins-group .ensures) ∙ not-true _ (c .if1 .taken))
+returns-2 : tie.Need-returns-2
+returns-2 c = (c .before .before .before .before .before .pre .2 .0, c .before .before .before .before .before .pre .2 .1 (sym (c .before .begins-group .ensures) ∙ not-true _ (c .if2 .taken)))
 
 group-of-requires : tie.Need-group-of-requires
 group-of-requires c κs = search needs
@@ -47,7 +50,7 @@ part-fill-by-start c = search needs
 
 part-fill-by-end : tie.Need-part-fill-by-end
 part-fill-by-end c =
-    let u = (c .before .before .before .before .before .before) in
+    let u = (c .before .before .before .before .before .before .before) in
     omega (arith, nodes-long (u .args .nodes .now) (u .pre .0), u .pre .1, c .before .group-of .ensures .1)
 
 slice-aggregate-fill-by : tie.Need-slice-aggregate-fill-by
@@ -55,7 +58,7 @@ slice-aggregate-fill-by c = search needs
 
 fill-by-requires : tie.Need-fill-by-requires
 fill-by-requires c κs =
-    let u = (c .before .before .before .before .before .before .before .before .before) in
+    let u = (c .before .before .before .before .before .before .before .before .before .before) in
     let g = c .before .before .before .before .group-of in
     let j = 16 * g .result + u .args .choice in
     (rw (wide j) (formed-length (formed-at (u .args .nodes .now) (u .pre .0) j (omega (arith, u .pre .1, g .ensures .1)))), rw (c .before .before .before .all-values .ensures) (record { size = values-length; small = value-small }), u .pre .2 .0)
@@ -63,19 +66,21 @@ fill-by-requires c κs =
 same-length : tie.Need-same-length
 same-length c = search needs
 
-returns-2 : tie.Need-returns-2
-returns-2 c =
-    let u = (c .before .before .before .before .before .before .before .before .before .before .before .before) in
+returns-3 : tie.Need-returns-3
+returns-3 c =
+    let u = (c .before .before .before .before .before .before .before .before .before .before .before .before .before) in
     let g = c .before .before .before .before .before .before .before .group-of in
     let e = rw (wide (16 * g .result + u .args .choice), g .ensures .0, c .before .before .before .before .before .before .all-values .ensures) at (c .before .before .fill-by .ensures) in
-    record { size = ap length e ∙ lookup-length (nodesAt (u .args .nodes .now) (16 * group (u .args .k) + u .args .choice)) tokenValues; is = e }
+    let z = ap length e ∙ lookup-length (nodesAt (u .args .nodes .now) (16 * group (u .args .k) + u .args .choice)) tokenValues in
+    (z, λ _. record { size = z; is = e })
 
 pub renew-lookup-spec : {M : Type 1} → statement M
 renew-lookup-spec =
     tie.close
     (tie.spec
-    begins-group-requires
     returns
+    begins-group-requires
+    returns-2
     group-of-requires
     mul-from
     add-from
@@ -88,4 +93,4 @@ renew-lookup-spec =
     slice-aggregate-fill-by
     fill-by-requires
     same-length
-    returns-2)
+    returns-3)

@@ -1,0 +1,72 @@
+"""Frames as a YUV4MPEG2 stream, by the library's own calls."""
+from __future__ import annotations
+
+import os
+from pathlib import Path
+from typing import BinaryIO, Callable, Optional, Union
+
+import numpy as np
+
+from ._faults import Refused
+from ._frame import Frame
+from ._library import SESSION_NUMBERS, Y4M_HEADER_BYTES, library
+from ._session import Bytes, Numbers
+from ._shot import Recording, open
+
+Output = Union[str, "os.PathLike[str]", BinaryIO]
+
+
+def _written(call: Callable[..., int], room: int, *lists: Union[int, Bytes]) -> Bytes:
+    """What a call writes into so much room."""
+    out, written = np.empty(room, np.uint8), np.zeros(1, np.uint64)
+    number = call(*lists, out.ctypes.data, room, written.ctypes.data, 1)
+    if number:
+        raise Refused(number)
+    return out[: int(written[0])]
+
+
+def _header(session: Numbers) -> Bytes:
+    return _written(library.wedgepetal_y4m_header, Y4M_HEADER_BYTES, session.ctypes.data, SESSION_NUMBERS)
+
+
+def _frame(frame: Frame) -> Bytes:
+    session, planes = frame._numbers, frame._bytes
+    lists = (session.ctypes.data, SESSION_NUMBERS, planes.ctypes.data, planes.size)
+    return _written(library.wedgepetal_y4m_frame, 6 + planes.size, *lists)
+
+
+def write_y4m(recording: Recording, out: Output, *, on_refusal: str = "raise", on_gap: str = "raise",
+              stream: Optional[int] = None, max_memory: Optional[int] = None) -> int:
+    """Writes the frames of a recording, whole as they are coded, as a YUV4MPEG2 stream, which players and FFmpeg take.
+    Gives the number of frames.
+
+    >>> wedgepetal.write_y4m(recording, recording.with_suffix(".y4m"))
+    14
+    >>> recording.with_suffix(".y4m").read_bytes()[:45]
+    b'YUV4MPEG2 W48 H80 F25:1 Ip A0:0 C420jpeg\\nFRAM'
+
+    A file has its name once it is whole. The other choices are those of `open`.
+    """
+    if not isinstance(out, (str, os.PathLike)):
+        return _write(recording, out, on_refusal, on_gap, stream, max_memory)
+    place = Path(out)
+    part = place.with_name(f"{place.name}.{os.getpid()}.part")
+    try:
+        with part.open("wb") as file:
+            count = _write(recording, file, on_refusal, on_gap, stream, max_memory)
+        part.replace(place)
+    finally:
+        part.unlink(missing_ok=True)
+    return count
+
+
+def _write(recording: Recording, out: BinaryIO, on_refusal: str, on_gap: str, stream: Optional[int],
+           max_memory: Optional[int]) -> int:
+    count = 0
+    with open(recording, held="refuse", on_refusal=on_refusal, on_gap=on_gap, stream=stream,
+              max_memory=max_memory) as shot:
+        out.write(_header(shot._decoder.session).data)
+        for frame in shot:
+            out.write(_frame(frame).data)
+            count += 1
+    return count
