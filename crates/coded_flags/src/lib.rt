@@ -303,7 +303,7 @@ fn list_cut(
 }
 
 // A whole super block, which begins with block number `first`. One place is computed, and the others follow by the walk: that saves
-// 2.4 % of the instructions of a frame in which much moves.
+// 3.2 % of the instructions of a frame in which much moves (cif).
 fn list_whole(
     format: PixelFormat,
     w: u64,

@@ -524,7 +524,7 @@ fn read_macro_block(
 }
 
 // Macro block m of the coded order. One of mode 0 sends nothing, and its blocks are as they started: it is passed over.
-// On recordings in which little moves that saves a quarter to a fifth of a frame's time (67 of 280 µs on the hints of gnome-mahjongg).
+// Where little moves that saves up to a seventh of a frame's instructions (592,000 of 4,092,000 on the hints of gnome-mahjongg).
 fn read_number(
     packet: &[u8],
     at: usize,
@@ -622,7 +622,7 @@ fn start_record(n: u32) -> u32
     n
 }
 
-// All of them: a loop without a jump, some 1 µs for 10,000 blocks.
+// All of them: a loop without a jump, two instructions for a block.
 fn start_records(records: &mut [u32])
     requires { ⌜ AllPacked (now records) ⌝ }
     ensures { λ _. ⌜ now (records .exit) ≡ map started (now (records .entry)) ⌝ }
