@@ -96,7 +96,7 @@ module _ (nodes values p : List ℕ) (at : ℕ) (long : length nodes ≡ 64) whe
     pub token : ℕ
     pub taken : ℕ
     pub is : e ≡ getD values (token % 32) 0 + taken * 2 ^ 36
-    pub few : taken ≤ 8
+    pub few : taken ≤ 31
     pub code : tokenCode (treeOf nodes) p at ≡ got token (at + taken)
 
   one-more : (n i : ℕ) → number p i (suc n) ≡ bitAt p i * 2 ^ n + number p (i + 1) n

@@ -41,20 +41,16 @@ module _ (t : ℕ) (p : List ℕ) (i : ℕ) where
       let d : i + row .signBits + row .sizeBits ≡ i + (row .signBits + row .sizeBits) = omega arith in
       whole-got (extra t) p i (rw (v .0, v .1, u .1))
 
-  past : bits p < i + (row .signBits + row .sizeBits + row .zeroBits) → whole (extra t) p i ≡ refused 4 i
+  -- cut by the packet's end
+  pub extra-cut : bits p < i + (row .signBits + row .sizeBits + row .zeroBits) → whole (extra t) p i ≡ refused 4 i
   unfolding extra
-  past l =
+  extra-cut l =
       field-cases (row .signBits) p i
       (λ a f.
       field-cases (row .sizeBits) p (i + row .signBits)
       (λ b g. whole-refused (extra t) p i {k = 4} {e = i + row .signBits + row .sizeBits} (rw (f, g, field-end (row .zeroBits) p (i + row .signBits + row .sizeBits) (omega arith))))
       (λ b g. whole-refused (extra t) p i {k = 4} {e = i + row .signBits} (rw (f, g))))
       (λ a f. whole-refused (extra t) p i {k = 4} {e = i} (rw f))
-
-  pub extra-end : {k e : ℕ} → field (row .signBits + row .sizeBits + row .zeroBits) p i ≡ refused k e → whole (extra t) p i ≡ refused k e
-  extra-end {k} {e} h =
-      field-cases (row .signBits + row .sizeBits + row .zeroBits) p i (λ l s. no-mix (sym s ∙ h))
-      (λ l s. let z = sym s ∙ h in let four : 4 ≡ k = cc in let place : i ≡ e = cc in past l ∙ (λ j. refused (four j) (place j)))
 
 -- ---- what a token means, by its number
 module _ (t s n z e : ℕ) where
