@@ -1,5 +1,5 @@
 -- The laws of codes, and the walk down a table of nodes. Assumes nothing.
-use Prim.Native.Nat.{ℕ, _+_, _-_, _*_, _≤_, _<_, max}
+use Prim.Native.Nat.{ℕ, _+_, _-_, _≤_, _<_, max}
 use native.Mathlib.Omega.{arith}
 use mathlib.Core.Path.{_≡_, refl, sym, ap, _∙_}
 use mathlib.Core.List.{List}
@@ -11,8 +11,8 @@ use Rattle.bitstream.specs.Bits.{bits, bitAt, number}
 use Rattle.bitstream.specs.Lists.{among}
 use Rattle.bitstream.specs.Reading.{got, refused, after, pick, choose, field}
 use Rattle.bitstream.proofs.Numbers.{number-one}
-use Rattle.bitstream.proofs.Fields.{no-mix, field-got, field-end, field-cases}
-use Rattle.bitstream.proofs.Laws.{Lawful, pure-lawful, pick-lawful, bind-lawful, field-lawful, whole-lawful, whole-got, whole-refused, whole-cases, bind-got}
+use Rattle.bitstream.proofs.Fields.{no-mix, field-got, field-cases}
+use Rattle.bitstream.proofs.Laws.{Lawful, pure-lawful, pick-lawful, bind-lawful, field-lawful, whole-lawful, whole-got, whole-cases, bind-got}
 use Rattle.bitstream.proofs.Inside.{Inside, pure-inside, field-inside, pick-inside, bind-inside, whole-inside, Refuses}
 use Rattle.bitstream.proofs.Spends.{Spends, spends-more, pure-spends, field-spends, bind-spends, pick-spends, whole-spends}
 use Rattle.huffman.specs.Tree.{Tree, leaf, fork, size, Tokens, Proper}

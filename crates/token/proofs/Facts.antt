@@ -2,7 +2,7 @@
 use Prim.Native.Nat.{ℕ, _+_, _*_, _/_, _%_, _^_, _≤_, _<_}
 use native.Mathlib.Omega.{arith}
 use native.Mathlib.Nat.{one-mul, mod-lt}
-use mathlib.Core.Path.{_≡_, sym, ap, _∙_}
+use mathlib.Core.Path.{_≡_, ap, _∙_}
 use mathlib.Core.List.{List}
 use lib.Pow.{pow-pos, pow-mono, shl-exact}
 use lib.Pow as P
@@ -10,7 +10,7 @@ use borrow.Author.Tests.{lt-ltb, le-ltb}
 use Rattle.bitstream.specs.Bits.{bits, number}
 use Rattle.bitstream.specs.Reading.{got, refused, field, whole}
 use Rattle.bitstream.proofs.Numbers.{number-lt, number-add}
-use Rattle.bitstream.proofs.Fields.{no-mix, field-got, field-end, field-cases, field-value}
+use Rattle.bitstream.proofs.Fields.{field-got, field-end, field-cases, field-value}
 use Rattle.bitstream.proofs.Laws.{whole-got, whole-refused}
 use Rattle.numeric.specs.Sign.{withSign}
 use Rattle.token.specs.Token.{Row, rowOf, meaning, extra}

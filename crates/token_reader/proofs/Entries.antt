@@ -6,7 +6,7 @@ use mathlib.Core.Path.{_≡_, refl, sym, ap, _∙_}
 use mathlib.Core.List.{List, [], _∷_, _++_}
 use mathlib.Core.Bool.{Bool, true, false}
 use lib.Dec.{eqb, leb}
-use lib.ListN.{length, getD, replicate, length-append, length-replicate}
+use lib.ListN.{getD, replicate, length-append, length-replicate}
 use lib.Pow.{pow-pos, pow-mono, shl-exact, shr-shr}
 use borrow.Author.Tests.{eq-eqb, ne-eqb, eqb-false, leb-true, leb-false}
 use Rattle.bitstream.specs.Bits.{bits, bitAt, number}
@@ -14,7 +14,7 @@ use Rattle.bitstream.specs.Reading.{Outcome, got, refused, choose}
 use Rattle.bitstream.proofs.Numbers.{number-part, number-same}
 use Rattle.bitstream.proofs.Bytes.{bits-of-window}
 use Rattle.bitstream.proofs.Fields.{no-mix, field-got}
-use Rattle.bitstream.proofs.Laws.{Agree, got-more}
+use Rattle.bitstream.proofs.Laws.{got-more}
 use Rattle.huffman.specs.Code.{Formed, treeOf}
 use Rattle.huffman.specs.Lookup.{lookupOf, entryIn}
 use Rattle.huffman.proofs.Codes.{token-code-lt}

@@ -12,11 +12,10 @@ use lib.IntN.{ℤ, pos, natAbs}
 use borrow.Author.Tests.{eqb-true}
 use Rattle.bitstream.specs.Reading.{Outcome, got, refused, after, bind, pure, pick, guard}
 use Rattle.bitstream.proofs.Fields.{no-mix}
-use Rattle.bitstream.proofs.Laws.{bind-got, whole-cases}
+use Rattle.bitstream.proofs.Laws.{bind-got}
 use Rattle.huffman.specs.Tree.{Tree}
-use Rattle.huffman.specs.Code.{tokenCode}
-use Rattle.token.specs.Token.{Meaning, endOfBlock, zeroRun, coefficient, extra}
-use Rattle.token.proofs.Laws.{Sound, extra-sound}
+use Rattle.token.specs.Token.{Meaning, endOfBlock, zeroRun, coefficient}
+use Rattle.token.proofs.Laws.{Sound}
 use Rattle.token_reader.specs.Reader.{token}
 use Rattle.token_reader.proofs.Laws.{token-sound}
 use Rattle.token_visits.specs.Visits.{TokenState, stateOf, runOf, act, readFor, visit, pass}

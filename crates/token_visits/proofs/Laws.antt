@@ -1,22 +1,18 @@
 -- The laws of a visit and of a pass. Assumes nothing.
-use Prim.Native.Nat.{ℕ, zero, suc, _+_, _-_, _*_, _≤_}
+use Prim.Native.Nat.{ℕ, _+_, _*_}
 use native.Mathlib.Omega.{arith}
-use native.Mathlib.Nat.{suc-mul, zero-mul, le-refl}
-use mathlib.Core.Path.{_≡_, _∙_}
+use native.Mathlib.Nat.{le-refl}
+use mathlib.Core.Path.{_≡_}
 use mathlib.Core.List.{List, [], _∷_}
 use mathlib.Core.Bool.{true}
 use lib.Dec.{eqb, ltb, leb}
-use lib.ListN.{length, getD, length-replicate}
-use lib.IntN.{pos}
+use lib.ListN.{length, getD}
 use Rattle.bitstream.specs.Lists.{among}
-use Rattle.bitstream.specs.Reading.{got, pure}
-use Rattle.bitstream.proofs.Laws.{Lawful, lawful, pure-lawful, here-lawful, guard-lawful, pick-lawful, bind-lawful, whole-lawful, bind-got}
-use Rattle.bitstream.proofs.Inside.{Inside, inside, pure-inside, here-inside, guard-inside, pick-inside, bind-inside, whole-inside, Refuses, refuses, pure-refuses, here-refuses, guard-refuses, pick-refuses, bind-refuses, whole-refuses}
-use Rattle.bitstream.proofs.Spends.{Spends, spends-more, pure-spends, here-then, guard-spends, pick-spends, bind-spends, whole-spends, field-spends}
+use Rattle.bitstream.proofs.Laws.{Lawful, pure-lawful, here-lawful, guard-lawful, pick-lawful, bind-lawful}
+use Rattle.bitstream.proofs.Inside.{Inside, pure-inside, here-inside, guard-inside, pick-inside, bind-inside, Refuses, pure-refuses, here-refuses, guard-refuses, pick-refuses, bind-refuses}
+use Rattle.bitstream.proofs.Spends.{Spends, spends-more, pure-spends, here-then, guard-spends, pick-spends, bind-spends}
 use Rattle.huffman.specs.Tree.{Tree, Proper}
-use Rattle.huffman.proofs.Codes.{token-code-lawful, token-code-inside, token-code-refuses, token-code-spends}
 use Rattle.token.specs.Token.{Meaning, endOfBlock, zeroRun, coefficient}
-use Rattle.token.proofs.Laws.{extra-lawful, extra-inside, extra-refuses, extra-spends}
 use Rattle.token_visits.specs.Visits.{TokenState, act, readFor, visit, pass}
 use Rattle.token_reader.proofs.Laws.{token-lawful, token-inside, token-refuses, token-spends}
 

@@ -7,7 +7,7 @@ use mathlib.Core.Path.{_≡_, refl, sym, ap, _∙_}
 use mathlib.Core.List.{List, [], _∷_, _++_}
 use mathlib.Core.Bool.{Bool, true, false}
 use lib.Dec.{ltb}
-use lib.ListN.{length, getD, set, take, drop}
+use lib.ListN.{length, set, take, drop}
 use lib.Seq.{take-suc-set, take-all, take-at, drop-at}
 use borrow.Author.Tests.{lt-ltb, le-ltb}
 use Rattle.bitstream.specs.Reading.{Outcome, got, refused, after, bind, pure, pick, field, twoFields}
@@ -16,11 +16,10 @@ use Rattle.bitstream.proofs.Laws.{bind-got}
 use Rattle.huffman.specs.Tree.{Tree}
 use Rattle.token_visits.specs.Visits.{TokenState, pass}
 use Rattle.tokens.specs.Tokens.{group, Choices, choicesOf, choices, table, atPosition, positionsFrom, ranks}
-use Rattle.token_visits.specs.Answer.{Below}
 use Rattle.tokens.specs.Answer.{asChosen, treesOf, treeAt}
 use Rattle.tokens.specs.declared.Chosen.{Chosen}
 use Rattle.tokens.specs.declared.Chosen.the-variants as chosen
-use Rattle.token_visits.proofs.Goes.{AllBelow}
+use Rattle.token_visits.proofs.Goes.{Goes, goes-same, goes-on, AllBelow, pass-goes}
 
 -- ---- groups
 module _ (k : ℕ) where

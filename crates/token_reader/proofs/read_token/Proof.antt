@@ -2,7 +2,7 @@
 use borrow.Author.Needs.{needs}
 use native.Mathlib.Omega.{arith}
 use mathlib.Core.Path.{sym, ap, _∙_}
-use Prim.Native.Nat.{ℕ, _/_, _^_, _≤_}
+use Prim.Native.Nat.{_/_, _^_, _≤_}
 use Rattle.token.specs.Answer.{asToken}
 use Rattle.token_reader.proofs.Entries.{entry-row, entry-bits, entry-got, entry-cut}
 use Rattle.token_reader.proofs.read_token.Statement.{statement}

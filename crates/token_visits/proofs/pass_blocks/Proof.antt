@@ -12,7 +12,7 @@ use Rattle.bitstream.specs.Reading.{Outcome}
 use Rattle.huffman.specs.Tree.{Tree}
 use Rattle.huffman.specs.Code.{treeOf}
 use Rattle.token_visits.specs.Visits.{TokenState, stateOf, pass}
-use Rattle.token_visits.specs.Answer.{room, Shape, Below, dueOf}
+use Rattle.token_visits.specs.Answer.{room, dueOf}
 use Rattle.token_visits.proofs.Goes.{AllBelow, pass-goes, all-below, below-each}
 use Rattle.token_visits.proofs.Due.{below-part, below-due, part-got, part-refused}
 use Rattle.token_visits.proofs.Ways.{visit-done, visit-refused, pass-none, on-refused, on-state}
