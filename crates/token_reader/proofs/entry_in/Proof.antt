@@ -26,7 +26,7 @@ shared-slice-read-entry c = omega (arith, c .before .before .before .before .pre
 walk-requires : tie.Need-walk-requires
 walk-requires c κs =
     let p = c .before .before .before .before .before .pre in
-    (p .1, rw (p .3) (record { size = values-length; small = value-small }), p .0)
+    (p .1, rw (p .3) (record { size = values-length; small = value-small }), omega (arith, p .0))
 
 returns : tie.Need-returns
 returns c =
