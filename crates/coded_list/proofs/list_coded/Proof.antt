@@ -1,4 +1,4 @@
--- `coded_flags::list_coded` meets its contract. The invariant: the numbers so far and those of the super blocks that are left are all, and so for the records. Assumes nothing.
+-- `coded_list::list_coded` meets its contract. The invariant: the numbers so far and those of the super blocks that are left are all, and so for the records. Assumes nothing.
 use Prim.Native.Nat.{ℕ, _+_, _-_, _≤_, _<_}
 use native.Mathlib.Omega.{arith}
 use mathlib.Core.Path.{_≡_, refl, sym, ap, _∙_, subst}
@@ -8,15 +8,16 @@ use Rattle.geometry.specs.Sizes.{blocksOf, superBlocksOf}
 use Rattle.geometry.proofs.SizeLaws.{sizes-small}
 use Rattle.block_record.specs.Record.{nowCoded}
 use Rattle.block_record.specs.Packed.{packed}
 use Rattle.coded_flags.specs.Coded.{order, codedLuma, codedBlocks, setAt}
 use Rattle.coded_flags.specs.Flags.{ones}
-use Rattle.coded_flags.specs.Listing.{Listing, WholeAt}
-use Rattle.coded_flags.proofs.Listing.{order-length, listing-start, listing-count, listing-numbers, listing-marks, records-packed, listed-by, luma-blocks, luma-part}
+use Rattle.coded_list.specs.Listing.{Listing, WholeAt}
+use Rattle.coded_flags.proofs.Order.{order-length}
+use Rattle.coded_list.proofs.Listing.{listing-start, listing-count, listing-numbers, listing-marks, records-packed, listed-by, luma-blocks, luma-part}
 use Rattle.coded_flags.proofs.Spread.{firstOf, first-zero, first-next, first-all}
-use Rattle.coded_flags.proofs.Whole.{whole-at}
+use Rattle.coded_list.proofs.Whole.{whole-at}
 use borrow.Author.Needs.{needs}
-use Rattle.coded_flags.proofs.list_coded.Statement.{statement}
-use Rattle.coded_flags.proofs.list_coded.Tie as tie
+use Rattle.coded_list.proofs.list_coded.Statement.{statement}
+use Rattle.coded_list.proofs.list_coded.Tie as tie
 
 abbrev Inv-loop : tie.InvT-loop
 Inv-loop format w h flags records₀ coded₀ supers count₀ k₀ records coded count k = (length records ≡ length records₀) × (length coded ≡ length coded₀) × (k ≤ supers) × (count ≤ firstOf format w h k) × Listing (order format w h) flags records₀ coded₀ records coded count (firstOf format w h k)

@@ -1,10 +1,10 @@
--- `coded_flags::list_number` meets its contract. Assumes nothing.
+-- `coded_list::list_number` meets its contract. Assumes nothing.
 use mathlib.Core.Path.{ap, _∙_}
 use lib.ListN.{set}
 use Rattle.bitstream.proofs.ListLaws.{if-other, if-equal}
 use borrow.Author.Needs.{needs}
-use Rattle.coded_flags.proofs.list_number.Statement.{statement}
-use Rattle.coded_flags.proofs.list_number.Tie as tie
+use Rattle.coded_list.proofs.list_number.Statement.{statement}
+use Rattle.coded_list.proofs.list_number.Tie as tie
 
 returns : tie.Need-returns
 returns c = let h = c .if1 .taken in (if-other _ 1 _ _ h, (if-other _ 1 _ _ h, if-other _ 1 _ _ h))

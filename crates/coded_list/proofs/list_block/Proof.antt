@@ -1,4 +1,4 @@
--- `coded_flags::list_block` meets its contract. Assumes nothing.
+-- `coded_list::list_block` meets its contract. Assumes nothing.
 use Prim.Native.Nat.{ℕ}
 use native.Mathlib.Omega.{arith}
 use mathlib.Core.Path.{_≡_, sym, ap, _∙_, subst}
@@ -10,12 +10,12 @@ use Rattle.block_record.specs.Packed.{packed}
 use Rattle.geometry.specs.Frame.{InFrame}
 use Rattle.geometry.proofs.FrameLaws.{frame-back}
 use Rattle.geometry.specs.Raster.{rasterNumber}
 use Rattle.coded_flags.specs.Coded.{order}
 use Rattle.bitstream.proofs.ListLaws.{if-other}
-use Rattle.coded_flags.proofs.Listing.{order-at}
+use Rattle.coded_flags.proofs.Order.{order-at}
 use borrow.Author.Needs.{needs}
-use Rattle.coded_flags.proofs.list_block.Statement.{statement}
-use Rattle.coded_flags.proofs.list_block.Tie as tie
+use Rattle.coded_list.proofs.list_block.Statement.{statement}
+use Rattle.coded_list.proofs.list_block.Tie as tie
 
 number : (c : tie.After-raster-number) → let a = c .before .before .before .before .before .args in c .raster-number .result ≡ getD (order (a .format) (a .w) (a .h)) (a .i) 0
 number c =

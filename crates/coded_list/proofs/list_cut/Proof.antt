@@ -1,14 +1,15 @@
--- `coded_flags::list_cut` meets its contract. The invariant: the blocks from the first to before i are done. Assumes nothing.
+-- `coded_list::list_cut` meets its contract. The invariant: the blocks from the first to before i are done. Assumes nothing.
 use Prim.Native.Nat.{ℕ, _-_, _≤_}
 use native.Mathlib.Omega.{arith}
 use mathlib.Core.Path.{_≡_, refl, _∙_, subst}
 use lib.ListN.{length, getD}
 use Rattle.coded_flags.specs.Coded.{order}
-use Rattle.coded_flags.specs.Listing.{Goes}
-use Rattle.coded_flags.proofs.Listing.{order-length, goes-on, counts-on}
+use Rattle.coded_list.specs.Listing.{Goes}
+use Rattle.coded_flags.proofs.Order.{order-length}
+use Rattle.coded_list.proofs.Listing.{goes-on, counts-on}
 use borrow.Author.Needs.{needs}
-use Rattle.coded_flags.proofs.list_cut.Statement.{statement}
-use Rattle.coded_flags.proofs.list_cut.Tie as tie
+use Rattle.coded_list.proofs.list_cut.Statement.{statement}
+use Rattle.coded_list.proofs.list_cut.Tie as tie
 
 abbrev Inv-loop : tie.InvT-loop
 Inv-loop format w h flags first end records₀ coded₀ before count₀ i₀ records coded count i = (length records ≡ length records₀) × (length coded ≡ length coded₀) × (first ≤ i) × (i ≤ end) × (count ≤ i) × Goes (order format w h) flags records₀ coded₀ before first records coded count i

@@ -1,13 +1,13 @@
--- `coded_flags::none_set` meets its contract. The invariant: if so, none of the flags before i is 1. Assumes nothing.
+-- `coded_list::none_set` meets its contract. The invariant: if so, none of the flags before i is 1. Assumes nothing.
 use Prim.Native.Nat.{_-_, _≤_}
 use native.Mathlib.Omega.{arith}
 use mathlib.Core.Path.{_≡_, subst}
 use mathlib.Core.Bool.{true}
-use Rattle.coded_flags.specs.Listing.{NoneSet}
-use Rattle.coded_flags.proofs.Listing.{none-first, none-next}
+use Rattle.coded_list.specs.Listing.{NoneSet}
+use Rattle.coded_list.proofs.Listing.{none-first, none-next}
 use borrow.Author.Needs.{needs}
-use Rattle.coded_flags.proofs.none_set.Statement.{statement}
-use Rattle.coded_flags.proofs.none_set.Tie as tie
+use Rattle.coded_list.proofs.none_set.Statement.{statement}
+use Rattle.coded_list.proofs.none_set.Tie as tie
 
 abbrev Inv-loop : tie.InvT-loop
 Inv-loop flags first end none₀ i₀ none i = (first ≤ i) × (i ≤ end) × (none ≡ true → NoneSet flags first i)

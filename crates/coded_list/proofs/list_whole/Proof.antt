@@ -1,4 +1,4 @@
--- `coded_flags::list_whole` meets its contract. The invariant: the first j blocks are done, for any list whose numbers the walk gives. Assumes nothing.
+-- `coded_list::list_whole` meets its contract. The invariant: the first j blocks are done, for any list whose numbers the walk gives. Assumes nothing.
 use Prim.Native.Nat.{ℕ, _+_, _-_, _*_, _/_, _%_, _≤_, _<_}
 use native.Mathlib.Omega.{arith}
 use mathlib.Core.Path.{_≡_, refl, sym, ap, _∙_, subst}
@@ -12,13 +12,14 @@ use Rattle.geometry.specs.declared.Plane.{Plane}
 use Rattle.geometry.specs.Frame.{InFrame}
 use Rattle.geometry.proofs.FrameLaws.{frame-back}
 use Rattle.geometry.proofs.SizeLaws.{sizes-small, plane-of-small}
 use Rattle.coded_flags.specs.Coded.{order}
-use Rattle.coded_flags.specs.Listing.{Goes, walkPlaces}
-use Rattle.coded_flags.proofs.Listing.{order-length, order-small, goes-none, goes-on, counts-on}
-use Rattle.coded_flags.proofs.Whole.{walk-small, row-small, whole-number}
+use Rattle.coded_list.specs.Listing.{Goes, walkPlaces}
+use Rattle.coded_flags.proofs.Order.{order-length, order-small}
+use Rattle.coded_list.proofs.Listing.{goes-none, goes-on, counts-on}
+use Rattle.coded_list.proofs.Whole.{walk-small, row-small, whole-number}
 use borrow.Author.Needs.{needs}
-use Rattle.coded_flags.proofs.list_whole.Statement.{statement}
-use Rattle.coded_flags.proofs.list_whole.Tie as tie
+use Rattle.coded_list.proofs.list_whole.Statement.{statement}
+use Rattle.coded_list.proofs.list_whole.Tie as tie
 
 abbrev Inv-loop : tie.InvT-loop
 Inv-loop w h flags first records₀ coded₀ before corner a walk count₀ j₀ records coded count j =

@@ -1,72 +1,39 @@
 -- The coded blocks, block by block in coded order. Assumes nothing.
 use Prim.Native.Nat.{ℕ, zero, suc, _+_, _*_, _/_, _≤_, _<_}
 use native.Mathlib.Omega.{arith}
-use native.Mathlib.Nat.{le-of-suc-le-suc, not-suc-le-zero}
 use native.Mathlib.Numerals.{add-one}
 use mathlib.Core.Path.{_≡_, refl, sym, ap, _∙_, subst}
 use mathlib.Core.List.{List, [], _∷_, _++_, map, append-nil, append-assoc}
 use mathlib.Core.Bool.{Bool, true, false, not, _&&_}
 use lib.Dec.{eqb}
-use lib.ListN.{length, getD, take, drop, set, replicate, length-map, length-set, take-append-drop, drop-of-length-le}
+use lib.ListN.{length, getD, take, drop, set, replicate, take-append-drop, drop-of-length-le}
 use lib.Seq.{take-suc-set, drop-set-lt, drop-drop, length-take-le}
 use borrow.Author.Tests.{eqb-true, eqb-false, not-true}
 use Rattle.bitstream.specs.Reading.{choose}
 use Rattle.geometry.specs.declared.PixelFormat.{PixelFormat}
 use Rattle.geometry.specs.declared.Plane.{Plane}
 use Rattle.geometry.specs.Sizes.{planeBlocks, blocksOf, planeOf}
-use Rattle.geometry.specs.Frame.{block, frameOrder}
-use Rattle.geometry.proofs.FrameLaws.{frame-length, frame-back}
 use Rattle.geometry.proofs.SizeLaws.{before-luma, before-next, before-to}
-use Rattle.geometry.specs.Raster.{rasterNumber}
-use Rattle.geometry.proofs.RasterLaws.{raster-number-below}
 use Rattle.block_record.specs.Record.{uncoded, nowCoded}
 use Rattle.block_record.specs.Packed.{packed}
 use Rattle.block_record.proofs.Laws.{packed-uncoded}
-use Rattle.coded_flags.specs.Flags.{ones}
-use Rattle.coded_flags.specs.Coded.{order, flagged, codedBlocks, codedLuma, setAt, codedRecords}
-use Rattle.coded_flags.specs.Answer.{listedOf}
-use Rattle.coded_flags.specs.Listing.{Listing, Goes, NoneSet}
+use Rattle.coded_flags.proofs.Order.{map-replicate}
+use Rattle.coded_flags.specs.Coded.{flagged, codedBlocks, codedLuma, setAt, codedRecords}
+use Rattle.coded_list.specs.Answer.{listedOf}
+use Rattle.coded_list.specs.Listing.{Listing, Goes, NoneSet}
 use Rattle.bitstream.proofs.ListLaws.{drop-next, if-other}
 
--- ---- lists
-map-at : {A : Type 0} (g : A → ℕ) (l : List A) (i : ℕ) (d : A) → i < length l → getD (map g l) i 0 ≡ g (getD l i d)
-map-at g [] i d h = absurd (not-suc-le-zero h)
-map-at g (x ∷ l) zero d h = refl
-map-at g (x ∷ l) (suc i) d h = map-at g l i d (le-of-suc-le-suc h)
-
+-- ---- the packed records
 map-set : {A : Type 0} (g : A → ℕ) (l : List A) (i : ℕ) (v : A) → map g (set l i v) ≡ set (map g l) i (g v)
 map-set g [] i v = refl
 map-set g (x ∷ l) zero v = refl
 map-set g (x ∷ l) (suc i) v = ap (λ (m : List ℕ). g x ∷ m) (map-set g l i v)
-
-pub map-replicate : {A : Type 0} (g : A → ℕ) (n : ℕ) (v : A) → map g (replicate n v) ≡ replicate n (g v)
-map-replicate g zero v = refl
-map-replicate g (suc n) v = ap (λ (m : List ℕ). g v ∷ m) (map-replicate g n v)
 
 map-set-at : {A : Type 0} (g : A → ℕ) (v : A) (ns : List ℕ) (l : List A) → map g (setAt v ns l) ≡ setAt (g v) ns (map g l)
 unfolding setAt
 map-set-at g v [] l = refl
 map-set-at g v (n ∷ ns) l = map-set-at g v ns (set l n v) ∙ ap (setAt (g v) ns) (map-set g l n v)
 
-pub set-at-length : {A : Type 0} (v : A) (ns : List ℕ) (l : List A) → length (setAt v ns l) ≡ length l
-unfolding setAt
-set-at-length v [] l = refl
-set-at-length v (n ∷ ns) l = set-at-length v ns (set l n v) ∙ length-set l n v
-
--- ---- raster numbers
-module _ (f : PixelFormat) (w h : ℕ) where
-  pub order-length : length (order f w h) ≡ blocksOf f w h
-  unfolding order
-  order-length = length-map (frameOrder f w h) (rasterNumber f w h) ∙ frame-length f w h
-
-  pub order-at : (i : ℕ) → i < blocksOf f w h → getD (order f w h) i 0 ≡ rasterNumber f w h (getD (frameOrder f w h) i (block 0 0 0))
-  unfolding order
-  order-at i l = map-at (rasterNumber f w h) (frameOrder f w h) i (block 0 0 0) (omega (arith, frame-length f w h))
-
-  pub order-small : (i : ℕ) → i < blocksOf f w h → getD (order f w h) i 0 < blocksOf f w h
-  order-small i l = rw (order-at i l) (raster-number-below f w h (getD (frameOrder f w h) i (block 0 0 0)) (frame-back f w h i l .0))
-
--- ---- the packed records
 pub records-packed : (f : PixelFormat) (w h : ℕ) (flags : List ℕ) → map packed (codedRecords f w h flags) ≡ setAt (packed nowCoded) (codedBlocks f w h flags) (replicate (blocksOf f w h) 0)
 unfolding codedRecords
 records-packed f w h flags =

@@ -1,13 +1,14 @@
--- `coded_flags::list_super` meets its contract. Assumes nothing.
+-- `coded_list::list_super` meets its contract. Assumes nothing.
 use Prim.Native.Nat.{ℕ, _+_, _-_}
 use native.Mathlib.Omega.{arith}
 use mathlib.Core.Path.{_≡_, sym, subst}
 use Rattle.coded_flags.specs.Coded.{order}
-use Rattle.coded_flags.specs.Listing.{Goes, NoneSet}
-use Rattle.coded_flags.proofs.Listing.{order-length, goes-over}
+use Rattle.coded_list.specs.Listing.{Goes, NoneSet}
+use Rattle.coded_flags.proofs.Order.{order-length}
+use Rattle.coded_list.proofs.Listing.{goes-over}
 use borrow.Author.Needs.{needs}
-use Rattle.coded_flags.proofs.list_super.Statement.{statement}
-use Rattle.coded_flags.proofs.list_super.Tie as tie
+use Rattle.coded_list.proofs.list_super.Statement.{statement}
+use Rattle.coded_list.proofs.list_super.Tie as tie
 
 none-set-requires : tie.Need-none-set-requires
 none-set-requires c κs = let p = c .before .before .before .pre in (p .6, omega (arith, p .7, p .2))

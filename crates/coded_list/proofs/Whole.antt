@@ -17,10 +17,10 @@ use Rattle.geometry.specs.Raster.{rasterNumber}
 use Rattle.geometry.proofs.Lists.{turn-at, shifted-at, shifted-length}
 use Rattle.geometry.proofs.FrameLaws.{in-plane-length}
 use Rattle.geometry.proofs.SuperBlockLaws.{frame-flat}
 use Rattle.coded_flags.specs.Coded.{order}
-use Rattle.coded_flags.specs.Listing.{walkPlaces, WholeAt}
-use Rattle.coded_flags.proofs.Listing.{order-at}
+use Rattle.coded_list.specs.Listing.{walkPlaces, WholeAt}
+use Rattle.coded_flags.proofs.Order.{order-at}
 use Rattle.coded_flags.proofs.Spread.{firstOf}
 
 -- ---- a square that lies whole in its plane
 present-most : (w h : ℕ) (l : List Place) → length (present w h l) ≤ length l
