@@ -27,7 +27,7 @@ use Rattle.block_record.proofs.MemoryLaws.{AllInRange, in-range-set, in-range-r
 use Rattle.geometry.specs.Raster.{rasterNumber}
 use Rattle.coded_flags.specs.Flags.{ones}
 use Rattle.coded_flags.specs.Coded.{order, flagged, codedBlocks, codedLuma, setAt, codedRecords}
-use Rattle.coded_flags.proofs.Listing.{order-length, order-at, order-small, set-at-length}
+use Rattle.coded_flags.proofs.Order.{order-length, order-at, order-small, set-at-length}
 use Rattle.coded_flags.proofs.Spread.{ones-most}
 
 -- ---- those that are flagged

@@ -1,7 +1,6 @@
--- What other crates cite: Laws, CodedLaws (the coded blocks), Listing. Spread, Whole and Answers have what the functions' proofs need, Examples worked examples. Assumes nothing.
+-- What other crates cite: Laws, CodedLaws (the coded blocks), Order. Spread and Answers have what the functions' proofs need, Examples worked examples. Assumes nothing.
 pub mod Spread
-pub mod Listing
-pub mod Whole
+pub mod Order
 pub mod Answers
 pub mod Laws
 pub mod CodedLaws

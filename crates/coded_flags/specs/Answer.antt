@@ -6,13 +6,10 @@ use lib.Dec.{eqb}
 use lib.ListN.{length, getD, take, drop, replicate}
 use Rattle.bitstream.specs.Reading.{Outcome, got, refused, choose}
 use Rattle.bitstream.specs.Answer.{IfGot}
-use Rattle.geometry.specs.declared.PixelFormat.{PixelFormat}
 use Rattle.coded_flags.specs.declared.SuperRead.{SuperRead}
 use Rattle.coded_flags.specs.declared.SuperRead.the-variants.{At, Refused}
 use Rattle.coded_flags.specs.declared.Taken.{Taken}
-use Rattle.coded_flags.specs.declared.Listed.{Listed}
 use Rattle.coded_flags.specs.Flags.{SuperFlags}
-use Rattle.coded_flags.specs.Coded.{codedBlocks, codedLuma}
 
 -- how many of the super blocks are not partly coded, and the place behind both strings
 abbrev pub asSupers : Outcome SuperFlags → SuperRead
@@ -29,7 +26,3 @@ blockFlags partly count full bits t = choose (eqb partly 1) (take count (drop (t
 
 abbrev pub takenNext : ℕ → ℕ → Taken → Taken
 takenNext partly count t = choose (eqb partly 1) (record { full = t .full; bits = t .bits + count }) (record { full = t .full + 1; bits = t .bits })
-
--- how many blocks are coded, and how many of them are luma blocks
-abbrev pub listedOf : PixelFormat → ℕ → ℕ → List ℕ → Listed
-listedOf f w h flags = record { count = length (codedBlocks f w h flags); luma = codedLuma f w h flags }

@@ -1,4 +1,3 @@
 pub mod Flags
 pub mod Coded
 pub mod Answer
-pub mod Listing

@@ -31,7 +31,9 @@ use Rattle.vectors.specs.Vectors.{numberIn, codedIn, predictedAt, predictedFrom
 use Rattle.block_qi.specs.BlockQi.{qiSteps, blockQi}
 use Rattle.numeric.specs.Sign.{withSign}
 use Rattle.token.specs.Token.{rowOf, meaning, extra}
-use Rattle.tokens.specs.Tokens.{token, unfinished, runOf, act, readFor, visit, pass, group, table, choices, atPosition, positionsFrom, ranks, start, readTokens}
+use Rattle.token_reader.specs.Reader.{token}
+use Rattle.token_visits.specs.Visits.{unfinished, runOf, act, readFor, visit, pass}
+use Rattle.tokens.specs.Tokens.{group, table, choices, atPosition, positionsFrom, ranks, start, readTokens}
 use Rattle.frame_packet.specs.Frame.{Frame, flagsOf, predictions, body, frame, framePacket}
 
 abbrev given : Kind → List ℕ → List ℕ → List BlockRecord → List ℤ → List ℕ → ℕ → Frame

@@ -22,7 +22,7 @@ use Rattle.frame_header.specs.declared.Kind.the-variants.{Intra, Repeat}
 use Rattle.coded_flags.specs.Flags.{intraFlags}
 use Rattle.coded_flags.specs.Coded.{codedBlocks, codedLuma, codedRecords, order}
 use Rattle.coded_flags.proofs.Laws.{intra-length}
-use Rattle.coded_flags.proofs.Listing.{order-at}
+use Rattle.coded_flags.proofs.Order.{order-at}
 use Rattle.coded_flags.proofs.CodedLaws.{record-of, coded-in-range}
 use Rattle.block_qi.specs.BlockQi.{blockQi}
 use Rattle.block_qi.proofs.Laws.{qi-but}

@@ -29,10 +29,10 @@ use Rattle.block_record.proofs.MemoryLaws.{AllInRange, all-packed, records-pack
 use Rattle.frame_header.specs.declared.Kind.{Kind}
 use Rattle.frame_header.specs.declared.Kind.the-variants.{Intra, Inter, Repeat}
 use Rattle.frame_header.proofs.Kind as kind
-use Rattle.coded_flags.specs.declared.Listed.{Listed}
+use Rattle.coded_list.specs.declared.Listed.{Listed}
 use Rattle.coded_flags.specs.Flags.{interFlags, intraFlags}
 use Rattle.coded_flags.specs.Coded.{codedBlocks, codedLuma, codedRecords}
-use Rattle.coded_flags.specs.Answer.{listedOf}
+use Rattle.coded_list.specs.Answer.{listedOf}
 use Rattle.coded_flags.proofs.CodedLaws.{coded-once, coded-below, luma-most, coded-in-range}
 use Rattle.modes.specs.Modes.{macroModes}
 use Rattle.vectors.specs.Vectors.{vectors}

@@ -19,7 +19,7 @@ use Rattle.frame_header.specs.declared.Header.{Header}
 use Rattle.frame_header.specs.declared.HeaderRead.{HeaderRead}
 use Rattle.frame_header.specs.Header.{FrameHeader, frameHeader}
 use Rattle.frame_header.specs.Answer as header
-use Rattle.coded_flags.proofs.Listing.{map-replicate}
+use Rattle.coded_flags.proofs.Order.{map-replicate}
 use Rattle.frame_packet.specs.declared.Read.{Read}
 use Rattle.frame_packet.specs.declared.Read.the-variants as read
 use Rattle.frame_packet.specs.declared.FrameRead.{FrameRead}

@@ -90,7 +90,7 @@ fn read_coded(
     match done {
         End::Refused(k, e) => CodedRead::Refused(k, e),
         End::At(place) => {
-            let listed = coded_flags::list_coded(format, w, h, flags, records, coded);
+            let listed = coded_list::list_coded(format, w, h, flags, records, coded);
             CodedRead::Listed(listed.count, listed.luma, place)
         }
     }

@@ -1,5 +1,5 @@
 -- The laws of codes, and the walk down a table of nodes. Assumes nothing.
-use Prim.Native.Nat.{ℕ, _+_, _-_, _*_, _≤_, _<_, max}
+use Prim.Native.Nat.{ℕ, _+_, _-_, _≤_, _<_, max}
 use native.Mathlib.Omega.{arith}
 use mathlib.Core.Path.{_≡_, refl, sym, ap, _∙_}
 use mathlib.Core.List.{List}
@@ -11,8 +11,8 @@ use Rattle.bitstream.specs.Bits.{bits, bitAt, number}
 use Rattle.bitstream.specs.Lists.{among}
 use Rattle.bitstream.specs.Reading.{got, refused, after, pick, choose, field}
 use Rattle.bitstream.proofs.Numbers.{number-one}
-use Rattle.bitstream.proofs.Fields.{no-mix, field-got, field-end, field-cases}
-use Rattle.bitstream.proofs.Laws.{Lawful, pure-lawful, pick-lawful, bind-lawful, field-lawful, whole-lawful, whole-got, whole-refused, whole-cases, bind-got}
+use Rattle.bitstream.proofs.Fields.{no-mix, field-got, field-cases}
+use Rattle.bitstream.proofs.Laws.{Lawful, pure-lawful, pick-lawful, bind-lawful, field-lawful, whole-lawful, whole-got, whole-cases, bind-got}
 use Rattle.bitstream.proofs.Inside.{Inside, pure-inside, field-inside, pick-inside, bind-inside, whole-inside, Refuses}
 use Rattle.bitstream.proofs.Spends.{Spends, spends-more, pure-spends, field-spends, bind-spends, pick-spends, whole-spends}
 use Rattle.huffman.specs.Tree.{Tree, leaf, fork, size, Tokens, Proper}
@@ -96,7 +96,7 @@ unfolding tokenCode
 token-code-lt t p i g h = whole-cases (code t) p i (λ a d s w. code-token t p i (g .tokens) (s ∙ (sym w ∙ h))) (λ j d _ w. no-mix (sym h ∙ w))
 
 -- ---- the walk: at the node n the tree s is left
-one-bit : (p : List ℕ) (i : ℕ) → i < bits p → field 1 p i ≡ got (bitAt p i) (i + 1)
+pub one-bit : (p : List ℕ) (i : ℕ) → i < bits p → field 1 p i ≡ got (bitAt p i) (i + 1)
 one-bit p i h = field-got 1 p i (omega arith) ∙ ap (λ (x : ℕ). got x (i + 1)) (number-one p i)
 
 pub branch-zero : (n v b : ℕ) → b ≡ 0 → n + 1 ≡ branch n v b
@@ -111,36 +111,27 @@ module _ (nodes : List ℕ) (p : List ℕ) where
   walk-leaf n i (leaf t) h l = ap (λ (x : ℕ). got x i) (sym (h .1))
   walk-leaf n i (fork a b) h l = absurd (omega (arith, h .1))
 
-  walk-end : (n i : ℕ) (s : Tree) → Nodes nodes n s → 128 ≤ getD nodes n 0 → bits p ≤ i → code s p i ≡ refused 4 i
-  unfolding code
-  walk-end n i (leaf t) h l e = absurd (omega (arith, h .1, h .2))
-  walk-end n i (fork a b) h l e = rw (field-end 1 p i (omega arith))
-
   abbrev Onward : ℕ → ℕ → Tree → ℕ → Type 0
-  Onward n i s m = (n < m) × (m < length nodes) × (t : Tree) × Nodes nodes m t × (code s p i ≡ code t p (i + 1)) × (longest t + 1 ≤ longest s)
+  Onward n i s m = (n < m) × (m < length nodes) × (t : Tree) × Nodes nodes m t × (code s p i ≡ code t p (i + 1))
 
   on : (n i v : ℕ) (a b : Tree) → Nodes nodes n (fork a b) → v ≡ getD nodes n 0 → i < bits p → (t : Bool) → eqb (bitAt p i) 0 ≡ t → Onward n i (fork a b) (choose t (n + 1) (v - 128))
   unfolding code
-  on n i v a b h w e true t = (omega arith, nodes-in nodes (n + 1) a (h .2), a, h .2, rw (one-bit p i e, t), omega arith)
+  on n i v a b h w e true t = (omega arith, nodes-in nodes (n + 1) a (h .2), a, h .2, rw (one-bit p i e, t))
   on n i v a b h w e false t =
       let k : v - 128 ≡ n + 1 + size a = omega (arith, h .1, w) in
-      rw k (omega arith, nodes-in nodes (n + 1 + size a) b (h .3), b, h .3, rw (one-bit p i e, t), omega arith)
+      rw k (omega arith, nodes-in nodes (n + 1 + size a) b (h .3), b, h .3, rw (one-bit p i e, t))
 
   walk-on : (n i v : ℕ) (s : Tree) → Nodes nodes n s → v ≡ getD nodes n 0 → 128 ≤ v → i < bits p → Onward n i s (branch n v (bitAt p i))
   walk-on n i v (leaf t) h w l e = absurd (omega (arith, h .1, h .2, w))
   walk-on n i v (fork a b) h w l e = on n i v a b h w e _ refl
 
--- ---- the loop's invariant: the code from the start is the code of the tree that is left, and the codes of that one end within 31 bits
+-- ---- the code from the start is the code of the tree that is left
 module _ (nodes : List ℕ) (p : List ℕ) (at : ℕ) where
   abbrev pub Left : ℕ → ℕ → Type 0
-  Left node place = (s : Tree) × Nodes nodes node s × (code (treeOf nodes) p at ≡ code s p place) × (place + longest s ≤ at + 31)
+  Left node place = (s : Tree) × Nodes nodes node s × (code (treeOf nodes) p at ≡ code s p place)
 
   pub left-start : Formed nodes → Left 0 at
-  left-start f = (f .tree, formed-nodes nodes f, ap (λ (t : Tree). code t p at) (formed-tree nodes f), omega (arith, proper-longest (f .proper)))
-
-  pub left-end : (n i : ℕ) → Left n i → 128 ≤ getD nodes n 0 → bits p ≤ i → tokenCode (treeOf nodes) p at ≡ refused 4 at
-  unfolding tokenCode
-  left-end n i g l e = whole-refused (code (treeOf nodes)) p at (g .2 ∙ walk-end nodes p n i (g .0) (g .1) l e)
+  left-start f = (f .tree, formed-nodes nodes f, ap (λ (t : Tree). code t p at) (formed-tree nodes f))
 
   pub left-leaf : (n i : ℕ) → Left n i → getD nodes n 0 < 128 → tokenCode (treeOf nodes) p at ≡ got (getD nodes n 0) i
   unfolding tokenCode
@@ -149,8 +140,4 @@ module _ (nodes : List ℕ) (p : List ℕ) (at : ℕ) where
   pub left-on : (n i v m : ℕ) → Left n i → v ≡ getD nodes n 0 → 128 ≤ v → i < bits p → m ≡ branch n v (bitAt p i) → (n < m) × (m < length nodes) × Left m (i + 1)
   left-on n i v m g w l e h =
       let o = walk-on nodes p n i v (g .0) (g .1) w l e in
-      rw h (o .0, o .1, (o .2, o .3, g .2 ∙ o .4, omega (arith, o .5, g .3)))
-
-  -- so the next bit of a code is among its first 31
-  pub left-room : (n i : ℕ) → Left n i → i ≤ at + 31
-  left-room n i g = omega (arith, g .3)
+      rw h (o .0, o .1, (o .2, o .3, g .2 ∙ o .4))

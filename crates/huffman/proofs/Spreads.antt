@@ -1,5 +1,5 @@
 -- The lookup of a tree by eight bits: how it is filled, and what an entry says of the code. Assumes nothing.
-use Prim.Native.Nat.{ℕ, zero, suc, _+_, _-_, _*_, _/_, _%_, _^_, _≤_, _<_}
+use Prim.Native.Nat.{ℕ, zero, suc, _+_, _-_, _*_, _%_, _^_, _≤_, _<_}
 use native.Mathlib.Omega.{arith}
 use native.Mathlib.Numerals.{add-one}
 use native.Mathlib.Nat.{pow-suc}
@@ -7,9 +7,8 @@ use mathlib.Core.Path.{_≡_, refl, sym, ap, ap₂, _∙_}
 use mathlib.Core.List.{List, [], _∷_, _++_, append-nil}
 use mathlib.Core.Bool.{Bool, true, false}
 use lib.Dec.{ltb, eqb}
-use lib.ListN.{length, getD, set, take, drop, replicate, length-append, length-replicate, length-drop, getD-replicate, List·getD-append}
+use lib.ListN.{length, getD, set, take, drop, replicate, length-append, length-replicate, getD-replicate, List·getD-append}
 use lib.Seq.{take-suc-set, take-all, take-at, drop-length, length-take-le, length-front, getD-append-add}
-use lib.Pow.{pow-pos}
 use borrow.Rule.Slice.PartMut.{putMid, post-is}
 use borrow.Author.Tests.{lt-ltb, le-ltb, ltb-true, ltb-false, eqb-true, eqb-false}
 use Rattle.bitstream.specs.Bits.{bits, bitAt, number}
@@ -18,7 +17,6 @@ use Rattle.bitstream.proofs.Numbers.{bit-lt, number-lt, number-add, number-one}
 use Rattle.huffman.specs.Code.{Formed, tokenCode, treeOf}
 use Rattle.huffman.specs.Answer.{branch}
 use Rattle.huffman.specs.Lookup.{spread, lookupOf}
-use Rattle.huffman.proofs.Nodes.{formed-length}
 use Rattle.huffman.proofs.Codes.{Left, left-start, left-leaf, left-on}
 
 -- ---- filling with one entry
@@ -96,7 +94,7 @@ module _ (nodes values p : List ℕ) (at : ℕ) (long : length nodes ≡ 64) whe
     pub token : ℕ
     pub taken : ℕ
     pub is : e ≡ getD values (token % 32) 0 + taken * 2 ^ 36
-    pub few : taken ≤ 8
+    pub few : taken ≤ 31
     pub code : tokenCode (treeOf nodes) p at ≡ got token (at + taken)
 
   one-more : (n i : ℕ) → number p i (suc n) ≡ bitAt p i * 2 ^ n + number p (i + 1) n

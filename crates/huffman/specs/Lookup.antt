@@ -1,10 +1,11 @@
--- Lookups: which token the first bits of a code tell, for each string of eight bits.
-use Prim.Native.Nat.{ℕ, zero, suc, _+_, _-_, _*_, _/_, _%_, _^_, _<_, _≤_}
+-- Entries: the token that the bits of a code tell, and how many they are; lookups, which have one for each string of eight bits.
+use Prim.Native.Nat.{ℕ, zero, suc, _+_, _-_, _*_, _/_, _%_, _^_, _<_}
 use mathlib.Core.Path.{_≡_}
 use mathlib.Core.List.{List, [], _∷_, _++_}
-use lib.Dec.{ltb}
+use lib.Dec.{ltb, eqb}
 use lib.ListN.{length, getD, replicate}
 use Rattle.bitstream.specs.Reading.{choose}
+use Rattle.huffman.specs.Tree.{Tree, leaf, fork}
 
 -- a value for each token
 pub record Values (values : List ℕ) : Type 0 where
@@ -21,3 +22,8 @@ spread nodes values (suc n) node =
 -- the lookup of a tree by eight bits
 abbrev pub lookupOf : List ℕ → List ℕ → List ℕ
 lookupOf nodes values = spread nodes values 8 0
+
+-- the entry of the code that stands in the window w from its bit k on, below a tree to which n of its bits lead: the value of its token and all its bits, times 2 ^ 36
+unfoldable pub entryIn : Tree → List ℕ → ℕ → ℕ → ℕ → ℕ
+entryIn (leaf t) values w k n = getD values t 0 + n * 2 ^ 36
+entryIn (fork l r) values w k n = choose (eqb (w / 2 ^ (63 - (k + n)) % 2) 0) (entryIn l values w k (n + 1)) (entryIn r values w k (n + 1))

@@ -1,15 +1,14 @@
-// Huffman trees: one is read from a setup packet into a table of 64 nodes, and tokens are read by the codes of such a table.
+// Huffman trees: one is read from a setup packet into a table of 64 nodes, and tokens are found by the codes of such a table.
 use bitstream::End;
-use bitstream::Field;
 ghost use mathlib.Core.Path.{_≡_};
 ghost use Prim.Native.Nat.{ℕ, _+_, _-_, _*_, _/_, _%_, _<_, _≤_, _^_};
 ghost use lib.ListN.{length, getD, take, replicate};
 ghost use Rattle.bitstream.specs.Bits.{bits, number, longest};
-ghost use Rattle.bitstream.specs.Answer.{asField, asEnd};
+ghost use Rattle.bitstream.specs.Answer.{asEnd};
 ghost use Rattle.huffman.specs.Tree.{tree, huffmanTree};
-ghost use Rattle.huffman.specs.Code.{tokenCode, treeOf, Formed};
+ghost use Rattle.huffman.specs.Code.{treeOf, Formed};
 ghost use Rattle.huffman.specs.Answer.{nodesAfter, Told, Stored, branch};
-ghost use Rattle.huffman.specs.Lookup.{Values, spread, lookupOf};
+ghost use Rattle.huffman.specs.Lookup.{Values, spread, lookupOf, entryIn};
 
 // The byte at an index, 0 past the end.
 fn byte_or_zero(packet: &[u8], i: usize) -> u8
@@ -130,28 +129,22 @@ fn next_node(node: usize, value: u8, b: u8) -> usize
     value as usize - 128
 }
 
-// The token whose code stands at the bit place `at`, by the table of nodes; a code that is cut is refused by 4 at its first bit.
-// One window holds the whole code, which has at most 31 bits.
-pub fn read_code(packet: &[u8], at: usize, nodes: &[u8]) -> Field
-    requires { ⌜ (length (now packet) ≤ longest) × Formed (now nodes) ⌝ }
-    ensures { λ r. ⌜ r ≡ asField (tokenCode (treeOf (now (nodes .entry))) (now (packet .entry)) at) ⌝ }
+// The entry of the code that stands in a window from its bit `from` on, by a walk over the nodes: the value of its token, and how many bits it has.
+// The window holds the whole code, which has at most 31 bits.
+pub fn walk(window: u64, from: usize, nodes: &[u8], values: &[u64]) -> u64
+    requires { ⌜ Formed (now nodes) × Values (now values) × (from < 8) ⌝ }
+    ensures { λ r. ⌜ r ≡ entryIn (treeOf (now (nodes .entry))) (now (values .entry)) window from 0 ⌝ }
 {
-    let total = packet.len() * 8;
-    let first = at / 8 * 8;
-    let window = bitstream::window(packet, at);
     let mut node = 0;
-    let mut place = at;
+    let mut taken = 0;
     let mut value = nodes[node];
     while 128 <= value {
-        if total <= place {
-            return Field::Refused(bitstream::PACKET_ENDS, at);
-        }
-        node = next_node(node, value, bit_of(window, place - first));
-        place += 1;
+        node = next_node(node, value, bit_of(window, from + taken));
+        taken += 1;
         value = nodes[node];
     }
-    let token = value as u32;
-    Field::Got(token, place)
+    let of_token = values[value as usize];
+    of_token + taken as u64 * 0x1000000000
 }
 
 // Fills a part of a lookup.

@@ -24,7 +24,7 @@ use Rattle.frame_header.specs.declared.Kind.the-variants.{Intra, Inter, Repeat}
 use Rattle.frame_header.specs.Header.{FrameHeader, frameHeader}
 use Rattle.coded_flags.specs.Flags.{intraFlags}
 use Rattle.coded_flags.specs.Coded.{order, codedBlocks, codedLuma, codedRecords}
-use Rattle.coded_flags.proofs.Listing.{order-at}
+use Rattle.coded_flags.proofs.Order.{order-at}
 use Rattle.coded_flags.proofs.CodedLaws.{record-of, coded-in-range}
 use Rattle.block_qi.specs.BlockQi.{blockQi}
 use Rattle.block_qi.proofs.Laws.{qi-but}

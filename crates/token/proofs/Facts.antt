@@ -2,7 +2,7 @@
 use Prim.Native.Nat.{ℕ, _+_, _*_, _/_, _%_, _^_, _≤_, _<_}
 use native.Mathlib.Omega.{arith}
 use native.Mathlib.Nat.{one-mul, mod-lt}
-use mathlib.Core.Path.{_≡_, sym, ap, _∙_}
+use mathlib.Core.Path.{_≡_, ap, _∙_}
 use mathlib.Core.List.{List}
 use lib.Pow.{pow-pos, pow-mono, shl-exact}
 use lib.Pow as P
@@ -10,7 +10,7 @@ use borrow.Author.Tests.{lt-ltb, le-ltb}
 use Rattle.bitstream.specs.Bits.{bits, number}
 use Rattle.bitstream.specs.Reading.{got, refused, field, whole}
 use Rattle.bitstream.proofs.Numbers.{number-lt, number-add}
-use Rattle.bitstream.proofs.Fields.{no-mix, field-got, field-end, field-cases, field-value}
+use Rattle.bitstream.proofs.Fields.{field-got, field-end, field-cases, field-value}
 use Rattle.bitstream.proofs.Laws.{whole-got, whole-refused}
 use Rattle.numeric.specs.Sign.{withSign}
 use Rattle.token.specs.Token.{Row, rowOf, meaning, extra}
@@ -41,20 +41,16 @@ module _ (t : ℕ) (p : List ℕ) (i : ℕ) where
       let d : i + row .signBits + row .sizeBits ≡ i + (row .signBits + row .sizeBits) = omega arith in
       whole-got (extra t) p i (rw (v .0, v .1, u .1))
 
-  past : bits p < i + (row .signBits + row .sizeBits + row .zeroBits) → whole (extra t) p i ≡ refused 4 i
+  -- cut by the packet's end
+  pub extra-cut : bits p < i + (row .signBits + row .sizeBits + row .zeroBits) → whole (extra t) p i ≡ refused 4 i
   unfolding extra
-  past l =
+  extra-cut l =
       field-cases (row .signBits) p i
       (λ a f.
       field-cases (row .sizeBits) p (i + row .signBits)
       (λ b g. whole-refused (extra t) p i {k = 4} {e = i + row .signBits + row .sizeBits} (rw (f, g, field-end (row .zeroBits) p (i + row .signBits + row .sizeBits) (omega arith))))
       (λ b g. whole-refused (extra t) p i {k = 4} {e = i + row .signBits} (rw (f, g))))
       (λ a f. whole-refused (extra t) p i {k = 4} {e = i} (rw f))
-
-  pub extra-end : {k e : ℕ} → field (row .signBits + row .sizeBits + row .zeroBits) p i ≡ refused k e → whole (extra t) p i ≡ refused k e
-  extra-end {k} {e} h =
-      field-cases (row .signBits + row .sizeBits + row .zeroBits) p i (λ l s. no-mix (sym s ∙ h))
-      (λ l s. let z = sym s ∙ h in let four : 4 ≡ k = cc in let place : i ≡ e = cc in past l ∙ (λ j. refused (four j) (place j)))
 
 -- ---- what a token means, by its number
 module _ (t s n z e : ℕ) where

@@ -6,12 +6,12 @@ use mathlib.Core.Path.{_≡_, refl, ap, _∙_}
 use mathlib.Core.List.{List, [], _∷_}
 use mathlib.Core.Bool.{Bool, true, false}
 use lib.Dec.{T, leb, ltb, leb→le}
-use lib.ListN.{length, getD, List·getD-map, List·getD-eq-default}
+use lib.ListN.{length, getD, List·getD-eq-default}
 use borrow.Author.Tests.{ltb-true, ltb-false}
 use Rattle.bitstream.proofs.Lists.{tabulated-length, tabulated-at}
 use Rattle.bitstream.proofs.Table.{both, both-left, both-right}
 use Rattle.token.specs.Token.{Row, counted, rows, rowOf}
-use Rattle.token.specs.Answer.{asExtra, packed, unpacked, packedRows, Small, extraBits, valueOf, tokenValues}
+use Rattle.token.specs.Answer.{asExtra, packed, unpacked, Small, extraBits, valueOf, tokenValues}
 
 -- the test passes at each row and at the row that stands for a number past the table
 abbrev pub every : (Row → Bool) → List Row → Bool
@@ -26,10 +26,6 @@ every-at f (x ∷ xs) h (suc t) = every-at f xs (both-right (f x) (every f xs) h
 digits : (a b c d e f n : ℕ) → b < 16 → c < 256 → d < 16 → e < 16 → f < 16 → n ≡ ((((a * 16 + b) * 256 + c) * 16 + d) * 16 + e) * 16 + f
     → (n / 16777216 ≡ a) × (n / 1048576 % 16 ≡ b) × (n / 4096 % 256 ≡ c) × (n / 256 % 16 ≡ d) × (n / 16 % 16 ≡ e) × (n % 16 ≡ f)
 digits a b c d e f n hb hc hd he hf h = (omega arith, omega arith, omega arith, omega arith, omega arith, omega arith)
-
-pub rows-length : length packedRows ≡ 32
-unfolding packedRows
-rows-length = refl
 
 module _ (t : ℕ) where
   pub sign-base-most : rowOf t .signBase ≤ 1
@@ -51,11 +47,6 @@ module _ (t : ℕ) where
 
   pub extra-small : Small (asExtra (rowOf t))
   extra-small = record { sign = sign-base-most; size = size-base-most; zeros = zero-base-most; bits = bits-most }
-
-  -- the code's table
-  pub row-packed : getD packedRows t 0 ≡ packed (rowOf t)
-  unfolding rowOf packedRows
-  row-packed = List·getD-map packed rows t (counted 0 0)
 
   -- the six numbers of a row, taken out of the one
   pub row-unpacked : (n : ℕ) → n ≡ packed (rowOf t)

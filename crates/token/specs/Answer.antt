@@ -1,9 +1,9 @@
 -- What the code answers, as outcomes of the reading algebra.
 use Prim.Native.Nat.{ℕ, _+_, _*_, _/_, _%_, _^_, _≤_}
-use mathlib.Core.List.{List, map}
+use mathlib.Core.List.{List}
 use Rattle.bitstream.specs.Lists.{tabulated}
 use Rattle.bitstream.specs.Reading.{Outcome, got, refused}
-use Rattle.token.specs.Token.{Meaning, endOfBlock, zeroRun, coefficient, Row, rows, rowOf}
+use Rattle.token.specs.Token.{Meaning, endOfBlock, zeroRun, coefficient, Row, rowOf}
 use Rattle.token.specs.declared.Token.{Token}
 use Rattle.token.specs.declared.Token.the-variants.{EndOfBlock, ZeroRun, Coefficient, Refused}
 use Rattle.token.specs.declared.Extra.{Extra}
@@ -22,9 +22,6 @@ asExtra r = record { 0 = r .signBase; 1 = r .signBits; 2 = r .sizeBase; 3 = r .s
 -- a row as one number, by hexadecimal digits: the size's base has two of them
 abbrev pub packed : Row → ℕ
 packed r = ((((r .signBase * 16 + r .signBits) * 256 + r .sizeBase) * 16 + r .sizeBits) * 16 + r .zeroBase) * 16 + r .zeroBits
-
-unfoldable pub packedRows : List ℕ
-packedRows = map packed rows
 
 -- the six numbers of a row, out of the one
 abbrev pub unpacked : ℕ → Extra

@@ -1,13 +1,10 @@
-// Reads the extra bits of a token.
-use bitstream::Field;
+// What a token means by its extra bits.
 ghost use mathlib.Core.Path.{_≡_};
 ghost use Prim.Native.Nat.{_+_, _<_, _≤_, _/_, _%_, _^_};
-ghost use lib.ListN.{length};
-ghost use Rattle.bitstream.specs.Bits.{longest};
-ghost use Rattle.bitstream.specs.Reading.{got, whole};
-ghost use Rattle.token.specs.Token.{extra, meaning, rowOf};
+ghost use Rattle.bitstream.specs.Reading.{got};
+ghost use Rattle.token.specs.Token.{meaning, rowOf};
 ghost use Rattle.numeric.specs.Sign.{withSign};
-ghost use Rattle.token.specs.Answer.{asToken, asExtra, packed, unpacked, packedRows, tokenValues, Small, signOf, sizeOf, zerosOf};
+ghost use Rattle.token.specs.Answer.{asToken, asExtra, packed, unpacked, tokenValues, Small, signOf, sizeOf, zerosOf};
 
 // What a token means, and the bit place behind it: an end-of-block run of so many blocks, a run of zeros, or zeros and then a value.
 // Or the number of the refusal and its place.
@@ -21,50 +18,8 @@ pub enum Token {
 // The base and the number of extra bits of a token's sign, of its size and of its zeros.
 pub struct Extra(pub u8, pub u8, pub u8, pub u8, pub u8, pub u8);
 
-// A row for each token, by hexadecimal digits: base and extra bits of the sign, of the size (two digits and one) and of the zeros.
-const ROWS: [u32; 32] = [
-    0x0001000,
-    0x0002000,
-    0x0003000,
-    0x0004200,
-    0x0008300,
-    0x0010400,
-    0x0000c00,
-    0x0001300,
-    0x0001600,
-    0x0001000,
-    0x1001000,
-    0x0002000,
-    0x1002000,
-    0x0103000,
-    0x0104000,
-    0x0105000,
-    0x0106000,
-    0x0107100,
-    0x0109200,
-    0x010d300,
-    0x0115400,
-    0x0125500,
-    0x0145900,
-    0x0101010,
-    0x0101020,
-    0x0101030,
-    0x0101040,
-    0x0101050,
-    0x0101062,
-    0x01010a3,
-    0x0102110,
-    0x0102121,
-];
-
-// The rows of all tokens. Whoever reads many tokens makes them once.
-pub fn all_rows() -> [u32; 32]
-    ensures { λ r. ⌜ r ≡ packedRows ⌝ }
-{
-    ROWS
-}
-
-// A value for each token: its row, its number times 2 ^ 28, and how many extra bits it has times 2 ^ 36.
+// A value for each token. Its row by the last seven hexadecimal digits: base and extra bits of the sign, of the size (two digits and one) and of the zeros;
+// its number times 2 ^ 28; and how many extra bits it has, times 2 ^ 36.
 const VALUES: [u64; 32] = [
     0x1000,
     0x10002000,
@@ -100,7 +55,7 @@ const VALUES: [u64; 32] = [
     0x31f0102121,
 ];
 
-// The values of all tokens, for a lookup whose entries add the bits of a code.
+// The values of all tokens, for entries, which add the bits of a code. Whoever reads many tokens makes them once.
 pub fn all_values() -> [u64; 32]
     ensures { λ r. ⌜ r ≡ tokenValues ⌝ }
 {
@@ -132,13 +87,6 @@ fn unpacked(row: u32) -> Extra
         zero_base,
         zero_bits,
     )
-}
-
-fn extra_of(rows: &[u32], t: usize) -> Extra
-    requires { ⌜ (now rows ≡ packedRows) × (t < 32) ⌝ }
-    ensures { λ r. ⌜ (r ≡ asExtra (rowOf t)) × Small r ⌝ }
-{
-    unpacked(rows[t])
 }
 
 // The low n bits of x.
@@ -184,18 +132,4 @@ pub fn meaning_by(t: usize, row: u32, x: u32, next: usize) -> Token
     ensures { λ r. ⌜ r ≡ asToken (got (meaning t (signOf (rowOf t) x) (sizeOf (rowOf t) x) (zerosOf (rowOf t) x)) next) ⌝ }
 {
     meaning_of(t, unpacked(row), x, next)
-}
-
-// The extra bits of the token t, read as one field, by the rows of all tokens.
-pub fn read_extra(packet: &[u8], at: usize, t: usize, rows: &[u32]) -> Token
-    requires { ⌜ (length (now packet) ≤ longest) × (t < 32) × (now rows ≡ packedRows) ⌝ }
-    ensures { λ r. ⌜ r ≡ asToken (whole (extra t) (now (packet .entry)) at) ⌝ }
-{
-    let row = extra_of(rows, t);
-    let width = row.1 + row.3 + row.5;
-    let field = bitstream::read(packet, at, width as usize);
-    match field {
-        Field::Refused(number, place) => Token::Refused(number, place),
-        Field::Got(x, next) => meaning_of(t, row, x, next),
-    }
 }

@@ -10,7 +10,9 @@ use Rattle.huffman.specs.Tree.{leaf, fork}
 use Rattle.huffman.specs.Code.{code, tokenCode}
 use Rattle.numeric.specs.Sign.{withSign}
 use Rattle.token.specs.Token.{rowOf, meaning, extra}
-use Rattle.tokens.specs.Tokens.{token, unfinished, runOf, act, readFor, visit, pass, group, table, choices, atPosition, positionsFrom, ranks, start, Tokens, readTokens}
+use Rattle.token_reader.specs.Reader.{token}
+use Rattle.token_visits.specs.Visits.{unfinished, runOf, act, readFor, visit, pass}
+use Rattle.tokens.specs.Tokens.{group, table, choices, atPosition, positionsFrom, ranks, start, Tokens, readTokens}
 
 abbrev given : List ℤ → List ℕ → ℕ → Tokens
 given cs ls n = record { coefs = cs; lasts = ls; tokens = n }

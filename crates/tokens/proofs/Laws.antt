@@ -1,52 +1,29 @@
 -- The laws of reading tokens, and what holds of all that they give. Assumes nothing.
 use Prim.Native.Nat.{ℕ, zero, suc, _+_, _-_, _*_, _≤_}
 use native.Mathlib.Omega.{arith}
-use native.Mathlib.Nat.{suc-mul, zero-mul, le-refl}
+use native.Mathlib.Nat.{suc-mul, zero-mul}
 use mathlib.Core.Path.{_≡_, _∙_}
-use mathlib.Core.List.{List, [], _∷_}
+use mathlib.Core.List.{List}
 use mathlib.Core.Bool.{true}
-use lib.Dec.{eqb, ltb, leb}
-use lib.ListN.{length, getD, length-replicate}
+use lib.Dec.{ltb}
+use lib.ListN.{length, length-replicate}
 use lib.IntN.{pos}
 use Rattle.bitstream.specs.Lists.{among}
 use Rattle.bitstream.specs.Reading.{got, pure}
-use Rattle.bitstream.proofs.Laws.{Lawful, lawful, pure-lawful, here-lawful, guard-lawful, pick-lawful, bind-lawful, whole-lawful, bind-got}
-use Rattle.bitstream.proofs.Inside.{Inside, inside, pure-inside, here-inside, guard-inside, pick-inside, bind-inside, whole-inside, Refuses, refuses, pure-refuses, here-refuses, guard-refuses, pick-refuses, bind-refuses, whole-refuses}
-use Rattle.bitstream.proofs.Spends.{Spends, spends-more, pure-spends, here-then, guard-spends, pick-spends, bind-spends, whole-spends, field-spends}
-use Rattle.huffman.specs.Tree.{Tree, Proper}
-use Rattle.huffman.proofs.Codes.{token-code-lawful, token-code-inside, token-code-refuses, token-code-spends}
-use Rattle.token.specs.Token.{Meaning, endOfBlock, zeroRun, coefficient}
-use Rattle.token.proofs.Laws.{extra-lawful, extra-inside, extra-refuses, extra-spends}
-use Rattle.tokens.specs.Tokens.{TokenState, token, act, readFor, visit, pass, group, table, Choices, choicesOf, choices, atPosition, positionsFrom, ranks, start, Tokens, tokensOf, readTokens}
+use Rattle.bitstream.proofs.Laws.{Lawful, lawful, pure-lawful, bind-lawful, bind-got}
+use Rattle.bitstream.proofs.Inside.{Inside, inside, pure-inside, bind-inside, Refuses, refuses, pure-refuses, bind-refuses}
+use Rattle.bitstream.proofs.Spends.{Spends, spends-more, pure-spends, pick-spends, bind-spends, field-spends}
+use Rattle.huffman.specs.Tree.{Tree}
+use Rattle.token_visits.specs.Visits.{TokenState}
+use Rattle.tokens.specs.Tokens.{group, table, Choices, choicesOf, choices, atPosition, positionsFrom, ranks, start, Tokens, tokensOf, readTokens}
 use Rattle.tokens.specs.Answer.{AllProper}
-use Rattle.tokens.proofs.Goes.{Visits, Bounded, positions-go, room-most}
-use Rattle.tokens.proofs.Positions.{ranks-length, ranks-below}
+use Rattle.token_visits.proofs.Laws.{pass-lawful, pass-inside, pass-refuses, pass-spends}
+use Rattle.token_visits.proofs.Goes.{Visits, Bounded, room-most}
+use Rattle.tokens.proofs.Positions.{positions-go, ranks-length, ranks-below}
 use Rattle.tokens.proofs.Tables.{proper-at}
 use Rattle.tokens.proofs.Fronts.{same-at}
 
 -- ---- local and firm
-token-lawful : (tree : Tree) → Lawful (token tree)
-unfolding token
-token-lawful tree = whole-lawful (bind-lawful (token-code-lawful tree) extra-lawful)
-
-act-lawful : (k b at : ℕ) (m : Meaning) (s : TokenState) → Lawful (act k b at m s)
-unfolding act
-act-lawful k b at (endOfBlock n) s = pure-lawful _
-act-lawful k b at (zeroRun n) s = bind-lawful (guard-lawful (leb (k + n) 64) 13 at) (λ _. pure-lawful _)
-act-lawful k b at (coefficient n v) s = bind-lawful (guard-lawful (leb (k + n + 1) 64) 13 at) (λ _. pure-lawful _)
-
-visit-lawful : (tree : Tree) (k b : ℕ) (s : TokenState) → Lawful (visit tree k b s)
-unfolding visit readFor
-visit-lawful tree k b s =
-    pick-lawful (eqb (getD (s .positions) b 0) k)
-    (pick-lawful (ltb 0 (s .run)) (pure-lawful _) (bind-lawful here-lawful (λ at. bind-lawful (token-lawful tree) (λ m. act-lawful k b at m s))))
-    (pure-lawful s)
-
-pass-lawful : (tree : Tree) (k : ℕ) (bs : List ℕ) (s : TokenState) → Lawful (pass tree k bs s)
-unfolding pass
-pass-lawful tree k [] s = pure-lawful s
-pass-lawful tree k (b ∷ bs) s = bind-lawful (visit-lawful tree k b s) (pass-lawful tree k bs)
-
 choices-lawful : (k : ℕ) (ch : Choices) → Lawful (choices k ch)
 unfolding choices
 choices-lawful k ch = search lawful depth 10
@@ -65,29 +42,7 @@ pub tokens-lawful : (trees : List Tree) (luma count : ℕ) → Lawful (readToken
 unfolding readTokens
 tokens-lawful trees luma count = bind-lawful (positions-lawful trees _ _ 64 0 _ _) (λ s. pure-lawful (tokensOf s))
 
--- ---- what is refused lies in the packet; `act` reports at the code's first bit, so it has the law from there on
-token-inside : {d : ℕ} (tree : Tree) → Inside d (token tree)
-unfolding token
-token-inside tree = whole-inside (bind-inside (token-code-inside tree) extra-inside)
-
-act-inside : (k b at : ℕ) (m : Meaning) (s : TokenState) → Inside at (act k b at m s)
-unfolding act
-act-inside k b at (endOfBlock n) s = pure-inside _
-act-inside k b at (zeroRun n) s = bind-inside (guard-inside (leb (k + n) 64) 13 at (le-refl at)) (λ _. pure-inside _)
-act-inside k b at (coefficient n v) s = bind-inside (guard-inside (leb (k + n + 1) 64) 13 at (le-refl at)) (λ _. pure-inside _)
-
-visit-inside : {d : ℕ} (tree : Tree) (k b : ℕ) (s : TokenState) → Inside d (visit tree k b s)
-unfolding visit readFor
-visit-inside tree k b s =
-    pick-inside (eqb (getD (s .positions) b 0) k)
-    (pick-inside (ltb 0 (s .run)) (pure-inside _) (here-inside (λ at _. bind-inside (token-inside tree) (λ m. act-inside k b at m s))))
-    (pure-inside s)
-
-pass-inside : {d : ℕ} (tree : Tree) (k : ℕ) (bs : List ℕ) (s : TokenState) → Inside d (pass tree k bs s)
-unfolding pass
-pass-inside tree k [] s = pure-inside s
-pass-inside tree k (b ∷ bs) s = bind-inside (visit-inside tree k b s) (pass-inside tree k bs)
-
+-- ---- what is refused lies in the packet
 choices-inside : {d : ℕ} (k : ℕ) (ch : Choices) → Inside d (choices k ch)
 unfolding choices
 choices-inside k ch = search inside depth 10
@@ -108,36 +63,14 @@ tokens-inside trees luma count = bind-inside (positions-inside trees _ _ 64 0 _ 
 
 -- ---- and is refused by 4 or 13
 module _ {ks : List ℕ} (four : among ks 4 ≡ true) where
-  token-refuses : (tree : Tree) → Refuses ks (token tree)
-  unfolding token
-  token-refuses tree = whole-refuses (bind-refuses (token-code-refuses four tree) (extra-refuses four))
-
   choices-refuses : (k : ℕ) (ch : Choices) → Refuses ks (choices k ch)
   unfolding choices
   choices-refuses k ch = search (refuses, four) depth 10
 
   module _ (thirteen : among ks 13 ≡ true) where
-    act-refuses : (k b at : ℕ) (m : Meaning) (s : TokenState) → Refuses ks (act k b at m s)
-    unfolding act
-    act-refuses k b at (endOfBlock n) s = pure-refuses _
-    act-refuses k b at (zeroRun n) s = bind-refuses (guard-refuses (leb (k + n) 64) 13 at thirteen) (λ _. pure-refuses _)
-    act-refuses k b at (coefficient n v) s = bind-refuses (guard-refuses (leb (k + n + 1) 64) 13 at thirteen) (λ _. pure-refuses _)
-
-    visit-refuses : (tree : Tree) (k b : ℕ) (s : TokenState) → Refuses ks (visit tree k b s)
-    unfolding visit readFor
-    visit-refuses tree k b s =
-        pick-refuses (eqb (getD (s .positions) b 0) k)
-        (pick-refuses (ltb 0 (s .run)) (pure-refuses _) (bind-refuses here-refuses (λ at. bind-refuses (token-refuses tree) (λ m. act-refuses k b at m s))))
-        (pure-refuses s)
-
-    pass-refuses : (tree : Tree) (k : ℕ) (bs : List ℕ) (s : TokenState) → Refuses ks (pass tree k bs s)
-    unfolding pass
-    pass-refuses tree k [] s = pure-refuses s
-    pass-refuses tree k (b ∷ bs) s = bind-refuses (visit-refuses tree k b s) (pass-refuses tree k bs)
-
     position-refuses : (trees : List Tree) (lumas chromas : List ℕ) (k : ℕ) (ch : Choices) (s : TokenState) → Refuses ks (atPosition trees lumas chromas k ch s)
     unfolding atPosition
-    position-refuses trees lumas chromas k ch s = bind-refuses (pass-refuses (table trees k (ch .luma)) k lumas s) (pass-refuses (table trees k (ch .chroma)) k chromas)
+    position-refuses trees lumas chromas k ch s = bind-refuses (pass-refuses four thirteen (table trees k (ch .luma)) k lumas s) (pass-refuses four thirteen (table trees k (ch .chroma)) k chromas)
 
     positions-refuses : (trees : List Tree) (lumas chromas : List ℕ) (n k : ℕ) (ch : Choices) (s : TokenState) → Refuses ks (positionsFrom trees lumas chromas n k ch s)
     unfolding positionsFrom
@@ -150,28 +83,6 @@ module _ {ks : List ℕ} (four : among ks 4 ≡ true) where
     tokens-refuses trees luma count = bind-refuses (positions-refuses trees _ _ 64 0 _ _) (λ s. pure-refuses (tokensOf s))
 
 -- ---- bits: a token takes at most 32 + 12, and there are at most 64 for each block
-token-spends : {tree : Tree} → Proper tree → Spends 44 (token tree)
-unfolding token
-token-spends f = whole-spends (bind-spends (token-code-spends f) extra-spends)
-
-act-spends : (k b at : ℕ) (m : Meaning) (s : TokenState) → Spends 0 (act k b at m s)
-unfolding act
-act-spends k b at (endOfBlock n) s = pure-spends _
-act-spends k b at (zeroRun n) s = bind-spends {a = 0} {b = 0} (guard-spends (leb (k + n) 64) 13 at (λ e. omega (arith, e))) (λ _. pure-spends _)
-act-spends k b at (coefficient n v) s = bind-spends {a = 0} {b = 0} (guard-spends (leb (k + n + 1) 64) 13 at (λ e. omega (arith, e))) (λ _. pure-spends _)
-
-visit-spends : {tree : Tree} → Proper tree → (k b : ℕ) (s : TokenState) → Spends 44 (visit tree k b s)
-unfolding visit readFor
-visit-spends f k b s =
-    pick-spends (eqb (getD (s .positions) b 0) k)
-    (λ _. pick-spends (ltb 0 (s .run)) (λ _. spends-more (omega arith) (pure-spends _)) (λ _. here-then (λ at. spends-more (omega arith) (bind-spends (token-spends f) (λ m. act-spends k b at m s)))))
-    (λ _. spends-more (omega arith) (pure-spends s))
-
-pass-spends : {tree : Tree} → Proper tree → (k : ℕ) (bs : List ℕ) (s : TokenState) → Spends (44 * length bs) (pass tree k bs s)
-unfolding pass
-pass-spends f k [] s = spends-more (omega arith) (pure-spends s)
-pass-spends f k (b ∷ bs) s = spends-more (omega arith) (bind-spends (visit-spends f k b s) (λ s. pass-spends f k bs s))
-
 choices-spends : (k : ℕ) (ch : Choices) → Spends 8 (choices k ch)
 unfolding choices
 choices-spends k ch =

@@ -1,8 +1,4 @@
 -- What other crates cite: Laws, Tables, Fronts. The others have what the functions' proofs need, Examples worked examples. Assumes nothing.
-pub mod Ways
-pub mod Goes
-pub mod Due
-pub mod Entries
 pub mod Unfinished
 pub mod Tables
 pub mod Positions

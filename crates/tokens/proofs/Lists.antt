@@ -6,11 +6,13 @@ use mathlib.Core.List.{List}
 use lib.ListN.{length, take, drop, length-drop}
 use lib.Seq.{take-all}
 use Rattle.huffman.specs.Tree.{Tree}
-use Rattle.tokens.specs.Tokens.{TokenState, Choices, atPosition, ranks}
-use Rattle.tokens.specs.Answer.{unfinishedOf, Below, AllOpen, KeptActive}
-use Rattle.tokens.proofs.Goes.{Later}
+use Rattle.token_visits.specs.Visits.{TokenState}
+use Rattle.tokens.specs.Tokens.{Choices, atPosition, ranks}
+use Rattle.token_visits.specs.Answer.{Below}
+use Rattle.tokens.specs.Answer.{unfinishedOf, AllOpen, KeptActive}
+use Rattle.token_visits.proofs.Goes.{Later, below-each}
 use Rattle.tokens.proofs.Unfinished.{unfinished-all, unfinished-twice, below-unfinished, position-unfinished}
-use Rattle.tokens.proofs.Positions.{ranks-length, ranks-below, ranks-front, ranks-back, below-each}
+use Rattle.tokens.proofs.Positions.{ranks-length, ranks-below, ranks-front, ranks-back}
 
 -- of `count` blocks at the positions ps, luma's unfinished ones are the first `lumas` of the slice, and chroma's those from luma to `end`
 pub record Lists (count : ℕ) (ps bs : List ℕ) (luma lumas end : ℕ) : Type 0 where

@@ -7,18 +7,19 @@ use mathlib.Core.Path.{_≡_, refl, sym, ap, _∙_}
 use mathlib.Core.List.{List, [], _∷_, _++_}
 use mathlib.Core.Bool.{Bool, true, false}
 use lib.Dec.{ltb}
-use lib.ListN.{length, getD, set, take, drop}
+use lib.ListN.{length, set, take, drop}
 use lib.Seq.{take-suc-set, take-all, take-at, drop-at}
 use borrow.Author.Tests.{lt-ltb, le-ltb}
 use Rattle.bitstream.specs.Reading.{Outcome, got, refused, after, bind, pure, pick, field, twoFields}
 use Rattle.bitstream.proofs.Fields.{field-lt}
 use Rattle.bitstream.proofs.Laws.{bind-got}
 use Rattle.huffman.specs.Tree.{Tree}
-use Rattle.tokens.specs.Tokens.{TokenState, pass, group, Choices, choicesOf, choices, table, atPosition, positionsFrom, ranks}
-use Rattle.tokens.specs.Answer.{asChosen, Below, treesOf, treeAt}
+use Rattle.token_visits.specs.Visits.{TokenState, pass}
+use Rattle.tokens.specs.Tokens.{group, Choices, choicesOf, choices, table, atPosition, positionsFrom, ranks}
+use Rattle.tokens.specs.Answer.{asChosen, treesOf, treeAt}
 use Rattle.tokens.specs.declared.Chosen.{Chosen}
 use Rattle.tokens.specs.declared.Chosen.the-variants as chosen
-use Rattle.tokens.proofs.Goes.{AllBelow}
+use Rattle.token_visits.proofs.Goes.{Goes, goes-same, goes-on, AllBelow, pass-goes}
 
 -- ---- groups
 module _ (k : ℕ) where
@@ -136,6 +137,25 @@ module _ (trees : List Tree) (lumas chromas : List ℕ) (k : ℕ) (ch : Choices)
       let z : 64 - k ≡ suc (64 - (k + 1)) = omega arith in
       ap (λ (n : ℕ). positionsFrom trees lumas chromas n k ch s p i) z ∙ positions-suc (64 - (k + 1)) h f
 
+-- ---- what they do to the state
+pub position-goes : (trees : List Tree) (lumas chromas : List ℕ) (k : ℕ) (ch : Choices) (s : TokenState) (p : List ℕ) (i : ℕ) → k < 64 → AllBelow (length (s .positions)) lumas
+    → AllBelow (length (s .positions)) chromas → {s′ : TokenState} {e : ℕ} → atPosition trees lumas chromas k ch s p i ≡ got s′ e → Goes s s′
+unfolding atPosition
+position-goes trees lumas chromas k ch s p i l v w h =
+    let u = bind-got (pass (table trees k (ch .luma)) k lumas s) (λ s₁. pass (table trees k (ch .chroma)) k chromas s₁) p i h in
+    let f = pass-goes (table trees k (ch .luma)) k p l lumas s i v (u .2) in
+    goes-on f (pass-goes (table trees k (ch .chroma)) k p l chromas (u .0) (u .1) (rw (f .blocks) w) (u .3))
+
+pub positions-go : (trees : List Tree) (lumas chromas : List ℕ) (p : List ℕ) (n k : ℕ) (ch : Choices) (s : TokenState) (i : ℕ) → k + n ≤ 64 → AllBelow (length (s .positions)) lumas
+    → AllBelow (length (s .positions)) chromas → {s′ : TokenState} {e : ℕ} → positionsFrom trees lumas chromas n k ch s p i ≡ got s′ e → Goes s s′
+unfolding positionsFrom
+positions-go trees lumas chromas p zero k ch s i l v w {s′} {e} h = let z : s ≡ s′ = cc in rw (← z) (goes-same s)
+positions-go trees lumas chromas p (suc n) k ch s i l v w h =
+    let u = bind-got (choices k ch) (λ ch. bind (atPosition trees lumas chromas k ch s) (positionsFrom trees lumas chromas n (k + 1) ch)) p i h in
+    let x = bind-got (atPosition trees lumas chromas k (u .0) s) (positionsFrom trees lumas chromas n (k + 1) (u .0)) p (u .1) (u .3) in
+    let f = position-goes trees lumas chromas k (u .0) s p (u .1) (omega (arith, l)) v w (x .2) in
+    goes-on f (positions-go trees lumas chromas p n (k + 1) (u .0) (x .0) (x .1) (omega (arith, l)) (rw (f .blocks) v) (rw (f .blocks) w) (x .3))
+
 -- ---- ranks
 pub ranks-length : (b n : ℕ) → length (ranks b n) ≡ n
 unfolding ranks
@@ -184,22 +204,6 @@ ranks-back luma count h =
     let y : 0 + luma ≡ luma = omega arith in
     ap (λ (n : ℕ). drop luma (ranks 0 n)) (sym z)
     ∙ (ap (drop luma) (ranks-add 0 luma (count - luma)) ∙ (drop-at (ranks 0 luma) (ranks (0 + luma) (count - luma)) luma (ranks-length 0 luma) ∙ ap (λ (x : ℕ). ranks x (count - luma)) y))
-
--- ---- the two ways to say that every block of a list is one of n
-pub below-each : (n : ℕ) (bs : List ℕ) → AllBelow n bs → Below n bs
-below-each n bs h = record { each = λ j l. go bs h j l }
-  where
-    go : (bs : List ℕ) → AllBelow n bs → (j : ℕ) → j < length bs → getD bs j 0 < n
-    go [] h j l = absurd (omega (arith, l))
-    go (b ∷ bs) h zero l = h .0
-    go (b ∷ bs) h (suc j) l = go bs (h .1) j (omega (arith, l))
-
-pub all-below : (n : ℕ) (bs : List ℕ) → Below n bs → AllBelow n bs
-all-below n bs h = go bs (h .each)
-  where
-    go : (bs : List ℕ) → ((j : ℕ) → j < length bs → getD bs j 0 < n) → AllBelow n bs
-    go [] f = tt
-    go (b ∷ bs) f = (f 0 (omega arith), go bs (λ j l. f (suc j) (omega (arith, l))))
 
 -- the table that the code takes
 pub table-is : (nodes : List ℕ) (k choice g : ℕ) → g ≡ group k → table (treesOf nodes) k choice ≡ treeAt nodes (16 * g + choice)

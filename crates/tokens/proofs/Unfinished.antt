@@ -13,10 +13,11 @@ use borrow.Rule.Slice.PartMut.{putMid, postOf, mid-len}
 use borrow.Author.Tests.{lt-ltb, le-ltb, ltb-true, ltb-false}
 use Rattle.bitstream.specs.Reading.{Outcome, got, refused, after}
 use Rattle.huffman.specs.Tree.{Tree}
-use Rattle.tokens.specs.Tokens.{TokenState, unfinished, visit, pass, Choices, table, atPosition}
+use Rattle.token_visits.specs.Visits.{TokenState, unfinished, visit, pass}
+use Rattle.tokens.specs.Tokens.{Choices, table, atPosition}
 use Rattle.tokens.specs.Answer.{unfinishedOf, KeptOne, KeptActive}
-use Rattle.tokens.proofs.Ways.{visit-other, one-unfinished, one-finished}
-use Rattle.tokens.proofs.Goes.{Later, AllBelow, visit-goes, pass-goes}
+use Rattle.token_visits.proofs.Ways.{visit-other, one-unfinished, one-finished}
+use Rattle.token_visits.proofs.Goes.{Later, AllBelow, visit-goes, pass-goes}
 
 -- ---- one block
 module _ (ps : List ℕ) (b : ℕ) where

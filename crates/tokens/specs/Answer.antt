@@ -1,69 +1,21 @@
 -- What the code answers and leaves, as outcomes of the reading algebra.
-use Prim.Native.Nat.{ℕ, zero, suc, _+_, _-_, _*_, _/_, _%_, _<_, _≤_, _^_}
+use Prim.Native.Nat.{ℕ, zero, suc, _+_, _-_, _*_, _^_, _<_, _≤_}
 use mathlib.Core.Path.{_≡_}
 use mathlib.Core.List.{List, [], _∷_, _++_}
 use mathlib.Core.Bool.{Bool, true, false, not}
 use lib.Dec.{eqb, ltb}
 use lib.ListN.{length, getD, take, drop, replicate}
 use lib.IntN.{ℤ, pos}
-use Rattle.bitstream.specs.Reading.{Outcome, got, refused, after, choose}
+use Rattle.bitstream.specs.Reading.{Outcome, got, refused, choose}
 use Rattle.bitstream.specs.Answer.{IfGot}
 use Rattle.huffman.specs.Tree.{Tree, Proper, leaf, nodesOf}
 use Rattle.huffman.specs.Code.{treeOf}
-use Rattle.huffman.specs.Lookup.{lookupOf}
-use Rattle.token.specs.Token.{Meaning, endOfBlock, zeroRun, coefficient, rowOf, meaning}
-use Rattle.token.specs.Answer.{tokenValues, extraBits, signOf, sizeOf, zerosOf}
-use Rattle.token.specs.declared.Token.{Token}
-use Rattle.token.specs.declared.Token.the-variants as t
-use Rattle.bitstream.specs.Bits.{number}
-use Rattle.tokens.specs.Tokens.{TokenState, Choices, Tokens, group, act}
-use Rattle.tokens.specs.declared.Visit.{Visit}
-use Rattle.tokens.specs.declared.Visit.the-variants as visit
+use Rattle.token_reader.specs.Answer.{Lookup}
+use Rattle.tokens.specs.Tokens.{Choices, Tokens, group}
 use Rattle.tokens.specs.declared.Chosen.{Chosen}
 use Rattle.tokens.specs.declared.Chosen.the-variants as chosen
 use Rattle.tokens.specs.declared.Counted.{Counted}
 use Rattle.tokens.specs.declared.Counted.the-variants as counted
-
-abbrev pub asVisit : Outcome TokenState → Visit
-asVisit (got s e) = visit.Done e (s .run) (s .tokens)
-asVisit (refused k e) = visit.Refused k e
-
--- what stands in the slices after an outcome; after a refusal that is open
-abbrev pub Kept : List ℕ → List ℕ → List ℤ → Outcome TokenState → Type 0
-Kept ps ls cs o = IfGot (λ s. (ps ≡ s .positions) × (ls ≡ s .lasts) × (cs ≡ s .coefs)) o
-
--- the answer and the slices together
-abbrev pub Visited : Visit → List ℕ → List ℕ → List ℤ → Outcome TokenState → Type 0
-Visited r ps ls cs o = (r ≡ asVisit o) × Kept ps ls cs o
-
--- ---- a token by an entry of a lookup
--- the lookup of a tree: the values of tokens, each with the bits of its code
-pub record Lookup (nodes lookup : List ℕ) : Type 0 where
-  pub size : length lookup ≡ 256
-  pub is : lookup ≡ lookupOf nodes tokenValues
-
--- an entry is that of the eight bits at a place, behind which the packet goes on, or 0
-pub record Entry (p : List ℕ) (at : ℕ) (lookup : List ℕ) (e : ℕ) : Type 0 where
-  pub is : (e ≡ 0 → ⊥) → e ≡ getD lookup (number p at 8) 0
-  pub within : (e ≡ 0 → ⊥) → at / 8 + 8 ≤ length p
-
--- the token that an entry names, and what it means by the extra bits in the window; an entry's upper part is how many bits it has with its code
-abbrev pub byRow : ℕ → ℕ → ℕ → Outcome Meaning
-byRow t x next = got (meaning t (signOf (rowOf t) x) (sizeOf (rowOf t) x) (zerosOf (rowOf t) x)) next
-
-abbrev pub tokenBy : ℕ → ℕ → ℕ → Outcome Meaning
-tokenBy entry window at = byRow (entry / 2 ^ 28 % 32) (window / 2 / 2 ^ (63 - at % 8 - entry / 2 ^ 36) % 2 ^ extraBits (entry / 2 ^ 28 % 32)) (at + entry / 2 ^ 36)
-
--- what a reader's answer says
-abbrev pub outcomeOf : Token → Outcome Meaning
-outcomeOf (t.EndOfBlock n e) = got (endOfBlock n) e
-outcomeOf (t.ZeroRun n e) = got (zeroRun n) e
-outcomeOf (t.Coefficient n v e) = got (coefficient n v) e
-outcomeOf (t.Refused k e) = refused k e
-
--- what a token that was read does; `act` looks at no packet
-abbrev pub acted : ℕ → ℕ → ℕ → TokenState → Outcome Meaning → Outcome TokenState
-acted k b at s o = after o (λ m e. act k b at m s [] e)
 
 abbrev pub asChosen : Outcome Choices → Chosen
 asChosen (got ch e) = chosen.Tables (ch .luma) (ch .chroma) e
@@ -73,33 +25,14 @@ abbrev pub asCounted : Outcome Tokens → Counted
 asCounted (got t e) = counted.Done e (t .tokens)
 asCounted (refused k e) = counted.Refused k e
 
--- one element, or 64, for each of at most 2^36 blocks
-pub record Shape (ps ls : List ℕ) (cs : List ℤ) : Type 0 where
-  pub lasts : length ls ≡ length ps
-  pub coefs : length cs ≡ 64 * length ps
-  pub few : length ps ≤ 2 ^ 36
-
 -- no block is finished
 pub record AllOpen (ps : List ℕ) : Type 0 where
   pub each : (b : ℕ) → getD ps b 0 < 64
-
--- how far the blocks are from their ends, together
-unfoldable pub room : List ℕ → ℕ
-room [] = 0
-room (p ∷ ps) = (64 - p) + room ps
 
 -- those of the blocks bs that are unfinished
 unfoldable pub unfinishedOf : List ℕ → List ℕ → List ℕ
 unfinishedOf ps [] = []
 unfinishedOf ps (b ∷ bs) = choose (ltb (getD ps b 0) 64) (b ∷ unfinishedOf ps bs) (unfinishedOf ps bs)
-
--- 1 where a block that stands at p stands at the position k; those of the blocks bs that do
-abbrev pub oneIfDue : ℕ → ℕ → ℕ
-oneIfDue k p = choose (eqb p k) 1 0
-
-unfoldable pub dueOf : ℕ → List ℕ → List ℕ → List ℕ
-dueOf k ps [] = []
-dueOf k ps (b ∷ bs) = choose (eqb (getD ps b 0) k) (b ∷ dueOf k ps bs) (dueOf k ps bs)
 
 -- a step of moving the unfinished blocks to the front: what is kept and what is still to be seen
 pub record KeptOne (ps bs : List ℕ) (j kept : ℕ) (bs′ : List ℕ) (kept′ : ℕ) : Type 0 where
@@ -114,10 +47,6 @@ pub record KeptActive (ps bs : List ℕ) (luma lumas end : ℕ) (bs′ : List �
   pub to : end′ ≤ end
   pub luma-blocks : take lumas′ bs′ ≡ unfinishedOf ps (take lumas bs)
   pub chroma-blocks : take (end′ - luma) (drop luma bs′) ≡ unfinishedOf ps (take (end - luma) (drop luma bs))
-
--- every block of the list is one of n
-pub record Below (n : ℕ) (bs : List ℕ) : Type 0 where
-  pub each : (j : ℕ) → j < length bs → getD bs j 0 < n
 
 -- the slices have room for `count` blocks, and what belongs to those is zero
 pub record Cleared (count : ℕ) (ps ls : List ℕ) (cs : List ℤ) (bs : List ℕ) : Type 0 where

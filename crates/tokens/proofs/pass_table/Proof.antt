@@ -6,9 +6,9 @@ use mathlib.Core.Path.{refl, sym, ap, _∙_}
 use lib.ListN.{take, drop}
 use Rattle.huffman.specs.Tree.{Tree}
 use Rattle.huffman.specs.Code.{treeOf}
-use Rattle.tokens.specs.Tokens.{stateOf, pass}
+use Rattle.token_visits.specs.Visits.{stateOf, pass}
 use Rattle.tokens.proofs.Tables.{formed-at, tree-at, nodes-long, wide}
-use Rattle.tokens.proofs.Ways.{on-same}
+use Rattle.token_visits.proofs.Ways.{on-same}
 use Rattle.tokens.proofs.pass_table.Statement.{statement}
 use Rattle.tokens.proofs.pass_table.Tie as tie
 

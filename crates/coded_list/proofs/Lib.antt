@@ -1,0 +1,3 @@
+-- Listing and Whole have what the functions' proofs need. Assumes nothing.
+pub mod Listing
+pub mod Whole

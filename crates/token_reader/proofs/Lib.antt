@@ -1,0 +1,4 @@
+-- What other crates cite: Laws (of one token), Ways (how reading one can go). Entries has what the functions' proofs need. Assumes nothing.
+pub mod Ways
+pub mod Laws
+pub mod Entries

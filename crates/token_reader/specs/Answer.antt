@@ -1,0 +1,30 @@
+-- A token by the entry of its code.
+use Prim.Native.Nat.{ℕ, _+_, _-_, _/_, _%_, _^_}
+use mathlib.Core.Path.{_≡_}
+use mathlib.Core.List.{List}
+use lib.Dec.{eqb}
+use lib.ListN.{length, getD}
+use Rattle.bitstream.specs.Reading.{Outcome, got, choose}
+use Rattle.huffman.specs.Code.{treeOf}
+use Rattle.huffman.specs.Lookup.{lookupOf, entryIn}
+use Rattle.token.specs.Token.{Meaning, rowOf, meaning}
+use Rattle.token.specs.Answer.{tokenValues, extraBits, signOf, sizeOf, zerosOf}
+
+-- the lookup of a tree: the values of tokens, each with the bits of its code
+pub record Lookup (nodes lookup : List ℕ) : Type 0 where
+  pub size : length lookup ≡ 256
+  pub is : lookup ≡ lookupOf nodes tokenValues
+
+-- the entry of the code that stands in the window w from its bit k on: what the lookup has for eight bits, and where that is 0 the tree's
+abbrev pub lookedUp : List ℕ → ℕ → ℕ → ℕ
+lookedUp lookup w k = getD lookup (w / 2 ^ (56 - k) % 256) 0
+
+abbrev pub entryAt : List ℕ → List ℕ → ℕ → ℕ → ℕ
+entryAt nodes lookup w k = choose (eqb (lookedUp lookup w k) 0) (entryIn (treeOf nodes) tokenValues w k 0) (lookedUp lookup w k)
+
+-- the token that an entry names, and what it means by the extra bits in the window; an entry's upper part is how many bits it has with its code
+abbrev pub byRow : ℕ → ℕ → ℕ → Outcome Meaning
+byRow t x next = got (meaning t (signOf (rowOf t) x) (sizeOf (rowOf t) x) (zerosOf (rowOf t) x)) next
+
+abbrev pub tokenBy : ℕ → ℕ → ℕ → Outcome Meaning
+tokenBy entry window at = byRow (entry / 2 ^ 28 % 32) (window / 2 / 2 ^ (63 - at % 8 - entry / 2 ^ 36) % 2 ^ extraBits (entry / 2 ^ 28 % 32)) (at + entry / 2 ^ 36)
