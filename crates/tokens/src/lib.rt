@@ -136,6 +136,9 @@ fn pass_table(
     requires { ⌜ Shape (now positions) (now lasts) (now coefs) × (k < 64) × Below (length (now positions)) (now blocks) × (tokens + room (now positions) < 2 ^ 60) ⌝ }
     ensures { λ r. ⌜ Visited r (now (positions .exit)) (now (lasts .exit)) (now (coefs .exit)) (pass (treeAt (now (nodes .entry)) j) k (now (blocks .entry)) (stateOf (now (positions .entry)) (now (lasts .entry)) (now (coefs .entry)) run tokens) (now (packet .entry)) at) ⌝ }
 {
+    if blocks.len() == 0 {
+        return Visit::Done(at, run, tokens);
+    }
     let from = 64 * j;
     let to = from + 64;
     let mut due = [0u64; 64];
