@@ -117,7 +117,8 @@ fn read_choices(packet: &[u8], at: usize, k: usize, luma: usize, chroma: usize) 
     }
 }
 
-// The blocks of a list in turn, at the position k, by the table j.
+// The blocks of a list in turn, at the position k, by the table j. For no block nothing is made ready, which is so of most positions where little moves:
+// 2 % of the instructions of the recording five-or-more, 4 % for 1 by 1 macro blocks.
 fn pass_table(
     packet: &[u8],
     at: usize,
