@@ -33,7 +33,7 @@ use Rattle.buffer_names.specs.Names.{free, Sound}
 use Rattle.buffer_names.proofs.Free.{free-is}
 use Rattle.shot_packets.specs.Play.{Shot, shot, bufferOf, stateOf, callOf, after, oneMore, played}
 use Rattle.shot_packets.proofs.Rules.{index, apart}
-use Rattle.changed_tiles.specs.Call.{mapLengthOf, mapFits, mapAfter, frameFor, tilesCall}
+use Rattle.changed_tiles.specs.Call.{mapLengthOf, mapFits, mapAfter, refusedBy, frameFor, tilesCall}
 use Rattle.changed_tiles.proofs.Calls.{map-here}
 use Rattle.shot_maps.specs.Maps.{mapOf, mapsAfter, withPart}
 use Rattle.shot_maps.proofs.Parts.{part-ends}
@@ -194,3 +194,16 @@ module _ (st : Settings) (table lengths packets : List ℕ) (start : Shot) (maps
                 ∙ ap (λ (qs : List (List ℕ)). front ++ mapsAfter st table begun qs (drop (k * i) maps)) (sym (packets-left lengths packets i at l))
                 ∙ g .rest;
           }
+
+-- ---- the map does not look at what work memory held
+pub map-same : (st : Settings) (s : State) (c c′ : Call) → byRules firstWay s c ≡ byRules firstWay s c′ → (map : List ℕ) → tilesCall st s c map .map ≡ tilesCall st s c′ map .map
+unfolding tilesCall frameFor
+map-same st s c c′ e map = go (settingsFit st) (mapFits st (s .session) map)
+  where
+    go : (a b : Bool)
+        → let d = choose a (choose b (byRules firstWay s c) (refusedBy 1 s c)) (refusedBy 20 s c) in
+        let d′ = choose a (choose b (byRules firstWay s c′) (refusedBy 1 s c′)) (refusedBy 20 s c′) in
+        mapAfter st (s .session) (d .answer .verdict) (s .previous) (d .new) map ≡ mapAfter st (s .session) (d′ .answer .verdict) (s .previous) (d′ .new) map
+    go true true = ap (λ (d : Done). mapAfter st (s .session) (d .answer .verdict) (s .previous) (d .new) map) e
+    go true false = refl
+    go false b = refl
