@@ -23,11 +23,11 @@ more a b want file n e d = record { before = λ i. e i ∷ d .before i; here = g
 
 pub first-difference : (want file : List ℕ) → (want ≡ file → ⊥) → FirstDifference (difference want file) want file
 unfolding difference
-first-difference [] [] no = absurd (no refl)
-first-difference [] (b ∷ file) no = record { before = refl; here = inr (inl (refl, omega arith)) }
-first-difference (a ∷ want) [] no = record { before = refl; here = inr (inr (refl, omega arith)) }
-first-difference (a ∷ want) (b ∷ file) no = go (eqb a b) refl (first-difference want file)
+first-difference [] [] other = absurd (other refl)
+first-difference [] (b ∷ file) other = record { before = refl; here = inr (inl (refl, omega arith)) }
+first-difference (a ∷ want) [] other = record { before = refl; here = inr (inr (refl, omega arith)) }
+first-difference (a ∷ want) (b ∷ file) other = go (eqb a b) refl (first-difference want file)
   where
     go : (t : Bool) → eqb a b ≡ t → ((want ≡ file → ⊥) → FirstDifference (difference want file) want file) → FirstDifference (choose t (suc (difference want file)) 0) (a ∷ want) (b ∷ file)
-    go true e f = let x = eqb-true a b e in more a b want file (difference want file) x (f (λ q. no (λ i. x i ∷ q i)))
+    go true e f = let x = eqb-true a b e in more a b want file (difference want file) x (f (λ q. other (λ i. x i ∷ q i)))
     go false e f = record { before = refl; here = inl (omega arith, omega arith, eqb-false a b e) }
