@@ -1,0 +1,22 @@
+-- A report that is being added to: its numbers, or that a sum has passed 64 bits.
+use Prim.Native.Nat.{ℕ}
+use mathlib.Core.Path.{_≡_}
+use mathlib.Core.Bool.{Bool, true, false}
+use mathlib.Core.List.{List}
+use lib.ListN.{length}
+use Rattle.bitstream.specs.Reading.{choose}
+use Rattle.report.specs.declared.Running.{Running}
+use Rattle.report.specs.Report.{reportSize, pastCount, fits}
+
+-- the numbers of the report are l, over whole numbers: they are at hand, or one of them has passed 64 bits
+pub record Runs (r : Running) (l : List ℕ) : Type 0 where
+  pub long : length l ≡ reportSize
+  pub kept : r .passed ≡ false → (r .numbers ≡ l) × (fits l ≡ true)
+  pub past : r .passed ≡ true → fits l ≡ false
+
+-- what a call answers, and the report afterwards: 0 and the sums; or 15, "and leaves the report as it was"
+abbrev pub sumNumber : List ℕ → ℕ
+sumNumber l = choose (fits l) 0 pastCount
+
+abbrev pub reportAfter : (l report : List ℕ) → List ℕ
+reportAfter l report = choose (fits l) l report
