@@ -4,7 +4,7 @@ ghost use Prim.Native.Nat.{ℕ, _<_};
 ghost use mathlib.Core.List.{List};
 ghost use lib.ListN.{length};
 ghost use Rattle.report.specs.Report.{reportSize, plus, only};
-ghost use Rattle.report.specs.Running.{Runs, sumNumber, reportAfter};
+ghost use Rattle.report.specs.Running.{sumOf, Runs, sumNumber, reportAfter};
 
 // A sum of the report passes 64 bits.
 pub const PAST_COUNT: u32 = 15;
@@ -28,6 +28,24 @@ pub fn begin(report: &[u64]) -> Running
     }
 }
 
+// A sum, and whether it passes 64 bits.
+struct Sum {
+    is: u64,
+    past: bool,
+}
+
+fn sum_of(a: u64, b: u64) -> Sum
+    ensures { λ r. ⌜ r ≡ sumOf a b ⌝ }
+{
+    if a <= 18446744073709551615 - b {
+        return Sum {
+            is: a + b,
+            past: false,
+        };
+    }
+    Sum { is: a, past: true }
+}
+
 // Adds to each number. Counts only grow: a sum that has passed 64 bits has passed them for good.
 pub fn add(running: Running, more: &[u64]) -> Running
     requires { ⌜ length (now more) ≡ reportSize ⌝ }
@@ -39,11 +57,9 @@ pub fn add(running: Running, more: &[u64]) -> Running
     while i < 34 {
         let n = more[i];
         let before = numbers[i];
-        if before <= 18446744073709551615 - n {
-            numbers[i] = before + n;
-        } else {
-            passed = true;
-        }
+        let s = sum_of(before, n);
+        numbers[i] = s.is;
+        passed = passed | s.past;
         i += 1;
     }
     Running { numbers, passed }
