@@ -41,13 +41,14 @@ module _ (l m : List ℕ) (hl : length l ≡ reportSize) (hm : length m ≡ repo
     long = long;
     kept = λ p. (
       by-elements (r .numbers) (plus l m) (hn ∙ sym long) (λ i k. w .done p i (omega arith) .0 ∙ sym (plus-at l m (hl ∙ sym hm) i)),
-      fits-all (plus l m) (below p)
+      fits-all (plus l m) (below p),
     );
     past = w .past;
   }
     where
       long : length (plus l m) ≡ reportSize
       long = plus-long l m (hl ∙ sym hm) ∙ hl
+
       below : r .passed ≡ false → (i : ℕ) → getD (plus l m) i 0 < 2 ^ 64
       below p i = go (ltb i reportSize) refl
         where
@@ -70,10 +71,13 @@ module _ (l m : List ℕ) (hl : length l ≡ reportSize) (hm : length m ≡ repo
       where
         here : getD numbers i 0 ≡ getD l i 0
         here = w .left refl i (omega arith)
+
         Added : ℕ → Type 0
         Added j = (getD (set numbers i (getD numbers i 0 + getD m i 0)) j 0 ≡ getD l j 0 + getD m j 0) × (getD l j 0 + getD m j 0 < 2 ^ 64)
+
         at : Added i
         at = (getD-set-same numbers i (getD numbers i 0 + getD m i 0) 0 (omega (arith, hn)) ∙ ap (λ (x : ℕ). x + getD m i 0) here, omega (arith, here, b))
+
         go : (j : ℕ) → j < i + 1 → (t : Bool) → eqb j i ≡ t → Added j
         go j z true e = subst Added (sym (eqb-true j i e)) at
         go j z false e = let d = eqb-false j i e in let q = w .done refl j (below-not j i d z) in (other _ j d ∙ q .0, q .1)

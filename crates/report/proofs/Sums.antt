@@ -87,6 +87,7 @@ past-stays (x ∷ l) (y ∷ m) h f = go (ltb x (2 ^ 64)) refl f
     then : (b : Bool) → fits (plus l m) ≡ false → (b && fits (plus l m)) ≡ false
     then true e = e
     then false e = refl
+
     go : (b : Bool) → ltb x (2 ^ 64) ≡ b → (b && fits l) ≡ false → (ltb (x + y) (2 ^ 64) && fits (plus l m)) ≡ false
     go true t e = then (ltb (x + y) (2 ^ 64)) (past-stays l m (omega arith) e)
     go false t e = rw (le-ltb (x + y) (2 ^ 64) (omega (arith, ltb-false x (2 ^ 64) t)))
