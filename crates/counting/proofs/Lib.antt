@@ -1,0 +1,4 @@
+-- What other crates cite: Sums (what the counts of a frame add up to). Laws has what the functions' proofs need, Examples a worked example. Assumes nothing.
+pub mod Laws
+pub mod Sums
+pub mod Examples
