@@ -78,9 +78,12 @@ fn count_blocks(format: PixelFormat, w: u64, h: u64, coded: &[u64], modes: [u64;
     let first = count_within(coded, 0, cb);
     let second = count_within(coded, cb, cr);
     let third = count_within(coded, cr, all);
+    let first_rest = cb - first;
+    let second_rest = cr - cb - second;
+    let third_rest = all - cr - third;
     Counts {
         coded: [first, second, third],
-        uncoded: [cb - first, cr - cb - second, all - cr - third],
+        uncoded: [first_rest, second_rest, third_rest],
         modes,
     }
 }
