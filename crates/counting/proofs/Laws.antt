@@ -154,3 +154,10 @@ module _ (f : PixelFormat) (w h : ℕ) (coded modes : List ℕ) (kind : Kind) wh
   pub repeat-counts : kind ≡ Repeat → noCounts ≡ frameCounts f w h kind coded modes
   unfolding frameCounts
   repeat-counts k = rw k refl
+
+-- the modes count in an inter frame alone
+pub same-counts : (f : PixelFormat) (w h : ℕ) (kind : Kind) {coded coded′ modes modes′ : List ℕ} → coded ≡ coded′ → (kind ≡ Inter → modes ≡ modes′) → frameCounts f w h kind coded modes ≡ frameCounts f w h kind coded′ modes′
+unfolding frameCounts
+same-counts f w h Intra c m = ap (λ (l : List ℕ). blockCounts f w h l (replicate 8 0)) c
+same-counts f w h Inter c m = let z = m refl in λ i. blockCounts f w h (c i) (modeCounts (z i))
+same-counts f w h Repeat c m = refl
