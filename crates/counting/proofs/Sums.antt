@@ -5,7 +5,7 @@ use native.Mathlib.Nat.{zero-add}
 use mathlib.Core.Path.{_≡_, refl, sym, ap, _∙_}
 use mathlib.Core.List.{List, [], _∷_}
 use mathlib.Core.Bool.{Bool, true, false}
-use mathlib.Core.Logic.{_⊎_, inl, inr}
+use mathlib.Core.Logic.{inl, inr}
 use lib.Dec.{eqb}
 use lib.ListN.{length, getD, replicate}
 use Rattle.bitstream.specs.Reading.{choose}
@@ -17,12 +17,8 @@ use Rattle.geometry.proofs.SizeLaws.{before-planes}
 use Rattle.frame_header.specs.declared.Kind.{Kind}
 use Rattle.frame_header.specs.declared.Kind.the-variants.{Intra, Inter, Repeat}
 use Rattle.counting.specs.declared.Counts.{Counts}
-use Rattle.counting.specs.Counts.{count, sum, codedIn, uncodedIn, modeCount, modeCounts, noCounts, blockCounts, frameCounts}
+use Rattle.counting.specs.Counts.{count, sum, Codes, codedIn, uncodedIn, modeCount, modeCounts, noCounts, frameCounts}
 use Rattle.counting.proofs.Planes.{coded-few}
-
--- a frame that codes blocks: an intra or an inter frame
-abbrev pub Codes : Kind → Type 0
-Codes kind = (kind ≡ Intra) ⊎ (kind ≡ Inter)
 
 -- ---- the blocks
 module _ (f : PixelFormat) (w h : ℕ) (coded : List ℕ) (once : Once coded) where
