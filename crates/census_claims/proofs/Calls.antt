@@ -39,8 +39,9 @@ module _ (l : Lent) (table : List ℕ) where
     calls-add st (c ∷ cs) [] h = absurd h
     calls-add st (c ∷ cs) (p ∷ ps) h =
         let e = outcome-same st c p (h .0) (h .1) (h .2) in
-        let t = turn st c (byRules way st c) in
-        let es : t .after .session ≡ answerFor (st .session) (outcomeOf st c) .session = handed-session st _ _ _ _ in
+        let d = byRules way st c in
+        let t = turn st c d in
+        let es : t .after .session ≡ answerFor (st .session) (outcomeOf st c) .session = handed-session st (d .answer .verdict) (d .answer .header .kind) (d .answer .session) (d .new) in
         ap (plus (packetAdds (st .session) (outcomeOf st c))) (calls-add (t .after) cs ps (h .3) ∙ ap (λ (s : Session). packetsAdd (said l table) s ps) es)
         ∙ (λ i. plus (packetAdds (st .session) (e i)) (packetsAdd (said l table) (answerFor (st .session) (e i) .session) ps))
 

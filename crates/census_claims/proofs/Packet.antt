@@ -113,7 +113,7 @@ balanced-plus s n m l k h x y = record {
         part-plus from n l k h ∙ (λ i. a i + b i) ∙ sym (mul-add g (part from′ n′ l) (part from′ n′ k)) ∙ sym (ap (λ (t : ℕ). g * t) (part-plus from′ n′ l k h))
 
 -- ---- an accepted packet
-zeros : (n k : ℕ) → getD (replicate n 0) k 0 ≡ 0
+zeros : (n k : ℕ) → _≡_ {A = ℕ} (getD (replicate n 0) k 0) 0
 zeros zero k = refl
 zeros (suc n) zero = refl
 zeros (suc n) (suc k) = zeros n k
@@ -121,7 +121,7 @@ zeros (suc n) (suc k) = zeros n k
 behind : (kind : ℕ) → kind < 3 → (k : ℕ) → 3 ≤ k → getD (only kind 1) k 0 ≡ 0
 behind kind l k h = getD-set-other (replicate 34 0) kind k 1 0 (λ e. omega arith) ∙ zeros 34 k
 
-three-zeros : (p : ℕ) → p < 3 → getD (replicate 3 0) p 0 + getD (replicate 3 0) p 0 ≡ 0
+three-zeros : (p : ℕ) → p < 3 → _≡_ {A = ℕ} (getD (replicate 3 0) p 0 + getD (replicate 3 0) p 0) 0
 three-zeros zero k = refl
 three-zeros (suc zero) k = refl
 three-zeros (suc (suc zero)) k = refl

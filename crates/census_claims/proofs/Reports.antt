@@ -40,7 +40,7 @@ module _ (l : Lent) (packets : List (List ℕ)) (report : List ℕ) where
   unfolding countNumber
   counted h = go (eqb (length report) reportSize) refl h
     where
-      fit : length report ≡ 34 → (b : Bool) → fits sums ≡ b → choose b 0 15 ≡ 0 → Counted
+      fit : length report ≡ 34 → (b : Bool) → fits sums ≡ b → _≡_ {A = ℕ} (choose b 0 15) 0 → Counted
       fit e true t r = (e, t)
       fit e false t r = absurd (omega arith)
 
