@@ -1,7 +1,8 @@
 // Reads one token: its Huffman code and its extra bits, all out of one window of 64 bits.
 use token::Token;
 ghost use mathlib.Core.Path.{_≡_};
-ghost use Prim.Native.Nat.{_-_, _*_, _/_, _%_, _<_, _≤_, _^_};
+ghost use Prim.Native.Nat.{_+_, _-_, _*_, _/_, _%_, _<_, _≤_, _^_};
+ghost use lib.Dec.{ltb};
 ghost use lib.ListN.{length};
 ghost use Rattle.bitstream.specs.Bits.{longest};
 ghost use Rattle.huffman.specs.Code.{treeOf, Formed};
@@ -39,6 +40,17 @@ fn token_by(entry: u64, window: u64, at: usize) -> Token
     token::meaning_by(t, row, x, at + bits)
 }
 
+// Whether a packet of `size` bytes ends before so many bits from the place `at` on. Where it has the window whole nothing is cut, which saves eight instructions a token.
+fn is_cut(size: usize, at: usize, bits: usize) -> bool
+    requires { ⌜ bits ≤ 43 ⌝ }
+    ensures { λ r. ⌜ r ≡ ltb size (at / 8 + (at % 8 + bits + 7) / 8) ⌝ }
+{
+    if at / 8 + 8 <= size {
+        return false;
+    }
+    size < at / 8 + (at % 8 + bits + 7) / 8
+}
+
 // The token at the place `at`. Its bytes are looked at once, for the window: code and extra bits have at most 43 bits, and begin in the first byte.
 // Behind the packet's end the window has zeros, so a token that reaches past it is one that the packet cuts.
 pub fn read_token(packet: &[u8], at: usize, nodes: &[u8], lookup: &[u64], values: &[u64]) -> Token
@@ -49,8 +61,7 @@ pub fn read_token(packet: &[u8], at: usize, nodes: &[u8], lookup: &[u64], values
     let from = at % 8;
     let entry = entry_in(window, from, nodes, lookup, values);
     let bits = (entry / 0x1000000000) as usize;
-    let end = at / 8 + (from + bits + 7) / 8;
-    if packet.len() < end {
+    if is_cut(packet.len(), at, bits) {
         return Token::Refused(bitstream::PACKET_ENDS, at);
     }
     token_by(entry, window, at)

@@ -1,8 +1,10 @@
 -- `token_reader::read_token` meets its contract: by the entry, where the token ends in the packet, and else it is cut. Assumes nothing.
 use borrow.Author.Needs.{needs}
+use borrow.Author.Tests.{ltb-true, ltb-false}
 use native.Mathlib.Omega.{arith}
 use mathlib.Core.Path.{sym, ap, _∙_}
-use Prim.Native.Nat.{_/_, _^_, _≤_}
+use Prim.Native.Nat.{ℕ, _+_, _/_, _%_, _^_, _≤_}
+use lib.ListN.{length}
 use Rattle.token.specs.Answer.{asToken}
 use Rattle.token_reader.proofs.Entries.{entry-row, entry-bits, entry-got, entry-cut}
 use Rattle.token_reader.proofs.read_token.Statement.{statement}
@@ -16,47 +18,48 @@ entry-in-requires c κs =
     let p = c .before .before .before .before .before .pre in
     (omega arith, p .1, p .2 .size, p .3)
 
+-- the byte behind the bits of an entry
+abbrev behind : ℕ → ℕ → ℕ
+behind at entry = at / 8 + (at % 8 + entry / 2 ^ 36 + 7) / 8
+
 few : (c : tie.After-entry-in) → c .entry-in .result / 2 ^ 36 ≤ 43
 few c =
     let u = c .before .before .before .before .before .before in
     let a = u .args in
     entry-bits (a .nodes .now) (a .lookup .now) (a .packet .now) (a .at) (c .before .window .result) (c .entry-in .result) (u .pre .1) (u .pre .2) (c .before .window .ensures) (c .entry-in .ensures)
 
-add-end : tie.Need-add-end
-add-end c = record { fits = omega (arith, few c) }
-
-add-end-2 : tie.Need-add-end-2
-add-end-2 c = record { fits = omega (arith, few c) }
-
-add-end-3 : tie.Need-add-end-3
-add-end-3 c = record { fits = omega (arith, few c, c .before .before .before .before .before .before .fits) }
+is-cut-requires : tie.Need-is-cut-requires
+is-cut-requires c κs = few c
 
 returns : tie.Need-returns
 returns c =
-    let u = c .before .before .before .before .before .before .before in
-    let a = u .args in
-    let e = c .before .entry-in in
-    let w = c .before .before .window in
-    sym (ap asToken (entry-cut (a .nodes .now) (a .lookup .now) (a .packet .now) (a .at) (w .result) (e .result) (u .pre .1) (u .pre .2) (w .ensures) (e .ensures) (omega (arith, c .if1 .taken))))
-
-token-by-requires : tie.Need-token-by-requires
-token-by-requires c κs =
-    let u = c .before .before .before .before .before .before .before in
-    let a = u .args in
-    let e = c .before .entry-in in
-    let w = c .before .before .window in (
-      entry-row (a .nodes .now) (a .lookup .now) (a .packet .now) (a .at) (w .result) (e .result) (u .pre .1) (u .pre .2) (w .ensures) (e .ensures),
-      few (c .before),
-      omega (arith, c .if1 .left, u .pre .0),
-    )
-
-returns-2 : tie.Need-returns-2
-returns-2 c =
     let u = c .before .before .before .before .before .before .before .before in
     let a = u .args in
     let e = c .before .before .entry-in in
     let w = c .before .before .before .window in
-    c .token-by .ensures ∙ sym (ap asToken (entry-got (a .nodes .now) (a .lookup .now) (a .packet .now) (a .at) (w .result) (e .result) (u .pre .1) (u .pre .2) (w .ensures) (e .ensures) (omega (arith, c .before .if1 .left))))
+    let ends = ltb-true (length (a .packet .now)) (behind (a .at) (e .result)) (sym (c .before .is-cut .ensures) ∙ c .if1 .taken) in
+    sym (ap asToken (entry-cut (a .nodes .now) (a .lookup .now) (a .packet .now) (a .at) (w .result) (e .result) (u .pre .1) (u .pre .2) (w .ensures) (e .ensures) (omega (arith, ends))))
+
+token-by-requires : tie.Need-token-by-requires
+token-by-requires c κs =
+    let u = c .before .before .before .before .before .before .before .before in
+    let a = u .args in
+    let e = c .before .before .entry-in in
+    let w = c .before .before .before .window in
+    let whole = ltb-false (length (a .packet .now)) (behind (a .at) (e .result)) (sym (c .before .is-cut .ensures) ∙ c .if1 .left) in (
+      entry-row (a .nodes .now) (a .lookup .now) (a .packet .now) (a .at) (w .result) (e .result) (u .pre .1) (u .pre .2) (w .ensures) (e .ensures),
+      few (c .before .before),
+      omega (arith, whole, u .pre .0),
+    )
+
+returns-2 : tie.Need-returns-2
+returns-2 c =
+    let u = c .before .before .before .before .before .before .before .before .before in
+    let a = u .args in
+    let e = c .before .before .before .entry-in in
+    let w = c .before .before .before .before .window in
+    let whole = ltb-false (length (a .packet .now)) (behind (a .at) (e .result)) (sym (c .before .before .is-cut .ensures) ∙ c .before .if1 .left) in
+    c .token-by .ensures ∙ sym (ap asToken (entry-got (a .nodes .now) (a .lookup .now) (a .packet .now) (a .at) (w .result) (e .result) (u .pre .1) (u .pre .2) (w .ensures) (e .ensures) (omega (arith, whole))))
 
 pub read-token-spec : {M : Type 1} → statement M
-read-token-spec = tie.close (tie.spec window-requires entry-in-requires add-end add-end-2 add-end-3 returns token-by-requires returns-2)
+read-token-spec = tie.close (tie.spec window-requires entry-in-requires is-cut-requires returns token-by-requires returns-2)

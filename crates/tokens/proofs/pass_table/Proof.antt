@@ -7,10 +7,18 @@ use lib.ListN.{take, drop}
 use Rattle.huffman.specs.Tree.{Tree}
 use Rattle.huffman.specs.Code.{treeOf}
 use Rattle.token_visits.specs.Visits.{stateOf, pass}
+use Rattle.tokens.specs.Answer.{treeAt}
 use Rattle.tokens.proofs.Tables.{formed-at, tree-at, nodes-long, wide}
-use Rattle.token_visits.proofs.Ways.{on-same}
+use Rattle.token_visits.proofs.Ways.{pass-none, on-state, on-same}
 use Rattle.tokens.proofs.pass_table.Statement.{statement}
 use Rattle.tokens.proofs.pass_table.Tie as tie
+
+-- no block: nothing is read
+returns : tie.Need-returns
+returns c =
+    let a = c .before .before .before .before .before .before .before .args in
+    let s = stateOf (a .positions .now) (a .lasts .now) (a .coefs .now) (a .run) (a .tokens) in
+    on-state (a .positions .now) (a .lasts .now) (a .coefs .now) _ (pass-none (treeAt (a .nodes .now) (a .j)) (a .k) (a .blocks .now) 0 s (a .packet .now) (a .at) (omega (arith, c .if1 .taken)))
 
 mul-from : tie.Need-mul-from
 mul-from c = search needs
@@ -25,15 +33,15 @@ part-pass-blocks-start : tie.Need-part-pass-blocks-start
 part-pass-blocks-start c = search needs
 
 part-pass-blocks-end : tie.Need-part-pass-blocks-end
-part-pass-blocks-end c = omega (arith, nodes-long (c .before .before .before .before .before .before .args .nodes .now) (c .before .before .before .before .before .before .pre .0 .1), c .before .before .before .before .before .before .pre .0 .2)
+part-pass-blocks-end c = omega (arith, nodes-long (c .before .before .before .before .before .before .before .args .nodes .now) (c .before .before .before .before .before .before .before .pre .0 .1), c .before .before .before .before .before .before .before .pre .0 .2)
 
 slice-aggregate-pass-blocks : tie.Need-slice-aggregate-pass-blocks
 slice-aggregate-pass-blocks c = search needs
 
 pass-blocks-requires : tie.Need-pass-blocks-requires
 pass-blocks-requires c κs =
-    let a = c .before .before .before .before .before .before .before .before .before .before .before .args in
-    ((c .before .before .before .before .before .before .before .before .before .before .before .pre .0 .0, rw (wide (a .j)) (formed-at (a .nodes .now) (c .before .before .before .before .before .before .before .before .before .before .before .pre .0 .1) (a .j) (c .before .before .before .before .before .before .before .before .before .before .before .pre .0 .2)), λ h. rw (wide (a .j)) (c .before .before .before .before .before .before .before .before .before .before .before .pre .0 .3 h), refl), c .before .before .before .before .before .before .before .before .before .before .before .pre .1)
+    let a = c .before .before .before .before .before .before .before .before .before .before .before .before .args in
+    ((c .before .before .before .before .before .before .before .before .before .before .before .before .pre .0 .0, rw (wide (a .j)) (formed-at (a .nodes .now) (c .before .before .before .before .before .before .before .before .before .before .before .before .pre .0 .1) (a .j) (c .before .before .before .before .before .before .before .before .before .before .before .before .pre .0 .2)), λ h. rw (wide (a .j)) (c .before .before .before .before .before .before .before .before .before .before .before .before .pre .0 .3 h), refl), c .before .before .before .before .before .before .before .before .before .before .before .before .pre .1)
 
 same-length : tie.Need-same-length
 same-length c = search needs
@@ -44,20 +52,21 @@ same-length-2 c = search needs
 same-length-3 : tie.Need-same-length-3
 same-length-3 c = search needs
 
-returns : tie.Need-returns
-returns c =
-    let a = c .before .before .before .before .before .before .before .before .before .before .before .before .before .before .before .before .before .before .args in
+returns-2 : tie.Need-returns-2
+returns-2 c =
+    let a = c .before .before .before .before .before .before .before .before .before .before .before .before .before .before .before .before .before .before .before .args in
     let w = c .before .before .before .before .before .before .pass-blocks in
     let s = stateOf (a .positions .now) (a .lasts .now) (a .coefs .now) (a .run) (a .tokens) in
     on-same _ _ _ _ _
     (ap (λ (t : Tree). pass t (a .k) (a .blocks .now) s (a .packet .now) (a .at))
-    (tree-at (a .nodes .now) (a .j) (c .before .before .before .before .before .before .before .before .before .before .before .before .before .before .before .before .before .before .pre .0 .2) ∙ ap (λ (n : ℕ). treeOf (take n (drop (64 * a .j) (a .nodes .now)))) (sym (wide (a .j)))))
+    (tree-at (a .nodes .now) (a .j) (c .before .before .before .before .before .before .before .before .before .before .before .before .before .before .before .before .before .before .before .pre .0 .2) ∙ ap (λ (n : ℕ). treeOf (take n (drop (64 * a .j) (a .nodes .now)))) (sym (wide (a .j)))))
     (w .ensures .0) (w .ensures .1)
 
 pub pass-table-spec : {M : Type 1} → statement M
 pass-table-spec =
     tie.close
     (tie.spec
+    returns
     mul-from
     add-to
     sub-pass-blocks
@@ -68,4 +77,4 @@ pass-table-spec =
     same-length
     same-length-2
     same-length-3
-    returns)
+    returns-2)
