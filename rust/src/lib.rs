@@ -41,26 +41,39 @@
 //! }
 //! ```
 
+mod census;
+mod check;
 mod film;
 mod frame;
+mod frames;
 pub mod lists;
+mod memory;
 mod player;
+pub mod recording;
 mod refusal;
 mod session;
 mod settings;
 mod shot;
 mod table;
+mod tiles;
+mod unplayable;
 mod work;
 
+pub use census::Report;
+pub use check::{Checked, check, check_within};
 pub use film::{FILM_HEADER_BYTES, Film, FilmWriter};
-pub use frame::{Frame, FrameAnswer, Kind, Samples};
+pub use frame::{Frame, FrameAnswer, Kind, Samples, View};
+pub use frames::{Decoded, Frames};
 pub use lists::Buffers;
-pub use player::{Player, Unplayable};
-pub use refusal::Refusal;
+pub use memory::free_memory;
+pub use player::Player;
+pub use refusal::{Refusal, Refused};
 pub use session::{Session, identification};
 pub use settings::{SETTINGS_BYTES, Settings};
 pub use shot::{Names, Packets};
 pub use table::{MatrixType, Table, setup};
+pub use tiles::{TileMap, TileMaps};
+pub use unplayable::Unplayable;
 pub use work::{Work, WorkLengths};
 
 /// The version of this package.

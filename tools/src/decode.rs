@@ -392,7 +392,10 @@ fn player(headers: &[Vec<u8>], request: &Request) -> Result<Player, String> {
         .memory(&session)
         .and_then(|beside| request.limit.excess(&session, beside));
     match excess {
-        Ok(None) => Player::new(session, table).map_err(|why| why.to_string()),
+        Ok(None) => {
+            let player = Player::within(session, table, request.limit.bytes());
+            player.map_err(|why| why.to_string())
+        }
         Ok(Some(text)) => Err(text),
         Err(refusal) => Err(refusal.to_string()),
     }
