@@ -67,7 +67,7 @@ pub use frames::{Decoded, Frames};
 pub use lists::Buffers;
 pub use memory::free_memory;
 pub use player::Player;
-pub use refusal::{Refusal, Refused};
+pub use refusal::{Refusal, Refused, grouped};
 pub use session::{Session, identification};
 pub use settings::{SETTINGS_BYTES, Settings};
 pub use shot::{Names, Packets};

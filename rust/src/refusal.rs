@@ -148,8 +148,8 @@ impl Refusal {
     }
 }
 
-/// A number with a comma before each three digits.
-fn grouped(number: u128) -> String {
+/// A number as refusals have it in words: with a comma before each three digits.
+pub fn grouped(number: u128) -> String {
     let digits = number.to_string();
     let mut text = String::new();
     for (i, digit) in digits.chars().enumerate() {
