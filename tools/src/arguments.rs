@@ -258,7 +258,10 @@ pub const VERBS: [Verb; 15] = [
         name: "check",
         words: &[
             RECORDING,
-            ("FILM.y4m", "a stream that somebody else made of it; it is mapped, and may have any length"),
+            (
+                "FILM.y4m",
+                "a stream that somebody else made of it; it is mapped, and may have any length",
+            ),
         ],
         about: "checks another decoder's stream of frames, to the byte",
         more: "It passes if every packet is accepted and the file is what `y4m` writes, by the library's proved call.\n\
@@ -268,11 +271,14 @@ pub const VERBS: [Verb; 15] = [
     },
     Verb {
         name: "census",
-        words: &[("RECORDING..", "Ogg files, packet files, folders with such files; with --add reports")],
+        words: &[(
+            "RECORDING..",
+            "Ogg files, packet files, folders with such files; with --add reports",
+        )],
         about: "counts what recordings hold: packets, refusals, coded blocks, modes",
         more: "The packets are read by the library's proved call, and no frame is made. --csv writes a report, with a\n\
                line for each stream and one for all; --add adds up reports of several runs. Files in a folder that\n\
-               are no recordings are passed over and counted. What is damaged is not counted but named.",
+               are no recordings are passed over and counted. A damaged stream is counted up to the damage, and named.",
         options: &[
             "--csv",
             "--add",
@@ -497,7 +503,9 @@ fn parse_verb(verb: &'static Verb, rest: &[OsString]) -> Result<Wanted, String> 
 
 /// Whether the last word of a verb may come again.
 fn takes_more(verb: &Verb) -> bool {
-    verb.words.last().is_some_and(|(name, _)| name.ends_with(".."))
+    verb.words
+        .last()
+        .is_some_and(|(name, _)| name.ends_with(".."))
 }
 
 /// Reads an option: `--name`, `--name VALUE` or `--name=VALUE`.
@@ -708,7 +716,10 @@ mod tests {
         );
         assert_eq!(self::job("y4m ./check f").verb, "y4m");
         assert_eq!(self::job("census a b c --jobs 2").words.len(), 3);
-        assert_eq!(self::job("tiles a -o m.npy").value("-o"), Some(OsStr::new("m.npy")));
+        assert_eq!(
+            self::job("tiles a -o m.npy").value("-o"),
+            Some(OsStr::new("m.npy"))
+        );
     }
 
     #[test]

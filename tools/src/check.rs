@@ -66,11 +66,15 @@ pub fn check(input: Input, choice: Choice, file: &[u8], limit: &Limit) -> Result
         0 => return Err(refused(all.none())),
         1 => all.streams.pop_first().expect("there is one").1,
         count => {
-            return Err(refused(format!("it has {count} Theora streams; --stream chooses one")));
+            return Err(refused(format!(
+                "it has {count} Theora streams; --stream chooses one"
+            )));
         }
     };
     if let (Some(fault), true) = (&stream.fault, stream.lost) {
-        return Err(refused(format!("{fault}; only a whole recording can be checked")));
+        return Err(refused(format!(
+            "{fault}; only a whole recording can be checked"
+        )));
     }
     let packets = &stream.packets;
     let outcome = match wedgepetal::check_within(packets, file, limit.bytes()) {
@@ -132,7 +136,9 @@ impl<'a> Film<'a> {
         let (frame, at) = ((byte - header) / self.frame, (byte - header) % self.frame);
         let length = file.len() as u64;
         if frame == frames {
-            return Ok(Difference::Long { more: length - byte });
+            return Ok(Difference::Long {
+                more: length - byte,
+            });
         }
         if byte == length {
             let missing = (frames - frame) * self.frame - at;
@@ -141,7 +147,9 @@ impl<'a> Film<'a> {
         match at.checked_sub(LINE.len() as u64) {
             None => Ok(Difference::Line {
                 frame,
-                found: line(&file[(byte - at) as usize..][..LINE.len().min((length - byte + at) as usize)]),
+                found: line(
+                    &file[(byte - at) as usize..][..LINE.len().min((length - byte + at) as usize)],
+                ),
             }),
             Some(offset) => self.sample(file[byte as usize], frame, offset),
         }
@@ -182,7 +190,10 @@ impl<'a> Film<'a> {
 /// have and some more.
 fn line(bytes: &[u8]) -> String {
     const MOST: usize = 120;
-    let line = bytes.split(|byte| *byte == b'\n').next().unwrap_or_default();
+    let line = bytes
+        .split(|byte| *byte == b'\n')
+        .next()
+        .unwrap_or_default();
     match line.len() {
         0..=MOST => line.escape_ascii().to_string(),
         _ => format!("{}..", line[..MOST].escape_ascii()),
@@ -219,10 +230,9 @@ impl Difference {
 
     fn fields(&self) -> Vec<(&'static str, Json)> {
         match self {
-            Difference::Header { found, wanted } => vec![
-                ("found", Json::text(found)),
-                ("wanted", Json::text(wanted)),
-            ],
+            Difference::Header { found, wanted } => {
+                vec![("found", Json::text(found)), ("wanted", Json::text(wanted))]
+            }
             Difference::Line { frame, found } => vec![
                 ("frame", Json::Number(*frame)),
                 ("found", Json::text(found)),
@@ -248,8 +258,17 @@ impl Difference {
 impl Sample {
     fn words(&self) -> String {
         let plane = ["Y'", "Cb", "Cr"][self.plane];
-        let Sample { frame, column, row, found, wanted, .. } = self;
-        format!("frame {frame}, {plane}, column {column}, row {row} from the top: {found} and not {wanted}")
+        let Sample {
+            frame,
+            column,
+            row,
+            found,
+            wanted,
+            ..
+        } = self;
+        format!(
+            "frame {frame}, {plane}, column {column}, row {row} from the top: {found} and not {wanted}"
+        )
     }
 }
 
@@ -262,7 +281,10 @@ impl Checked {
     /// In words, of a file of this name.
     pub fn text(&self, name: &str) -> String {
         let recording = &self.recording;
-        let note = self.note.iter().map(|note| format!("{recording}: {note}\n"));
+        let note = self
+            .note
+            .iter()
+            .map(|note| format!("{recording}: {note}\n"));
         let said = match &self.outcome {
             Outcome::Passes => {
                 let (frames, bytes) = (self.frames, grouped(self.bytes.into()));
@@ -300,7 +322,9 @@ impl Checked {
                 fields.push(("byte", Json::Number(*byte)));
                 fields.extend(difference.fields());
             }
-            Outcome::Refused(Refused { packet, refusal, .. }) => {
+            Outcome::Refused(Refused {
+                packet, refusal, ..
+            }) => {
                 let Refusal { number, place } = *refusal;
                 fields.push(("packet", Json::Number(*packet)));
                 fields.push(("refusal", Json::Number(number.into())));

@@ -41,7 +41,7 @@ use memory::Limit;
 use output::{Folder, Output, Trouble};
 use recording::{Choice, Fault, packet_file};
 use std::ffi::OsString;
-use std::fmt::Display;
+use std::fmt::{self, Display};
 use std::io::{self, ErrorKind, Write};
 use std::path::Path;
 use std::process::ExitCode;
@@ -59,6 +59,17 @@ enum Failure {
     Usage(String),
     /// No one reads what is written any more. This is the reader's choice.
     Unread,
+}
+
+impl Display for Failure {
+    fn fmt(&self, f: &mut fmt::Formatter<'_>) -> fmt::Result {
+        match self {
+            Failure::Refused(text) | Failure::File(text) | Failure::Usage(text) => {
+                write!(f, "{text}")
+            }
+            Failure::Unread => Ok(()),
+        }
+    }
 }
 
 impl Failure {
@@ -320,7 +331,9 @@ fn tiles(job: &Job) -> Result<Tiles, Failure> {
     let path = Path::new(job.value("--settings").ok_or_else(missing)?);
     let text = Mapped::open(path, &Limit::new(None))?;
     let checked = settings::check(2, &text);
-    let settings = checked.settings().map_err(|_| Failure::Refused(checked.faults(&name(path))))?;
+    let settings = checked
+        .settings()
+        .map_err(|_| Failure::Refused(checked.faults(&name(path))))?;
     let file = |name: &str| job.value(name).map(Path::new);
     Tiles::plan(
         settings,

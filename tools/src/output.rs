@@ -1,13 +1,13 @@
 //! What is made of decoded frames: films, planes, a picture, hashes.
 
+use crate::clock::Time;
 use crate::cut::Cut;
 use crate::interrupt::begun;
+use crate::json::Json;
 use crate::layout;
 use crate::look::Look;
-use crate::clock::Time;
-use crate::json::Json;
-use crate::tiles::Tiles;
 use crate::target::{Target, Temporary, is_standard, resolved, said};
+use crate::tiles::Tiles;
 use recording::hash::hash;
 use std::fs::{self, File};
 use std::io::{ErrorKind, Write};

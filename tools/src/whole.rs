@@ -70,7 +70,10 @@ impl Streams {
     pub fn none(&self) -> String {
         match &self.others[..] {
             [] => "there is no such Theora stream".to_string(),
-            others => format!("there is no such Theora stream; there is {}", others.join(", ")),
+            others => format!(
+                "there is no such Theora stream; there is {}",
+                others.join(", ")
+            ),
         }
     }
 }

@@ -123,6 +123,9 @@ fn run(python: &str, word: &str, input: &[u8]) -> Result<Vec<u8>, String> {
     let last = String::from_utf8_lossy(&output.stderr);
     match output.status.success() {
         true => Ok(output.stdout),
-        false => Err(format!("{python}: {}", last.lines().last().unwrap_or("it failed"))),
+        false => Err(format!(
+            "{python}: {}",
+            last.lines().last().unwrap_or("it failed")
+        )),
     }
 }

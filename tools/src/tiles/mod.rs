@@ -165,7 +165,10 @@ impl Tiles {
 
     /// What was counted, in words and as JSON.
     pub fn said(&self) -> (String, Json) {
-        (self.count.text(&self.settings), self.count.json(&self.settings))
+        (
+            self.count.text(&self.settings),
+            self.count.json(&self.settings),
+        )
     }
 }
 
@@ -173,7 +176,10 @@ impl Tiles {
 /// written last.
 fn plan_map(path: &Path, force: bool) -> Result<Target, String> {
     match is_standard(path) || path.exists() && !path.is_file() {
-        true => Err(said(path, "the first bytes of a map say how many frames it has, so that it must be a file")),
+        true => Err(said(
+            path,
+            "the first bytes of a map say how many frames it has, so that it must be a file",
+        )),
         false => Target::plan(path, force),
     }
 }

@@ -27,6 +27,9 @@ mod tests {
             assert_eq!(front[8..10], [118, 0]);
         }
         let text = front(227, (28, 21));
-        assert!(text[10..].starts_with(b"{'descr': '|u1', 'fortran_order': False, 'shape': (227, 21, 28), }"));
+        assert!(
+            text[10..]
+                .starts_with(b"{'descr': '|u1', 'fortran_order': False, 'shape': (227, 21, 28), }")
+        );
     }
 }
