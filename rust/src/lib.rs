@@ -3,13 +3,18 @@
 //! A recording's first packet is its identification header ([`identification`]
 //! gives the [`Session`]), the third its setup header ([`setup`] gives the
 //! [`Table`]). A [`Player`] of both decodes the packets that follow, one by one
-//! or many in one call, into planes. Whatever a packet holds, each call ends with an answer, and a
-//! refusal ([`Refusal`]) changes nothing and says where in the packet it was
-//! found.
+//! or many in one call, into planes. Whatever a packet holds, each call ends with
+//! an answer, and a refusal ([`Refusal`]) changes nothing and says where in the
+//! packet it was found.
+//!
+//! Packets of Ogg files come from [`recording`]. [`Player::frames`] is an iterator
+//! over frames, [`Player::picture`] what should be shown of one, the top row first.
 //!
 //! Of decoded frames [`Session::rgb`] makes colours, and a [`FilmWriter`] a
 //! YUV4MPEG2 stream, which [`Film::read`] reads back. [`Settings`] are those of
-//! the scoring scripts, as texts.
+//! the scoring scripts, as texts; [`Player::tiles`] says which tiles changed.
+//! [`check`] holds another decoder's stream to a recording, [`Report::count`]
+//! counts what recordings hold.
 //!
 //! ```
 //! use wedgepetal::{Refusal, identification};
@@ -129,3 +134,8 @@ pub struct MacroBlock {
     /// The macro block's row, counted from the bottom.
     pub y: u64,
 }
+
+/// The lines of README.md, which the tests compile.
+#[doc = include_str!("../README.md")]
+#[cfg(doctest)]
+struct Readme;
