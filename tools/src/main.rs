@@ -232,7 +232,7 @@ fn decode_recording(job: &Job) -> Result<Said, Failure> {
     check_paths(job)?;
     let request = request(job, out)?;
     let taken = |name: &&str| job.value(name).is_some_and(|path| path == "-");
-    let index_taken = OUTPUTS.iter().any(|name| taken(&name));
+    let index_taken = OUTPUTS.iter().any(taken);
     let output_taken = request.output.is_standard() || index_taken || job.has("--quiet");
     let input = Input::open(path, job.has("--quiet"))?;
     let name = input.name.clone();

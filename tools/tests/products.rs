@@ -8,6 +8,7 @@ use common::{changed_header, command, ended, folder, good, names, pages, run, sa
 use recording::packet_file;
 use std::fs;
 use std::path::Path;
+use std::process::Command;
 
 /// A folder with the sample as s.packets, its stream as s.y4m, settings as 16.txt.
 fn sample(name: &str) -> std::path::PathBuf {
@@ -335,4 +336,34 @@ fn a_folder_is_counted_and_others_are_named() {
         status == 1 && out.contains("s.packets: its frames need"),
         "{out}"
     );
+}
+
+#[test]
+fn memory_that_is_not_to_be_had_is_an_answer() {
+    let folder = sample("no_memory");
+    // 400 by 300 macro blocks need 249 MB; less may be had.
+    let packets = changed_header(&sample_packets(&folder), 10, &[1, 0x90, 1, 0x2C]);
+    fs::write(folder.join("big.packets"), packet_file::write(&packets)).unwrap();
+    for words in [
+        "hashes big.packets /dev/null",
+        "check big.packets s.y4m",
+        "census big.packets",
+        "tiles big.packets --settings 16.txt",
+    ] {
+        let output = Command::new("sh")
+            .args(["-c", "ulimit -v 150000 && exec \"$0\" \"$@\""])
+            .arg(env!("CARGO_BIN_EXE_wedgepetal"))
+            .args(words.split_whitespace())
+            .current_dir(&folder)
+            .output()
+            .unwrap();
+        let (status, out, err) = ended(&output);
+        let said = out + &err;
+        let wanted =
+            "big.packets: its frames need 248638184 bytes of memory, which are not to be had";
+        assert!(
+            status == 1 && said.contains(wanted),
+            "{words}: {status} {said}"
+        );
+    }
 }
