@@ -38,7 +38,7 @@ figure.colorbar(picture, ax=tiles, label="changed in % of the frames", shrink=0.
 time.plot(shot["times"], [100 * share for share in shot["shares"]], linewidth=0.8)
 for second in shot["refused"]:
     time.axvline(second, color="red", linewidth=0.8)
-time.set_ylim(0, 100)
+time.set_ylim(bottom=0)
 time.set_title("changed tiles" + (" (red: a packet was refused)" if shot["refused"] else ""))
 time.set_xlabel("seconds")
 time.set_ylabel("% of the tiles that differ from the frame before")
