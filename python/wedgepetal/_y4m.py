@@ -25,7 +25,8 @@ def _written(call: Callable[..., int], room: int, *lists: Union[int, Bytes]) -> 
     return out[: int(written[0])]
 
 
-def _header(session: Numbers) -> Bytes:
+def header(session: Numbers) -> Bytes:
+    """The first line of a session's film."""
     return _written(library.wedgepetal_y4m_header, Y4M_HEADER_BYTES, session.ctypes.data, SESSION_NUMBERS)
 
 
@@ -65,7 +66,7 @@ def _write(recording: Recording, out: BinaryIO, on_refusal: str, on_gap: str, st
     count = 0
     with open(recording, held="refuse", on_refusal=on_refusal, on_gap=on_gap, stream=stream,
               max_memory=max_memory) as shot:
-        out.write(_header(shot._decoder.session).data)
+        out.write(header(shot._decoder.session).data)
         for frame in shot:
             out.write(_frame(frame).data)
             count += 1
