@@ -18,7 +18,8 @@ pub enum MapLength {
     Refused(u32, usize),
 }
 
-fn length_of(set: Settings, s: Session) -> u64
+// How many bytes a map has.
+pub fn length_of(set: Settings, s: Session) -> u64
     requires { ⌜ (settingsFit set ≡ true) × (sessionFits s ≡ true) ⌝ }
     ensures { λ r. ⌜ r ≡ mapLengthOf set s ⌝ }
 {
@@ -75,7 +76,7 @@ fn write_accepted(set: Settings, s: Session, previous: &[u8], new: &[u8], map: &
 }
 
 // The map after a packet: a refused one leaves it.
-fn update_map(
+pub fn update_map(
     set: Settings,
     s: Session,
     verdict: Verdict,

@@ -32,7 +32,7 @@ fn answers_fit(numbers: usize, packets: usize) -> bool
 }
 
 // A refusal by its number: session and names are the caller's.
-fn refused(k: u32, s: Session, names: Names) -> ShotAnswer
+pub fn refused(k: u32, s: Session, names: Names) -> ShotAnswer
     ensures { λ r. ⌜ r ≡ refusedBy k s names ⌝ }
 {
     ShotAnswer {

@@ -8,7 +8,7 @@ ghost use Rattle.work_memory.specs.Memory.{memory};
 ghost use Rattle.shot_c.specs.Face.{namesIn, referenceNumber, lists, listsAfter, shotGives, shotFace};
 
 // The names that a list of 2 numbers says.
-fn names_in(list: &[u64]) -> Names
+pub fn names_in(list: &[u64]) -> Names
     requires { ⌜ length (now list) ≡ 2 ⌝ }
     ensures { λ r. ⌜ r ≡ namesIn (now (list .entry)) ⌝ }
 {
@@ -30,7 +30,8 @@ fn reference_number(references: bool, before: u64) -> u64
     0
 }
 
-fn return_shot(answer: ShotAnswer, session: &mut [u64], names: &mut [u64]) -> u32
+// Puts session and names for the next call into their lists, and answers 0; or answers the number of the refusal.
+pub fn return_shot(answer: ShotAnswer, session: &mut [u64], names: &mut [u64]) -> u32
     requires { ⌜ (length (now session) ≡ 19) × (length (now names) ≡ 2) ⌝ }
     ensures { λ r. ⌜ lists r (now (session .exit)) (now (names .exit)) ≡ listsAfter (now (session .entry)) (now (names .entry)) answer ⌝ }
 {

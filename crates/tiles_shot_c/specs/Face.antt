@@ -1,0 +1,34 @@
+-- The face of `tiles_shot` for C: sessions, names and settings are lists of numbers.
+use Prim.Native.Nat.{ℕ}
+use mathlib.Core.Bool.{_&&_}
+use mathlib.Core.List.{List}
+use lib.Dec.{eqb}
+use lib.ListN.{length}
+use Rattle.bitstream.specs.Reading.{choose}
+use Rattle.bitstream.specs.Numbers.{wrongLength, badSettings}
+use Rattle.settings.specs.Settings.{settingsFit}
+use Rattle.settings_list.specs.List.{settingsOf}
+use Rattle.session_list.specs.List.{sessionOf}
+use Rattle.work_memory.specs.Memory.{Memory}
+use Rattle.shot.specs.Call.{shotCall}
+use Rattle.shot_c.specs.Face.{namesIn, lists, ShotReturned, shotGives, doneReturned}
+use Rattle.tiles_shot.specs.Call.{tilesShot}
+
+-- by what the lists are refused, 0 if by nothing: "20 before all other checks" that can be made on a list of 4 numbers
+unfoldable pub tilesShotNumber : (settings : List ℕ) (session names : ℕ) → ℕ
+tilesShotNumber settings session names =
+    choose (eqb (length settings) 4) (choose (settingsFit (settingsOf settings)) (choose (eqb session 19 && eqb names 2) 0 wrongLength) badSettings) wrongLength
+
+-- what a shot call returns and leaves, and the maps
+pub record TilesShotReturned : Type 0 where
+  pub shot : ShotReturned
+  pub maps : List ℕ
+
+abbrev pub tilesShotGives : ShotReturned → List ℕ → TilesShotReturned
+tilesShotGives shot maps = record { shot = shot; maps = maps }
+
+unfoldable pub tilesShotFace : (settings session names lengths joined table : List ℕ) → Memory → (first second third answers maps : List ℕ) → TilesShotReturned
+tilesShotFace settings session names lengths joined table memory first second third answers maps =
+    let k = tilesShotNumber settings (length session) (length names) in
+    let t = tilesShot (settingsOf settings) (shotCall (sessionOf session) (namesIn names) lengths joined table memory first second third answers) maps in
+    choose (eqb k 0) (tilesShotGives (doneReturned session names (t .shot)) (t .maps)) (tilesShotGives (shotGives (lists k session names) first second third memory answers) maps)
