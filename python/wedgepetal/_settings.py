@@ -34,9 +34,9 @@ def read_settings(text: Union[str, "os.PathLike[str]", bytes]) -> Settings:
 
     >>> wedgepetal.read_settings(b"version=1\\ntile=32\\nshot_first=3\\nshot_last=9\\n")
     Settings(tile=32, shot_first=3, shot_last=9, plane=0)
-    >>> wedgepetal.read_settings(b"version=1\\ntile=7\\nshot_first=3\\nshot_last=9\\n")
+    >>> wedgepetal.read_settings(b"version=1\\ntile=7\\nshot_first=3\\nshot_last=9\\n")  # doctest: +ELLIPSIS
     Traceback (most recent call last):
-    wedgepetal.Refused: refused by 20, the settings, their text or the version are not as they must be
+    wedgepetal.Refused: refused by 20, settings out of range, ...
     """
     data = text if isinstance(text, bytes) else Path(text).read_bytes()
     numbers = np.zeros(4, np.uint64)

@@ -95,9 +95,9 @@ def tiles(recording: Recording, settings: Settings = Settings(), *, on_refusal: 
            [1, 1, 1],
            [1, 1, 1],
            [1, 1, 1]])
-    >>> wedgepetal.tiles(recording, wedgepetal.Settings(tile=7))
+    >>> wedgepetal.tiles(recording, wedgepetal.Settings(tile=7))  # doctest: +ELLIPSIS
     Traceback (most recent call last):
-    wedgepetal.Refused: refused by 20, the settings, their text or the version are not as they must be
+    wedgepetal.Refused: refused by 20, settings out of range, ...
 
     The other choices are those of `open`. With ``on_refusal="skip"`` and ``on_gap="key-frame"`` what was refused or is
     missing stands in ``refused`` and ``gaps``.
