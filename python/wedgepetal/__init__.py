@@ -18,6 +18,7 @@ from ._frame import Frame, Kind
 from ._library import VERSION as __version__
 from ._library import version as library_version
 from ._picture import picture
+from ._report import report
 from ._session import Region, Session
 from ._settings import Settings, read_settings
 from ._shot import Shot, load, open
@@ -27,7 +28,7 @@ from ._y4m import write_y4m
 __all__ = [
     "Census", "Differs", "Fault", "Frame", "Gap", "Held", "Kind", "NoRecording", "Passes", "Refused", "Region", "Session",
     "Settings", "SeveralStreams", "Shot", "Tiles", "census", "check", "library_version", "load", "open", "picture",
-    "read_settings", "tiles", "write_y4m",
+    "read_settings", "report", "tiles", "write_y4m",
 ]
 
 # Tracebacks name exceptions as users do.

@@ -2,12 +2,12 @@
 from __future__ import annotations
 
 import os
-from pathlib import Path
 from typing import BinaryIO, Callable, Optional, Union
 
 import numpy as np
 
 from ._faults import Refused
+from ._files import whole_file
 from ._frame import Frame
 from ._library import SESSION_NUMBERS, Y4M_HEADER_BYTES, library
 from ._session import Bytes, Numbers
@@ -50,15 +50,8 @@ def write_y4m(recording: Recording, out: Output, *, on_refusal: str = "raise", o
     """
     if not isinstance(out, (str, os.PathLike)):
         return _write(recording, out, on_refusal, on_gap, stream, max_memory)
-    place = Path(out)
-    part = place.with_name(f"{place.name}.{os.getpid()}.part")
-    try:
-        with part.open("wb") as file:
-            count = _write(recording, file, on_refusal, on_gap, stream, max_memory)
-        part.replace(place)
-    finally:
-        part.unlink(missing_ok=True)
-    return count
+    with whole_file(out) as file:
+        return _write(recording, file, on_refusal, on_gap, stream, max_memory)
 
 
 def _write(recording: Recording, out: BinaryIO, on_refusal: str, on_gap: str, stream: Optional[int],

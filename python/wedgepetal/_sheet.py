@@ -1,0 +1,94 @@
+"""What is said of a shot on its page, in one pass over its frames."""
+from __future__ import annotations
+
+from typing import List, NamedTuple, Optional
+
+import numpy as np
+
+from ._faults import Gap, Refused
+from ._frame import Frame, Kind
+from ._session import Bytes, Session
+from ._settings import Settings
+from ._shot import Recording, open
+
+MOST_THUMBNAILS = 16
+THUMBNAIL_WIDTH = 240
+
+
+class Line(NamedTuple):
+    """An accepted packet."""
+
+    packet: int
+    position: int
+    time: float
+    kind: Kind
+    tokens: int
+    changed: int
+    """How many tiles changed."""
+
+
+class Thumbnail(NamedTuple):
+    """A frame in small."""
+
+    number: int
+    time: float
+    picture: Bytes
+
+
+class Sheet:
+    """A shot, frame by frame."""
+
+    session: Session
+    memory: int
+    refused: List[Refused]
+    gaps: List[Gap]
+    notes: List[str]
+
+    def __init__(self, recording: Recording, settings: Settings, colour_space: Optional[int], stream: Optional[int],
+                 max_memory: Optional[int]) -> None:
+        self.settings = settings
+        self.lines: List[Line] = []
+        self.thumbnails: List[Thumbnail] = []
+        self._every = 1
+        with open(recording, held="refuse", on_refusal="skip", on_gap="key-frame", stream=stream, max_memory=max_memory,
+                  tiles=settings) as shot:
+            self.session, self.memory, self.rate = shot.session, shot.memory, shot.rate
+            cs = shot.session.cs if colour_space is None else colour_space
+            self.colour_space = cs if cs in (1, 2) else None
+            """By which thumbnails are in colour; else they are luma alone."""
+            self.count = np.zeros(shot._decoder.tile_rows_and_columns, np.int64)
+            """In how many frames each tile changed, the top row first."""
+            for frame in shot:
+                self._take(frame)
+            self.refused, self.gaps, self.notes = shot.refused, shot.gaps, shot.notes
+
+    def _take(self, frame: Frame) -> None:
+        assert frame.changed is not None
+        self.count += frame.changed
+        changed = int(np.count_nonzero(frame.changed))
+        self.lines.append(Line(frame.packet, frame.position, frame.time, frame.kind, frame.tokens, changed))
+        if frame.number % self._every == 0:
+            self.thumbnails.append(Thumbnail(frame.number, frame.time, self._small(frame)))
+        if len(self.thumbnails) > MOST_THUMBNAILS:  # every second one goes
+            del self.thumbnails[1::2]
+            self._every *= 2
+
+    def _small(self, frame: Frame) -> Bytes:
+        """Every so many samples across and down, as they are."""
+        step = -(-frame.y.shape[1] // THUMBNAIL_WIDTH)
+        whole = frame.y if self.colour_space is None else frame.rgb(self.colour_space)
+        return whole[::step, ::step].copy()
+
+    @property
+    def tiles(self) -> int:
+        """How many tiles a frame has."""
+        return int(self.count.size)
+
+    def of_kind(self, kind: Kind) -> int:
+        """How many frames are of a kind."""
+        return sum(line.kind is kind for line in self.lines)
+
+    @property
+    def is_whole(self) -> bool:
+        """Whether nothing was refused and nothing is missing."""
+        return not (self.refused or self.gaps or self.notes)
