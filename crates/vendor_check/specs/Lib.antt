@@ -1,0 +1,2 @@
+-- Check: the call. Claims: what is promised of it.
+pub mod Check

@@ -1,0 +1,274 @@
+// The vendor's file, checked: two headers and packets are decoded, and a file is compared with the stream of their frames.
+use bitstream::End;
+use buffer_names::Names;
+use checked_packets::Watched;
+use headers::IdentificationAnswer;
+use headers::Session;
+use setup::LoadedSetup;
+use setup::SetupAnswer;
+ghost use mathlib.Core.Path.{_≡_};
+ghost use mathlib.Core.Bool.{true};
+ghost use lib.ListN.{length};
+ghost use Rattle.headers.specs.Fits.{sessionFits};
+ghost use Rattle.work_memory.specs.Memory.{memory};
+ghost use Rattle.shot_packets.specs.Inner.{TableLoaded};
+ghost use Rattle.shot.specs.Call.{shotCall, lentNumber};
+ghost use Rattle.stream_check.specs.Compared.{onward, beginning};
+ghost use Rattle.y4m.specs.Stream.{numbersOf, headerText};
+ghost use Rattle.vendor_check.specs.Check.{begunBy, saidBy, lent, checkDone, ShotChecked, checkLeft, checked};
+
+// The file is what it must be; the first byte at which it differs; or the number of the first refusal and its place.
+pub enum CheckAnswer {
+    Passes,
+    Differs(u64),
+    Refused(u32, usize),
+}
+
+// The header of a session's stream compared, before the first packet.
+fn begin(s: Session, file: &[u8]) -> Watched
+    requires { ⌜ sessionFits s ≡ true ⌝ }
+    ensures { λ r. ⌜ (r ≡ begunBy s (now (file .entry))) × (r .compared .place ≤ length (now (file .entry))) ⌝ }
+{
+    let compared = stream_check::compare_header(s, file);
+    Watched {
+        compared,
+        refused: false,
+        number: 0,
+        bit: 0,
+    }
+}
+
+// What is answered after the last packet: a refusal wins over any difference, and a file with more bytes differs where they begin.
+fn conclude(w: Watched, file: &[u8]) -> CheckAnswer
+    ensures { λ r. ⌜ r ≡ saidBy w (now (file .entry)) ⌝ }
+{
+    if w.refused {
+        return CheckAnswer::Refused(w.number, w.bit);
+    }
+    let compared = w.compared;
+    if compared.differs {
+        return CheckAnswer::Differs(compared.place as u64);
+    }
+    if compared.place < file.len() {
+        return CheckAnswer::Differs(compared.place as u64);
+    }
+    CheckAnswer::Passes
+}
+
+// A check whose lent lengths passed their tests, by the setup that table memory holds.
+fn check_loaded(
+    s: Session,
+    names: Names,
+    lengths: &[u64],
+    packets: &[u8],
+    file: &[u8],
+    table: &[u8],
+    loaded: LoadedSetup,
+    records: &mut [u32],
+    coded: &mut [u64],
+    coefs: &mut [i16],
+    dc: &mut [i16],
+    lasts: &mut [u8],
+    flags: &mut [u8],
+    bits: &mut [u8],
+    supers: &mut [u8],
+    modes: &mut [u8],
+    active: &mut [u64],
+    first: &mut [u8],
+    second: &mut [u8],
+    third: &mut [u8],
+    answers: &mut [u64],
+) -> CheckAnswer
+    requires { ⌜ (lentNumber (shotCall s names (now lengths) (now packets) (now table) (memory (now records) (now coded) (now coefs) (now dc) (now lasts) (now flags) (now bits) (now supers) (now modes) (now active)) (now first) (now second) (now third) (now answers)) ≡ 0) × TableLoaded (now table) loaded ⌝ }
+    ensures { λ r. ⌜ ShotChecked (shotCall s names (now (lengths .entry)) (now (packets .entry)) (now (table .entry)) (memory (now (records .entry)) (now (coded .entry)) (now (coefs .entry)) (now (dc .entry)) (now (lasts .entry)) (now (flags .entry)) (now (bits .entry)) (now (supers .entry)) (now (modes .entry)) (now (active .entry))) (now (first .entry)) (now (second .entry)) (now (third .entry)) (now (answers .entry))) (now (file .entry))
+        (checkDone r (now (first .exit)) (now (second .exit)) (now (third .exit)) (memory (now (records .exit)) (now (coded .exit)) (now (coefs .exit)) (now (dc .exit)) (now (lasts .exit)) (now (flags .exit)) (now (bits .exit)) (now (supers .exit)) (now (modes .exit)) (now (active .exit))) (now (answers .exit))) ⌝ }
+{
+    let reach = packet_list::lengths_reach(lengths, packets.len() as u64);
+    if !reach {
+        return CheckAnswer::Refused(bitstream::PAST_PACKETS, 0);
+    }
+    let begun = begin(s, file);
+    if lengths.len() == 0 {
+        return conclude(begun, file);
+    }
+    let both = buffer_names::names_of(s, names);
+    work_memory::clear_memory(
+        records,
+        coded,
+        coefs,
+        dc,
+        lasts,
+        flags,
+        bits,
+        supers,
+        modes,
+        active,
+    );
+    let seen = checked_packets::check_packets(
+        s,
+        both,
+        lengths,
+        packets,
+        file,
+        begun,
+        table,
+        loaded,
+        records,
+        coded,
+        coefs,
+        dc,
+        lasts,
+        flags,
+        bits,
+        supers,
+        modes,
+        active,
+        first,
+        second,
+        third,
+        answers,
+    );
+    conclude(seen, file)
+}
+
+// A check from a session on: request 6's call, and the file compared.
+fn check_shot(
+    s: Session,
+    names: Names,
+    lengths: &[u64],
+    packets: &[u8],
+    file: &[u8],
+    table: &[u8],
+    records: &mut [u32],
+    coded: &mut [u64],
+    coefs: &mut [i16],
+    dc: &mut [i16],
+    lasts: &mut [u8],
+    flags: &mut [u8],
+    bits: &mut [u8],
+    supers: &mut [u8],
+    modes: &mut [u8],
+    active: &mut [u64],
+    first: &mut [u8],
+    second: &mut [u8],
+    third: &mut [u8],
+    answers: &mut [u64],
+) -> CheckAnswer
+    ensures { λ r. ⌜ ShotChecked (shotCall s names (now (lengths .entry)) (now (packets .entry)) (now (table .entry)) (memory (now (records .entry)) (now (coded .entry)) (now (coefs .entry)) (now (dc .entry)) (now (lasts .entry)) (now (flags .entry)) (now (bits .entry)) (now (supers .entry)) (now (modes .entry)) (now (active .entry))) (now (first .entry)) (now (second .entry)) (now (third .entry)) (now (answers .entry))) (now (file .entry))
+        (checkDone r (now (first .exit)) (now (second .exit)) (now (third .exit)) (memory (now (records .exit)) (now (coded .exit)) (now (coefs .exit)) (now (dc .exit)) (now (lasts .exit)) (now (flags .exit)) (now (bits .exit)) (now (supers .exit)) (now (modes .exit)) (now (active .exit))) (now (answers .exit))) ⌝ }
+{
+    let k = shot::lent_number(
+        s,
+        names,
+        lengths,
+        packets,
+        table,
+        records,
+        coded,
+        coefs,
+        dc,
+        lasts,
+        flags,
+        bits,
+        supers,
+        modes,
+        active,
+        first,
+        second,
+        third,
+        answers,
+    );
+    if k != 0 {
+        return CheckAnswer::Refused(k, 0);
+    }
+    let held = setup::load_table(table);
+    let place = held.place;
+    match place {
+        End::Refused(_, _) => CheckAnswer::Refused(bitstream::NOT_GENUINE, 0),
+        End::At(_) => check_loaded(
+            s,
+            names,
+            lengths,
+            packets,
+            file,
+            table,
+            held.setup,
+            records,
+            coded,
+            coefs,
+            dc,
+            lasts,
+            flags,
+            bits,
+            supers,
+            modes,
+            active,
+            first,
+            second,
+            third,
+            answers,
+        ),
+    }
+}
+
+// Checks a file against two headers and packets: whether it is the stream of their frames.
+pub fn check(
+    identification: &[u8],
+    setup: &[u8],
+    lengths: &[u64],
+    packets: &[u8],
+    file: &[u8],
+    table: &mut [u8],
+    records: &mut [u32],
+    coded: &mut [u64],
+    coefs: &mut [i16],
+    dc: &mut [i16],
+    lasts: &mut [u8],
+    flags: &mut [u8],
+    bits: &mut [u8],
+    supers: &mut [u8],
+    modes: &mut [u8],
+    active: &mut [u64],
+    first: &mut [u8],
+    second: &mut [u8],
+    third: &mut [u8],
+    answers: &mut [u64],
+) -> CheckAnswer
+    ensures { λ r. ⌜ checkLeft r (now (table .exit)) (now (first .exit)) (now (second .exit)) (now (third .exit)) (memory (now (records .exit)) (now (coded .exit)) (now (coefs .exit)) (now (dc .exit)) (now (lasts .exit)) (now (flags .exit)) (now (bits .exit)) (now (supers .exit)) (now (modes .exit)) (now (active .exit))) (now (answers .exit))
+        ≡ checked (now (identification .entry)) (now (setup .entry)) (now (file .entry)) (lent (now (lengths .entry)) (now (packets .entry)) (now (table .entry)) (memory (now (records .entry)) (now (coded .entry)) (now (coefs .entry)) (now (dc .entry)) (now (lasts .entry)) (now (flags .entry)) (now (bits .entry)) (now (supers .entry)) (now (modes .entry)) (now (active .entry))) (now (first .entry)) (now (second .entry)) (now (third .entry)) (now (answers .entry))) ⌝ }
+{
+    match theora::identification(identification) {
+        IdentificationAnswer::Refused(k, e) => CheckAnswer::Refused(k, e),
+        IdentificationAnswer::Accepted(s) => match theora::setup(setup, table) {
+            SetupAnswer::Refused(k, e) => CheckAnswer::Refused(k, e),
+            SetupAnswer::Accepted => {
+                let names = Names {
+                    golden: 3,
+                    previous: 3,
+                };
+                check_shot(
+                    s,
+                    names,
+                    lengths,
+                    packets,
+                    file,
+                    table,
+                    records,
+                    coded,
+                    coefs,
+                    dc,
+                    lasts,
+                    flags,
+                    bits,
+                    supers,
+                    modes,
+                    active,
+                    first,
+                    second,
+                    third,
+                    answers,
+                )
+            }
+        },
+    }
+}
