@@ -10,7 +10,7 @@ import numpy as np
 from . import _library as lib
 from ._faults import NoRecording, Refused
 from ._lent import Work, need
-from ._library import library, lists
+from ._library import call
 from ._session import identification, sizes
 from ._shot import Recording
 from ._whole import Whole
@@ -155,7 +155,7 @@ def _census(recording: Recording, stream: Optional[int], max_memory: Optional[in
     if not len(whole):
         raise NoRecording(f"there is no Theora stream{'' if stream is None else f' {stream}'}")
     try:
-        session = identification(whole.headers[0])[1]
+        session = identification(whole.first)[1]
         work, buffer = Work(session), sizes(session).buffer
         need(3 * buffer + work.bytes + lib.TABLE_BYTES, max_memory)
         slices = work.lend()
@@ -163,7 +163,7 @@ def _census(recording: Recording, stream: Optional[int], max_memory: Optional[in
         buffer, slices = 0, Work.none()
     report = np.zeros(REPORT_NUMBERS, np.uint64)
     table, *buffers = (np.zeros(length, np.uint8) for length in (lib.TABLE_BYTES, buffer, buffer, buffer))
-    number = library.wedgepetal_census(*lists(whole.lengths(), whole.bytes(), report, table, *slices, *buffers))
+    number = call("census", whole.lengths, bytes(whole.packets), report, table, *slices, *buffers)
     if number:
         raise Refused(number)
     return Census(tuple(int(n) for n in report), 1, whole.gaps, whole.notes)

@@ -5,17 +5,14 @@ import mmap
 import os
 from dataclasses import dataclass
 from pathlib import Path
-from typing import Optional, Union
+from typing import List, Optional, Union
 
 import numpy as np
 
 from . import _library as lib
-from ._faults import Gap, NoRecording, Refused
-from ._lent import Work, need
-from ._library import library, lists
-from ._session import Bytes, Numbers, identification, sizes
-from ._shot import Recording
-from ._whole import Whole
+from ._faults import Gap, Refused
+from ._session import Bytes, Numbers, sizes
+from ._shot import Recording, open
 from ._y4m import header
 
 FRAME_LINE = 6
@@ -69,28 +66,21 @@ def check(recording: Recording, film: Union[str, "os.PathLike[str]", bytes], *, 
     >>> data = bytearray(film.read_bytes())
     >>> data[10_000] ^= 1
     >>> print(wedgepetal.check(recording, bytes(data)))
-    differs at byte 10,000: frame 1, Cb, column 19, row 13 from the top
+    differs at byte 10,000: frame 1, Cb, column 11, row 14 from the top
 
     A packet that is refused raises `Refused`, a missing one `Gap`. The other choices are those of `open`.
     """
-    whole = Whole(recording, stream)
-    if whole.gaps:
-        raise Gap(whole.gaps[0], len(whole), 0.0)
-    if len(whole) < 3:
-        raise NoRecording("it ends before its first frame")
-    _, session = identification(whole.headers[0])
-    sizes_, work = sizes(session), Work(session)
-    need(3 * sizes_.buffer + work.bytes + lib.TABLE_BYTES, max_memory)
-    table, *buffers = (np.zeros(n, np.uint8) for n in (lib.TABLE_BYTES, *(3 * [sizes_.buffer])))
-    answers, found = np.zeros((len(whole) - 3, lib.ANSWER_NUMBERS), np.uint64), np.zeros(2, np.uint64)
-    with _Mapped(film) as file:
-        number = library.wedgepetal_check(
-            *lists(np.frombuffer(whole.headers[0], np.uint8), np.frombuffer(whole.headers[2], np.uint8)),
-            *lists(whole.lengths(3), whole.bytes(3), file, table, *work.lend(), *buffers, answers, found),
-        )
+    packets: List[bytes] = []
+    with open(recording, stream=stream, max_memory=max_memory) as shot:
+        for item in shot._coming:
+            if isinstance(item, Gap):
+                raise item
+            packets.append(item.bytes)
+        number, place, differs, answers = shot._decoder.check(*shot._headers, packets, _mapped(film))
     if number:
-        raise Refused(number, int(found[1]), _packet(answers, number))
-    return _place(int(found[1]), session, int(np.count_nonzero(answers[:, lib.NUMBER] == 0))) if found[0] else Passes()
+        raise Refused(number, place, _packet(answers, number))
+    frames = int(np.count_nonzero(answers[:, lib.NUMBER] == 0))
+    return _place(place, shot._decoder.session, frames) if differs else Passes()
 
 
 def _packet(answers: Numbers, number: int) -> Optional[int]:
@@ -114,19 +104,11 @@ def _place(byte: int, session: Numbers, frames: int) -> Differs:
     return Differs(byte, frame, plane, place % width, place // width)
 
 
-class _Mapped:
-    """A file's bytes, mapped and not read; or bytes as they are."""
-
-    def __init__(self, file: Union[str, "os.PathLike[str]", bytes]) -> None:
-        self._file = file
-
-    def __enter__(self) -> Bytes:
-        if isinstance(self._file, bytes):
-            return np.frombuffer(self._file, np.uint8)
-        with Path(self._file).open("rb") as opened:
-            if os.fstat(opened.fileno()).st_size == 0:
-                return np.zeros(0, np.uint8)
-            return np.frombuffer(mmap.mmap(opened.fileno(), 0, access=mmap.ACCESS_READ), np.uint8)
-
-    def __exit__(self, *_: object) -> None:
-        """The map goes with its last view."""
+def _mapped(film: Union[str, "os.PathLike[str]", bytes]) -> Bytes:
+    """A file's bytes, mapped and not read; or bytes as they are. The map goes with its last view."""
+    if isinstance(film, bytes):
+        return np.frombuffer(film, np.uint8)
+    with Path(film).open("rb") as opened:
+        if os.fstat(opened.fileno()).st_size == 0:
+            return np.zeros(0, np.uint8)
+        return np.frombuffer(mmap.mmap(opened.fileno(), 0, access=mmap.ACCESS_READ), np.uint8)

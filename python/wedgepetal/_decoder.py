@@ -10,7 +10,7 @@ from . import _library as lib
 from ._faults import Held, Refused
 from ._frame import Kind, Lease, Map
 from ._lent import Work, need
-from ._library import library, lists
+from ._library import call
 from ._session import Bytes, Numbers, Sizes, sizes
 from ._settings import Settings, map_length, numbers
 
@@ -72,7 +72,7 @@ class Decoder:
     def _read_setup(setup: bytes) -> Bytes:
         table = np.zeros(lib.TABLE_BYTES, np.uint8)
         place = np.zeros(1, np.uint64)
-        number = library.wedgepetal_setup(setup, len(setup), *lists(table, place))
+        number = call("setup", setup, table, place)
         if number:
             raise Refused(number, int(place[0]))
         return table
@@ -112,19 +112,27 @@ class Decoder:
         lengths = np.array([len(packet) for packet in packets], np.uint64)
         joined = packets[0] if len(packets) == 1 else b"".join(packets)
         answers = np.zeros((len(packets), lib.ANSWER_NUMBERS), np.uint64)
-        before = lists(self.session, self._names, lengths)
-        behind = lists(self._table, *self._work, *(buffer.memory for buffer in self._buffers), answers)
-        maps: Optional[Bytes] = None
+        buffers = (buffer.memory for buffer in self._buffers)
+        given = (self.session, self._names, lengths, joined, self._table, *self._work, *buffers, answers)
         if self._tiles is None:
-            number = library.wedgepetal_shot(*before, joined, len(joined), *behind)
+            maps, number = None, call("shot", *given)
         else:
             maps = np.zeros((len(packets), *self._tiles.shape), np.uint8)
-            number = library.wedgepetal_tiles_shot(
-                *lists(self._tiles.settings), *before, joined, len(joined), *behind, *lists(maps)
-            )
+            number = call("tiles_shot", self._tiles.settings, *given, maps)
         if number:
             raise Refused(number)
         return answers, None if maps is None else maps[:, ::-1].view(np.bool_)
+
+    def check(self, first: bytes, setup: bytes, packets: Sequence[bytes], film: Bytes) -> Tuple[int, int, bool, Numbers]:
+        """Compares a film with what the packets give: the number of the refusal, its place or the first byte that differs,
+        whether one does, and the answer of each packet. No frame may be viewed meanwhile."""
+        lengths = np.array([len(packet) for packet in packets], np.uint64)
+        answers = np.zeros((len(packets), lib.ANSWER_NUMBERS), np.uint64)
+        found = np.zeros(2, np.uint64)
+        buffers = (buffer.memory for buffer in self._buffers)
+        number = call("check", first, setup, lengths, b"".join(packets), film, self._table, *self._work, *buffers, answers,
+                      found)
+        return number, int(found[1]), bool(found[0]), answers
 
 
 class Tiling:

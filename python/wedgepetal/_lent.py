@@ -8,7 +8,7 @@ import numpy.typing as npt
 
 from . import _library as lib
 from ._faults import Refused
-from ._library import library, lists
+from ._library import call
 from ._memory import free
 from ._session import Numbers
 
@@ -21,7 +21,7 @@ class Work:
 
     def __init__(self, session: Numbers) -> None:
         self._lengths = np.zeros(lib.LENGTH_NUMBERS, np.uint64)
-        number = library.wedgepetal_work_lengths(*lists(session, self._lengths))
+        number = call("work_lengths", session, self._lengths)
         if number:
             raise Refused(number)
         self.bytes = int(self._lengths[lib.WORK_BYTES])

@@ -4,8 +4,9 @@ from __future__ import annotations
 import ctypes
 import os
 from pathlib import Path
-from typing import Any, Dict, Iterator, List, Tuple
+from typing import Any, Dict, Iterator, List, Tuple, Union
 
+import numpy as np
 import numpy.typing as npt
 
 VERSION = "0.1.0"
@@ -85,9 +86,10 @@ def _load() -> ctypes.CDLL:
 library = _load()
 
 
-def lists(*arrays: npt.NDArray[Any]) -> List[int]:
-    """Arrays as the library takes them: a pointer and a length each."""
-    return [number for array in arrays for number in (array.ctypes.data, array.size)]
+def call(name: str, *lists: Union[npt.NDArray[Any], bytes]) -> int:
+    """Calls the library with lists, each as a pointer and a length; they are held on to meanwhile."""
+    arrays = [np.frombuffer(given, np.uint8) if isinstance(given, bytes) else given for given in lists]
+    return int(getattr(library, f"wedgepetal_{name}")(*(n for array in arrays for n in (array.ctypes.data, array.size))))
 
 
 def text(number: int) -> str:

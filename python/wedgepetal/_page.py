@@ -58,12 +58,15 @@ def facts(pairs: Iterable[Tuple[str, Cell]]) -> str:
 def table(heads: Sequence[str], rows: Iterable[Sequence[Cell]], links: bool = False) -> str:
     """Rows under their heads. Whole numbers stand at the right; with links the first cell is an address too."""
     body = []
+    numeric: Tuple[bool, ...] = ()
     for row in rows:
+        numeric = tuple(isinstance(cell, int) for cell in row)
         cells = [f'<td class="n">{cell:,}</td>' if isinstance(cell, int) else f"<td>{text(cell)}</td>" for cell in row]
         if links:
             cells[0] = f'<td><a href="{html.escape(str(row[0]))}">{text(row[0])}</a></td>'
         body.append(f"<tr>{''.join(cells)}</tr>")
-    head = "".join(f"<th>{text(name)}</th>" for name in heads)
+    right = numeric or (False,) * len(heads)
+    head = "".join(f'<th{" class=n" if number else ""}>{text(name)}</th>' for name, number in zip(heads, right))
     return f'<table class="table"><thead><tr>{head}</tr></thead><tbody>{"".join(body)}</tbody></table>'
 
 
@@ -75,15 +78,17 @@ def lane(name: str, shares: Floats, colour: str) -> str:
             f'viewBox="0 0 {len(shares)} 1" preserveAspectRatio="none" fill="{colour}">{"".join(boxes)}</svg>')
 
 
-def chart(name: str, top: str, most: Floats, mean: Floats, high: float, colour: str) -> str:
-    """Bars over time: the mean of each bin, and paler its most. Bins without a frame are nan."""
-    boxes: List[str] = []
+def chart(name: str, ends: Tuple[str, str], most: Floats, mean: Floats, high: float, colour: str) -> str:
+    """Bars over time, their heights as square roots: the mean of each bin, and paler its most. What stands at the top, and
+    in the middle, where a quarter of it is."""
+    boxes: List[str] = ['<rect x="0" y="50" width="100%" height="0.7" fill="#d9dce0"/>']
     for values, opacity in ((most, 0.35), (mean, 1.0)):
         for x, value in enumerate(values):
             if value > 0:
-                tall = 100 * min(value / high, 1.0)
+                tall = 100 * min(value / high, 1.0) ** 0.5
                 boxes.append(f'<rect x="{x}" y="{100 - tall:.2f}" width="1.02" height="{tall:.2f}" opacity="{opacity}"/>')
-    return (f'<span class="ends"><span>{text(top)}</span><span>{text(name)}</span><span>0</span></span>'
+    top, quarter = ends
+    return (f'<span class="ends"><span>{text(top)}</span><span>{text(name)}<br>{text(quarter)}</span><span>0</span></span>'
             f'<svg class="chart" role="img" aria-label="{text(name)}" viewBox="0 0 {len(mean)} 100" '
             f'preserveAspectRatio="none" fill="{colour}">{"".join(boxes)}</svg>')
 
@@ -98,11 +103,10 @@ def over_time(*parts: str) -> str:
     return f'<div class="time">{"".join(parts)}</div>'
 
 
-def heat_map(counts: npt.NDArray[np.int64], most: int, words: str) -> str:
-    """Numbers as a picture, from 0 to the most there can be."""
-    palette = _ramp(256)
-    levels = (counts * 255 + most // 2) // max(most, 1)
-    picture = in_page(png(levels, palette))
+def heat_map(counts: npt.NDArray[np.int64], words: str) -> str:
+    """Numbers as a picture, from 0 to the highest."""
+    most = max(int(counts.max(initial=0)), 1)
+    picture = in_page(png((counts * 255 + most // 2) // most, _ramp(256)))
     stops = ", ".join(f"rgb{colour}" for colour in CIVIDIS)
     return (f'<div class="heat"><img alt="{text(words)}" src="{picture}">'
             f'<div class="ramp" style="background: linear-gradient(to right, {stops})"></div>'

@@ -123,16 +123,16 @@ def _time(sheet: Sheet) -> str:
     return html.section(
         "Over time",
         html.over_time(
-            html.lane("key frames", (key > 0).astype(float), "var(--orange)"),
-            html.lane("inter frames", inter, "var(--sky)"),
-            html.lane("repeats", repeat, "var(--grey)"),
+            html.lane("key", (key > 0).astype(float), "var(--orange)"),
+            html.lane("inter", inter, "var(--sky)"),
+            html.lane("repeat", repeat, "var(--grey)"),
             html.lane("missing", missing, "var(--rose)") if sheet.gaps else "",
-            html.chart("changed tiles", "100 %", *share, 1.0, "var(--blue)"),
-            html.chart("tokens", f"{most:,}", *tokens, max(most, 1), "var(--orange)"),
+            html.chart("changed tiles", ("100 %", "25 %"), *share, 1.0, "var(--blue)"),
+            html.chart("tokens", (f"{most:,}", f"{most / 4:,.0f}"), *tokens, max(most, 1), "var(--orange)"),
             html.axis(f"{end * part / 4:.1f} s" for part in range(5)),
         ),
         html.soft(f"Share of the {sheet.tiles:,} tiles in which some sample differs from the frame before, and coefficient "
-                  f"tokens of each packet.{each}"),
+                  f"tokens of each packet; heights are square roots.{each}"),
     )
 
 
@@ -146,9 +146,9 @@ def _binned(where: "np.typing.NDArray[np.int64]", values: List[float], bins: int
 
 def _heat(sheet: Sheet) -> str:
     side, plane = sheet.settings.tile, _PLANES[sheet.settings.plane]
-    words = (f"In how many frames each tile changed: {side} × {side} samples of {plane}, over the whole coded frame. The first "
+    words = (f"In how many of the {len(sheet.lines):,} frames each tile changed: {side} × {side} samples of {plane}, over the whole coded frame. The first "
              "frame, and the first behind a gap, count for every tile.")
-    return html.section("Where it changes", html.heat_map(sheet.count, len(sheet.lines), words), html.soft(words))
+    return html.section("Where it changes", html.heat_map(sheet.count, words), html.soft(words))
 
 
 def _packets(counted: Census) -> str:

@@ -8,7 +8,7 @@ from typing import NamedTuple, Union
 import numpy as np
 
 from ._faults import Refused
-from ._library import library, lists
+from ._library import call, library
 from ._session import Numbers
 
 
@@ -40,7 +40,7 @@ def read_settings(text: Union[str, "os.PathLike[str]", bytes]) -> Settings:
     """
     data = text if isinstance(text, bytes) else Path(text).read_bytes()
     numbers = np.zeros(4, np.uint64)
-    number = library.wedgepetal_settings_read(2, data, len(data), *lists(numbers))
+    number = library.wedgepetal_settings_read(2, data, len(data), numbers.ctypes.data, numbers.size)
     if number:
         raise Refused(number)
     return Settings(*(int(n) for n in numbers))
@@ -56,7 +56,7 @@ def numbers(settings: Settings) -> Numbers:
 def map_length(settings: Numbers, session: Numbers) -> int:
     """How many tiles a map has."""
     length = np.zeros(1, np.uint64)
-    number = library.wedgepetal_tiles_length(*lists(settings, session, length))
+    number = call("tiles_length", settings, session, length)
     if number:
         raise Refused(number)
     return int(length[0])

@@ -100,6 +100,7 @@ class Shot(Iterator[Frame]):
             self._clock = Clock(self.session)
             self._decoder = _of_packet(2, lambda: Decoder(numbers, setup, held == "keep", max_memory, tiles))
             self.memory = self._decoder.memory
+            self._headers = first, setup
             self._coming = self._items()
         except BaseException:
             self.close()

@@ -19,8 +19,8 @@ class Whole:
         """Where packets are missing."""
         self.notes: List[str] = []
         """What belongs to no stream."""
-        self.headers: List[bytes] = []
-        """The first three packets, or fewer."""
+        self.first = b""
+        """The first packet."""
         self._lengths: List[int] = []
         self.packets = bytearray()
         """All packets, one behind the other."""
@@ -41,18 +41,15 @@ class Whole:
                 file.close()
 
     def _take(self, packet: bytes) -> None:
-        if len(self.headers) < 3:
-            self.headers.append(packet)
+        if not self._lengths:
+            self.first = packet
         self._lengths.append(len(packet))
         self.packets += packet
 
     def __len__(self) -> int:
         return len(self._lengths)
 
-    def lengths(self, first: int = 0) -> Numbers:
-        """The lengths of the packets from this one on."""
-        return np.array(self._lengths[first:], np.uint64)
-
-    def bytes(self, first: int = 0) -> "np.typing.NDArray[np.uint8]":
-        """The bytes of the packets from this one on."""
-        return np.frombuffer(self.packets, np.uint8)[sum(self._lengths[:first]) :]
+    @property
+    def lengths(self) -> Numbers:
+        """The lengths of the packets."""
+        return np.array(self._lengths, np.uint64)
