@@ -24,6 +24,8 @@ use Rattle.tokens.specs.Tokens.{Tokens, readTokens}
 pub record Body : Type 0 where
   -- the raster numbers of the coded blocks, in coded order. A block's place in this list is its rank
   pub coded : List ℕ
+  -- the mode of each macro block, in coded order; none in an intra frame or a repeat
+  pub modes : List ℕ
   -- each block's record, by raster number
   pub records : List BlockRecord
   -- the coefficients and the last visits of the coded blocks, by rank, and how many tokens were read
@@ -45,18 +47,23 @@ module _ (f : PixelFormat) (w h : ℕ) where
   unfoldable pub flagsOf : Kind → Parse (List ℕ)
   flagsOf kind = pick (isIntra kind) (pure (intraFlags f w h)) (interFlags f w h)
 
-  -- "Modes (inter)", then "Vectors (inter)": the records of the coded blocks get their predictions; those of an intra frame have none
-  unfoldable pub predictions : Kind → List ℕ → List BlockRecord → Parse (List BlockRecord)
-  predictions kind flags rs = pick (isIntra kind) (pure rs) (bind (macroModes flags (macroBlocksOf w h)) (λ modes. vectors f w h modes rs))
+  -- "Modes (inter)": an intra frame sends none
+  unfoldable pub modesOf : Kind → List ℕ → Parse (List ℕ)
+  modesOf kind flags = pick (isIntra kind) (pure []) (macroModes flags (macroBlocksOf w h))
+
+  -- "Vectors (inter)": the records of the coded blocks get their predictions; those of an intra frame have none
+  unfoldable pub vectorsOf : Kind → List ℕ → List BlockRecord → Parse (List BlockRecord)
+  vectorsOf kind modes rs = pick (isIntra kind) (pure rs) (vectors f w h modes rs)
 
   -- what stands behind the header of a frame with so many qi: coded flags, modes and vectors, "Block qi", "Tokens"
   unfoldable pub body : List Tree → Kind → ℕ → Parse Body
   body trees kind qis = do
     flags ← flagsOf kind
-    predicted ← predictions kind flags (codedRecords f w h flags)
+    modes ← modesOf kind flags
+    predicted ← vectorsOf kind modes (codedRecords f w h flags)
     records ← blockQi qis (codedBlocks f w h flags) predicted
     t ← readTokens trees (codedLuma f w h flags) (length (codedBlocks f w h flags))
-    pure (record { coded = codedBlocks f w h flags; records = records; tokens = t })
+    pure (record { coded = codedBlocks f w h flags; modes = modes; records = records; tokens = t })
 
   -- a packet that is not empty; trees are the setup's, references says whether there are references
   unfoldable pub frame : List Tree → Bool → Parse Frame
@@ -69,7 +76,7 @@ module _ (f : PixelFormat) (w h : ℕ) where
   abbrev pub repeatFrame : Frame
   repeatFrame = record {
     header = record { kind = Repeat; qis = [] };
-    body = record { coded = []; records = replicate (blocksOf f w h) uncoded; tokens = record { coefs = []; lasts = []; tokens = 0 } };
+    body = record { coded = []; modes = []; records = replicate (blocksOf f w h) uncoded; tokens = record { coefs = []; lasts = []; tokens = 0 } };
   }
 
   -- a whole packet. "9 comes at the frame type bit (at once if empty)"

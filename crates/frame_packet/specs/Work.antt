@@ -5,7 +5,7 @@ use mathlib.Core.List.{List, _++_, map}
 use lib.IntN.{ℤ, pos}
 use lib.ListN.{length, drop, replicate}
 use Rattle.bitstream.specs.Answer.{IfGot}
-use Rattle.bitstream.specs.Reading.{Outcome, got, refused}
+use Rattle.bitstream.specs.Reading.{Outcome, got, refused, Parse, bind}
 use Rattle.geometry.specs.declared.PixelFormat.{PixelFormat}
 use Rattle.geometry.specs.Sizes.{blocksOf, superBlocksOf, macroBlocksOf}
 use Rattle.block_record.specs.Packed.{packed}
@@ -14,7 +14,9 @@ use Rattle.coded_flags.specs.Coded.{codedBlocks, codedLuma, codedRecords}
 use Rattle.tokens.specs.Tokens.{Tokens}
 use Rattle.work_memory.specs.Memory.{Work}
 use Rattle.work_memory.specs.Lengths.{published, cleared}
-use Rattle.frame_packet.specs.Frame.{Body, Frame}
+use Rattle.block_record.specs.declared.BlockRecord.{BlockRecord}
+use Rattle.frame_header.specs.declared.Kind.{Kind}
+use Rattle.frame_packet.specs.Frame.{Body, Frame, modesOf, vectorsOf}
 use Rattle.frame_packet.specs.declared.Read.{Read}
 use Rattle.frame_packet.specs.declared.Read.the-variants.{Whole, Refused}
 use Rattle.frame_packet.specs.declared.FrameRead.{FrameRead}
@@ -26,9 +28,9 @@ abbrev pub padded : {A : Type 0} → A → ℕ → List A → List A
 padded zero n l = l ++ replicate (n - length l) zero
 
 module _ (f : PixelFormat) (w h : ℕ) where
-  -- what was read, with zeros behind it; the scratch is all zero
-  abbrev pub holding : Body → Work
-  holding b = record {
+  -- what was read of the blocks, with zeros behind it, and these modes; the scratch is all zero
+  abbrev pub holdingWith : List ℕ → Body → Work
+  holdingWith modes b = record {
     records = map packed (b .records);
     coded = padded 0 (blocksOf f w h) (b .coded);
     coefs = padded (pos 0) (64 * blocksOf f w h) (b .tokens .coefs);
@@ -36,14 +38,26 @@ module _ (f : PixelFormat) (w h : ℕ) where
     flags = replicate (blocksOf f w h) 0;
     bits = replicate (blocksOf f w h) 0;
     supers = replicate (2 * superBlocksOf f w h) 0;
-    modes = replicate (macroBlocksOf w h) 0;
+    modes = modes;
     active = replicate (blocksOf f w h) 0;
   }
+
+  -- the modes among the scratch
+  abbrev pub holding : Body → Work
+  holding b = holdingWith (replicate (macroBlocksOf w h) 0) b
+
+  -- the modes, too, with zeros behind them
+  abbrev pub keeping : Body → Work
+  keeping b = holdingWith (padded 0 (macroBlocksOf w h) (b .modes)) b
 
   -- after a refusal all zero
   abbrev pub workAfter : Outcome Frame → Work
   workAfter (got fr e) = holding (fr .body)
   workAfter (refused k e) = cleared (published f w h) .work
+
+  abbrev pub workKept : Outcome Frame → Work
+  workKept (got fr e) = keeping (fr .body)
+  workKept (refused k e) = cleared (published f w h) .work
 
 -- the numbers of coded blocks and of tokens, and the place behind the packet
 abbrev pub asRead : Outcome Body → Read
@@ -70,12 +84,21 @@ module _ (f : PixelFormat) (w h : ℕ) where
   abbrev pub StoredCoded : (flags records coded : List ℕ) → Outcome (List ℕ) → Type 0
   StoredCoded flags records coded o = IfGot (λ l. (flags ≡ l) × (records ≡ map packed (codedRecords f w h l)) × (coded ≡ padded 0 (blocksOf f w h) (codedBlocks f w h l))) o
 
+  -- the modes, and then the predictions by them
+  unfoldable pub predictions : Kind → List ℕ → List BlockRecord → Parse (List BlockRecord)
+  predictions kind flags rs = bind (modesOf f w h kind flags) (λ modes. vectorsOf f w h kind modes rs)
+
+  -- behind the predictions: the modes stand in front
+  abbrev pub StoredModes : (modes : List ℕ) → Outcome (List ℕ) → Type 0
+  StoredModes modes o = IfGot (λ l. modes ≡ padded 0 (macroBlocksOf w h) l) o
+
   -- behind the body, before the scratch is cleared: what was read, with zeros behind it, and zeros behind the elements of the coded blocks in bits and active
   pub record LeftBy (b : Body) (m : Work) : Type 0 where
     pub records : m .records ≡ map packed (b .records)
     pub coded : m .coded ≡ padded 0 (blocksOf f w h) (b .coded)
     pub coefs : m .coefs ≡ padded (pos 0) (64 * blocksOf f w h) (b .tokens .coefs)
     pub lasts : m .lasts ≡ padded 0 (blocksOf f w h) (b .tokens .lasts)
+    pub modes : m .modes ≡ padded 0 (macroBlocksOf w h) (b .modes)
     pub bits : drop (length (b .coded)) (m .bits) ≡ replicate (blocksOf f w h - length (b .coded)) 0
     pub active : drop (length (b .coded)) (m .active) ≡ replicate (blocksOf f w h - length (b .coded)) 0
 

@@ -21,8 +21,8 @@ ghost use Rattle.tokens.specs.Tokens.{readTokens};
 ghost use Rattle.tokens.specs.Answer.{Tables, treesOf, asCounted};
 ghost use Rattle.work_memory.specs.Memory.{work};
 ghost use Rattle.work_memory.specs.Lengths.{published, cleared};
-ghost use Rattle.frame_packet.specs.Frame.{flagsOf, predictions, body, repeatFrame, framePacket};
-ghost use Rattle.frame_packet.specs.Work.{asCoded, StoredCoded, StoredTokens, Left, asRead, asFrame, workAfter};
+ghost use Rattle.frame_packet.specs.Frame.{flagsOf, modesOf, body, repeatFrame, framePacket};
+ghost use Rattle.frame_packet.specs.Work.{asCoded, StoredCoded, predictions, StoredModes, StoredTokens, Left, asRead, asFrame, workAfter, workKept};
 
 // The numbers of coded blocks and of tokens, and the place behind the packet; or the refusal.
 pub enum Read {
@@ -96,7 +96,7 @@ fn read_coded(
     }
 }
 
-// The predictions of a frame's coded blocks, into their records. `modes` is scratch.
+// The modes of a frame's macro blocks, and by them the predictions of its coded blocks, into their records.
 fn read_predictions(
     packet: &[u8],
     at: usize,
@@ -108,9 +108,10 @@ fn read_predictions(
     modes: &mut [u8],
     records: &mut [u32],
 ) -> End
-    requires { ⌜ (length (now packet) ≤ longest) × (w ≤ largest) × (h ≤ largest) × (length (now flags) ≡ blocksOf format w h) × (length (now modes) ≡ macroBlocksOf w h) × (length (now records) ≡ blocksOf format w h) × AllPacked (now records) ⌝ }
+    requires { ⌜ (length (now packet) ≤ longest) × (w ≤ largest) × (h ≤ largest) × (length (now flags) ≡ blocksOf format w h) × (now modes ≡ replicate (macroBlocksOf w h) 0) × (length (now records) ≡ blocksOf format w h) × AllPacked (now records) ⌝ }
     ensures { λ r. ⌜ r ≡ asEnd (predictions format w h kind (now (flags .entry)) (recordsOf (now (records .entry))) (now (packet .entry)) at) ⌝ }
     ensures { λ r. ⌜ StoredAs (map packed) (now (records .exit)) (predictions format w h kind (now (flags .entry)) (recordsOf (now (records .entry))) (now (packet .entry)) at) ⌝ }
+    ensures { λ _. ⌜ StoredModes format w h (now (modes .exit)) (modesOf format w h kind (now (flags .entry)) (now (packet .entry)) at) ⌝ }
 {
     match kind {
         Kind::Intra => End::At(at),
@@ -124,7 +125,7 @@ fn read_predictions(
     }
 }
 
-// The predictions, and then the qi indices, of the coded blocks. `bits` and `modes` are scratch.
+// The modes, the predictions, and then the qi indices, of the coded blocks. `bits` is scratch.
 fn read_records(
     packet: &[u8],
     at: usize,
@@ -139,10 +140,11 @@ fn read_records(
     modes: &mut [u8],
     records: &mut [u32],
 ) -> End
-    requires { ⌜ (length (now packet) ≤ longest) × (w ≤ largest) × (h ≤ largest) × (length (now flags) ≡ blocksOf format w h) × (length (now modes) ≡ macroBlocksOf w h) × (length (now records) ≡ blocksOf format w h) × AllPacked (now records) ⌝ }
+    requires { ⌜ (length (now packet) ≤ longest) × (w ≤ largest) × (h ≤ largest) × (length (now flags) ≡ blocksOf format w h) × (now modes ≡ replicate (macroBlocksOf w h) 0) × (length (now records) ≡ blocksOf format w h) × AllPacked (now records) ⌝ }
     requires { ⌜ (qis ≤ 3) × Once (now coded) × AllBelow (blocksOf format w h) (now coded) × (length (now coded) ≤ length (now bits)) ⌝ }
     ensures { λ r. ⌜ r ≡ asEnd (bind (predictions format w h kind (now (flags .entry)) (recordsOf (now (records .entry)))) (blockQi qis (now (coded .entry))) (now (packet .entry)) at) ⌝ }
     ensures { λ r. ⌜ StoredAs (map packed) (now (records .exit)) (bind (predictions format w h kind (now (flags .entry)) (recordsOf (now (records .entry)))) (blockQi qis (now (coded .entry))) (now (packet .entry)) at) ⌝ }
+    ensures { λ _. ⌜ StoredModes format w h (now (modes .exit)) (modesOf format w h kind (now (flags .entry)) (now (packet .entry)) at) ⌝ }
 {
     let done = read_predictions(packet, at, kind, format, w, h, flags, modes, records);
     match done {
@@ -282,8 +284,8 @@ fn read_empty(references: bool, format: PixelFormat, w: u64, h: u64) -> FrameRea
     refusal(9, 0)
 }
 
-// A frame packet, read to its end.
-pub fn read_frame(
+// A frame packet, read to its end. The modes stay.
+pub fn read_kept(
     packet: &[u8],
     references: bool,
     nodes: &[u8],
@@ -302,7 +304,7 @@ pub fn read_frame(
 ) -> FrameRead
     requires { ⌜ (length (now packet) ≤ longest) × (w ≤ largest) × (h ≤ largest) × Tables (now nodes) × (work (now records) (now coded) (now coefs) (now lasts) (now flags) (now bits) (now supers) (now modes) (now active) ≡ cleared (published format w h) .work) ⌝ }
     ensures { λ r. ⌜ r ≡ asFrame (framePacket format w h (treesOf (now (nodes .entry))) references (now (packet .entry))) ⌝ }
-    ensures { λ r. ⌜ work (now (records .exit)) (now (coded .exit)) (now (coefs .exit)) (now (lasts .exit)) (now (flags .exit)) (now (bits .exit)) (now (supers .exit)) (now (modes .exit)) (now (active .exit)) ≡ workAfter format w h (framePacket format w h (treesOf (now (nodes .entry))) references (now (packet .entry))) ⌝ }
+    ensures { λ r. ⌜ work (now (records .exit)) (now (coded .exit)) (now (coefs .exit)) (now (lasts .exit)) (now (flags .exit)) (now (bits .exit)) (now (supers .exit)) (now (modes .exit)) (now (active .exit)) ≡ workKept format w h (framePacket format w h (treesOf (now (nodes .entry))) references (now (packet .entry))) ⌝ }
 {
     if packet.len() == 0 {
         return read_empty(references, format, w, h);
@@ -338,11 +340,13 @@ pub fn read_frame(
                 Read::Refused(k, e) => {
                     work_memory::clear_read(records, coded, coefs, lasts);
                     let all = bits.len();
-                    work_memory::clear_scratch(all, flags, bits, supers, modes, active);
+                    work_memory::clear_scratch(all, flags, bits, supers, active);
+                    let macros = modes.len();
+                    buffer::clear_bytes(modes, macros);
                     refusal(k, e)
                 }
                 Read::Whole(count, _, _) => {
-                    work_memory::clear_scratch(count, flags, bits, supers, modes, active);
+                    work_memory::clear_scratch(count, flags, bits, supers, active);
                     FrameRead {
                         read: read,
                         header: header,
@@ -351,4 +355,48 @@ pub fn read_frame(
             }
         }
     }
+}
+
+// The same, and the modes are cleared, too.
+pub fn read_frame(
+    packet: &[u8],
+    references: bool,
+    nodes: &[u8],
+    format: PixelFormat,
+    w: u64,
+    h: u64,
+    records: &mut [u32],
+    coded: &mut [u64],
+    coefs: &mut [i16],
+    lasts: &mut [u8],
+    flags: &mut [u8],
+    bits: &mut [u8],
+    supers: &mut [u8],
+    modes: &mut [u8],
+    active: &mut [u64],
+) -> FrameRead
+    requires { ⌜ (length (now packet) ≤ longest) × (w ≤ largest) × (h ≤ largest) × Tables (now nodes) × (work (now records) (now coded) (now coefs) (now lasts) (now flags) (now bits) (now supers) (now modes) (now active) ≡ cleared (published format w h) .work) ⌝ }
+    ensures { λ r. ⌜ r ≡ asFrame (framePacket format w h (treesOf (now (nodes .entry))) references (now (packet .entry))) ⌝ }
+    ensures { λ r. ⌜ work (now (records .exit)) (now (coded .exit)) (now (coefs .exit)) (now (lasts .exit)) (now (flags .exit)) (now (bits .exit)) (now (supers .exit)) (now (modes .exit)) (now (active .exit)) ≡ workAfter format w h (framePacket format w h (treesOf (now (nodes .entry))) references (now (packet .entry))) ⌝ }
+{
+    let got = read_kept(
+        packet,
+        references,
+        nodes,
+        format,
+        w,
+        h,
+        records,
+        coded,
+        coefs,
+        lasts,
+        flags,
+        bits,
+        supers,
+        modes,
+        active,
+    );
+    let macros = modes.len();
+    buffer::clear_bytes(modes, macros);
+    got
 }

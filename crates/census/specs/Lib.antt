@@ -1,0 +1,2 @@
+-- Call: the census call.
+pub mod Call
