@@ -138,7 +138,7 @@ def census(recordings: Union[Recording, Iterable[Recording]], *, stream: Optiona
     """Counts what a recording, or several, are made of: packets by kind, refusals, coded blocks, modes.
 
     >>> wedgepetal.census(recording).coded
-    (545, 136, 136)
+    (487, 123, 120)
     >>> wedgepetal.census([recording, damaged]).recordings
     2
 
