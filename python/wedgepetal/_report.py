@@ -8,7 +8,7 @@ from typing import Iterator, List, Optional, Tuple, Union
 import numpy as np
 
 from . import _page as html
-from ._census import MODES, Census, census
+from ._census import MODES, Census
 from ._files import whole_file
 from ._frame import Kind
 from ._png import in_page, png
@@ -26,35 +26,34 @@ _PLANES = ("Y'", "Cb", "Cr")
 
 def report(recording: Union[str, "os.PathLike[str]"], out: Union[str, "os.PathLike[str]"], *,
            settings: Settings = Settings(), colour_space: Optional[int] = None, stream: Optional[int] = None,
-           max_memory: Optional[int] = None) -> bool:
-    """Writes a page for a shot, one file that opens without a network. Gives whether the shot is whole: nothing is refused,
-    nothing is missing.
+           max_memory: Optional[int] = None) -> Sheet:
+    """Writes a page for a shot, one file that opens without a network. Gives what it says, and ``is_whole``, whether nothing
+    is refused and nothing missing.
 
     >>> page = recording.with_suffix(".html")
-    >>> wedgepetal.report(recording, page), wedgepetal.report(damaged, page)
+    >>> wedgepetal.report(recording, page).is_whole, wedgepetal.report(damaged, page).is_whole
     (True, False)
-    >>> "packet 9: refused by 4" in page.read_text() or page.read_text().count("a read passes the end")
-    1
+    >>> "a read passes the end of the packet" in page.read_text()
+    True
 
     Frames are shown in colour if the recording says its colour space, or the caller does. The other choices are those
     of `tiles`.
     """
     sheet = Sheet(recording, settings, colour_space, stream, max_memory)
-    counted = census(recording, stream=stream, max_memory=max_memory)
     path = Path(recording)
     with whole_file(out) as file:
-        file.write(html.page(path.name, _parts(sheet, counted, path.stat().st_size)).encode())
-    return sheet.is_whole
+        file.write(html.page(path.name, _parts(sheet, path.stat().st_size)).encode())
+    return sheet
 
 
-def _parts(sheet: Sheet, counted: Census, size: int) -> Iterator[str]:
+def _parts(sheet: Sheet, size: int) -> Iterator[str]:
     yield html.verdict(_verdict(sheet), sheet.is_whole)
     yield html.facts(_facts(sheet, size))
     if sheet.lines:
         yield _strip(sheet)
         yield _time(sheet)
         yield _heat(sheet)
-        yield _packets(counted)
+        yield _packets(sheet.census)
     yield from _faults(sheet)
 
 
@@ -105,7 +104,8 @@ def _strip(sheet: Sheet) -> str:
 
 def _time(sheet: Sheet) -> str:
     """Kinds, changed tiles and tokens over time. What is missing is white."""
-    span = sheet.lines[-1].position + 1
+    gaps = [(round(gap.time * float(sheet.rate)), (gap.lost or 0) + gap.left_out) for gap in sheet.gaps]
+    span = max(sheet.lines[-1].position + 1, *(first + count for first, count in gaps), 1)
     bins = min(span, BINS)
     where = np.array([line.position for line in sheet.lines]) * bins // span
     frames = np.bincount(where, minlength=bins)
@@ -114,9 +114,8 @@ def _time(sheet: Sheet) -> str:
     tokens = _binned(where, [line.tokens for line in sheet.lines], bins)
     most = max(line.tokens for line in sheet.lines)
     missing = np.zeros(bins)
-    for gap in sheet.gaps:
-        first = round(gap.time * float(sheet.rate)) * bins // span
-        missing[min(first, bins - 1) : max(first, -(-(first * span // bins + (gap.lost or 0) + gap.left_out) * bins // span)) + 1] = 1
+    for first, count in gaps:
+        missing[min(first * bins // span, bins - 1) : -(-(first + count) * bins // span)] = 1
     key, inter, repeat = (kind / np.maximum(frames, 1) for kind in kinds)
     end = float(span / sheet.rate)
     each = "" if bins == span else f" Each column is {span / bins:.1f} frames: its mean, and paler its most."

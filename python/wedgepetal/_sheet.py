@@ -1,15 +1,17 @@
 """What is said of a shot on its page, in one pass over its frames."""
 from __future__ import annotations
 
-from typing import List, NamedTuple, Optional
+import os
+from typing import List, NamedTuple, Optional, Union
 
 import numpy as np
 
+from ._census import census
 from ._faults import Gap, Refused
 from ._frame import Frame, Kind
 from ._session import Bytes, Session
 from ._settings import Settings
-from ._shot import Recording, open
+from ._shot import open
 
 MOST_THUMBNAILS = 16
 THUMBNAIL_WIDTH = 240
@@ -44,7 +46,7 @@ class Sheet:
     gaps: List[Gap]
     notes: List[str]
 
-    def __init__(self, recording: Recording, settings: Settings, colour_space: Optional[int], stream: Optional[int],
+    def __init__(self, recording: Union[str, "os.PathLike[str]"], settings: Settings, colour_space: Optional[int], stream: Optional[int],
                  max_memory: Optional[int]) -> None:
         self.settings = settings
         self.lines: List[Line] = []
@@ -61,6 +63,7 @@ class Sheet:
             for frame in shot:
                 self._take(frame)
             self.refused, self.gaps, self.notes = shot.refused, shot.gaps, shot.notes
+        self.census = census(recording, stream=stream, max_memory=max_memory)
 
     def _take(self, frame: Frame) -> None:
         assert frame.changed is not None

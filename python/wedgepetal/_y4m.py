@@ -11,7 +11,7 @@ from ._files import whole_file
 from ._frame import Frame
 from ._library import SESSION_NUMBERS, Y4M_HEADER_BYTES, library
 from ._session import Bytes, Numbers
-from ._shot import Recording, open
+from ._shot import Recording, Shot, open
 
 Output = Union[str, "os.PathLike[str]", BinaryIO]
 
@@ -56,11 +56,16 @@ def write_y4m(recording: Recording, out: Output, *, on_refusal: str = "raise", o
 
 def _write(recording: Recording, out: BinaryIO, on_refusal: str, on_gap: str, stream: Optional[int],
            max_memory: Optional[int]) -> int:
-    count = 0
     with open(recording, held="refuse", on_refusal=on_refusal, on_gap=on_gap, stream=stream,
               max_memory=max_memory) as shot:
-        out.write(header(shot._decoder.session).data)
-        for frame in shot:
-            out.write(_frame(frame).data)
-            count += 1
+        return write_frames(shot, out)
+
+
+def write_frames(shot: Shot, out: BinaryIO) -> int:
+    """Writes a film of the frames of a shot that is open. Gives their number."""
+    count = 0
+    out.write(header(shot._decoder.session).data)
+    for frame in shot:
+        out.write(_frame(frame).data)
+        count += 1
     return count
