@@ -5,7 +5,7 @@ import argparse
 import json
 import sys
 from pathlib import Path
-from typing import List, Optional
+from typing import Callable, Dict, List, Optional, Tuple
 
 from . import _archive
 from ._faults import Fault
@@ -18,9 +18,18 @@ from ._settings import Settings, read_settings
 def main(words: Optional[List[str]] = None) -> int:
     """Runs a command. The status is 0 if all is well, 1 if something was refused, is missing or differs, 2 for wrong use or
     a file that cannot be read or written."""
-    given = _parser().parse_args(words)
+    words = sys.argv[1:] if words is None else words
+    verb = words[0] if words else "--help"
+    if verb == "--version":
+        print(f"wedgepetal {VERSION}")
+        return 0
+    if verb not in _VERBS:
+        print(_USAGE, file=sys.stdout if verb in ("--help", "-h", "help") else sys.stderr)
+        return 0 if verb in ("--help", "-h", "help") else 2
+    parser, run = _VERBS[verb]
+    given = parser().parse_intermixed_args(words[1:])
     try:
-        return int(given.run(given))
+        return run(given)
     except (Fault, OSError, MemoryError, ValueError) as error:
         print(f"wedgepetal: {error}", file=sys.stderr)
         return 2
@@ -28,39 +37,50 @@ def main(words: Optional[List[str]] = None) -> int:
         return 130
 
 
-def _parser() -> argparse.ArgumentParser:
-    parser = argparse.ArgumentParser("wedgepetal", description="Pages of shots, and archives of shots.")
-    parser.add_argument("--version", action="version", version=VERSION)
-    verbs = parser.add_subparsers(required=True, metavar="VERB")
+_USAGE = """usage: wedgepetal VERB ..., each with --help
+  report    writes a page for a shot, one file that opens without a network
+  archive   does the same with every shot of folders
+  --version"""
 
-    page = verbs.add_parser("report", help="writes a page for a shot, one file that opens without a network")
+
+def _report_words() -> argparse.ArgumentParser:
+    page = argparse.ArgumentParser("wedgepetal report", description="Writes a page for a shot, one file that opens without a network.")
     page.add_argument("shot", metavar="SHOT", help="an Ogg file or a packet file")
-    page.add_argument("-o", "--output", metavar="SHOT.html", help="the page; without it, beside the shot's name in this folder")
+    page.add_argument("-o", "--output", metavar="SHOT.html", help="the page; without it, by the shot's name in this folder")
     page.add_argument("--stream", type=int, metavar="N", help="the Theora stream with this number")
-    page.set_defaults(run=_report)
+    return _common(page)
 
-    many = verbs.add_parser("archive", help="does the same with every shot of folders",
-                            description="Does the same with every shot of folders. Run again after a cut, it goes on.")
+
+def _archive_words() -> argparse.ArgumentParser:
+    many = argparse.ArgumentParser("wedgepetal archive", description="Does the same with every shot of folders. Run again after "
+                                   "a cut, it goes on with what is left.")
     many.add_argument("verb", choices=sorted(VERBS), metavar="VERB", help=f"one of {', '.join(sorted(VERBS))}")
     many.add_argument("folders", nargs="*", metavar="FOLDER", help="folders, or shots")
     many.add_argument("--out", required=True, metavar="FOLDER", help="where the log, the results and what is made of shots stand")
-    many.add_argument("--jobs", type=int, metavar="N", help="so many processes; without it one for each core")
+    many.add_argument("--jobs", type=_positive, metavar="N", help="so many processes; without it one for each core")
     many.add_argument("--films", metavar="FOLDER", help="the folder of the films of check: NAME.y4m for the shot NAME.ogv")
-    many.add_argument("--plan", action="store_true", help="finds the shots and writes the plan, and does nothing else")
+    many.add_argument("--plan", action="store_true", help="finds the shots, writes the plan and says how many there are")
     many.add_argument("--task", type=int, metavar="I", help="does task I of a plan, from 0, with a log of its own")
-    many.add_argument("--tasks", type=int, metavar="N", help="how many tasks the plan is done in")
+    many.add_argument("--tasks", type=_positive, metavar="N", help="how many tasks the plan is done in")
     many.add_argument("--collect", action="store_true", help="puts together what the logs have, and does nothing else")
     many.add_argument("--progress", action="store_true", help="says how far it is, also where that is no terminal")
     many.add_argument("--json", action="store_true", help="says the totals as JSON")
-    many.set_defaults(run=_many)
+    return _common(many)
 
-    for one in (page, many):
-        one.add_argument("--settings", metavar="FILE", help="a text of settings: the side of the tiles and the plane")
-        one.add_argument("--tile", type=int, default=16, metavar="N", help="the side of the tiles: 8, 16 (as without it) or 32")
-        one.add_argument("--plane", type=int, default=0, metavar="N", help="the plane: 0 (Y', as without it), 1 (Cb) or 2 (Cr)")
-        one.add_argument("--colour-space", type=int, choices=(1, 2), metavar="N", help="of shots that name none: 1 or 2")
-        one.add_argument("--max-memory", type=int, metavar="BYTES", help="the most memory that a shot may take")
+
+def _common(parser: argparse.ArgumentParser) -> argparse.ArgumentParser:
+    parser.add_argument("--settings", metavar="FILE", help="a text of settings: the side of the tiles and the plane")
+    parser.add_argument("--tile", type=int, default=16, metavar="N", help="the side of the tiles: 8, 16 (as without it) or 32")
+    parser.add_argument("--plane", type=int, default=0, metavar="N", help="the plane: 0 (Y', as without it), 1 (Cb) or 2 (Cr)")
+    parser.add_argument("--colour-space", type=int, choices=(1, 2), metavar="N", help="of shots that name none: 1 or 2")
+    parser.add_argument("--max-memory", type=int, metavar="BYTES", help="the most memory that a shot may take")
     return parser
+
+
+def _positive(text: str) -> int:
+    if not (text.isdigit() and int(text)):
+        raise argparse.ArgumentTypeError(f"{text} is no number from 1 on")
+    return int(text)
 
 
 def _settings(given: argparse.Namespace) -> Settings:
@@ -111,6 +131,11 @@ def _say(found: _archive.Archive, out: str) -> None:
     if found.missing:
         print(f"  not done yet: {len(found.missing):,}")
     print(f"{out}/index.html has the rest")
+
+
+_VERBS: Dict[str, Tuple[Callable[[], argparse.ArgumentParser], Callable[[argparse.Namespace], int]]] = {
+    "report": (_report_words, _report), "archive": (_archive_words, _many),
+}
 
 
 if __name__ == "__main__":

@@ -16,7 +16,7 @@ from ._jobs import Job, Line, died, do
 if TYPE_CHECKING:
     from distributed import Client
 
-AHEAD = 4
+AHEAD = 2
 """For each worker so many shots wait, or are worked on."""
 
 
@@ -27,14 +27,13 @@ def cores() -> int:
 
 def on_processes(job: Job, shots: Iterable[str], jobs: int) -> Iterator[Line]:
     """Does the work in processes. If one of them is killed or crashes, each shot that waited or was worked on is done again in
-    a process of its own, so that the shot at fault is named and no other is lost."""
+    a process that has no other shot, so that the shot at fault is named and no other is lost."""
     left = iter(shots)
     again: List[str] = [""]
     while again:
         again = []
         yield from _together(job, left, jobs, again)
-        for shot in again:
-            yield _alone(job, shot)
+        yield from _one_by_one(job, again)
 
 
 def _together(job: Job, left: Iterator[str], jobs: int, again: List[str]) -> Iterator[Line]:
@@ -63,12 +62,20 @@ def _together(job: Job, left: Iterator[str], jobs: int, again: List[str]) -> Ite
                 future.cancel()
 
 
-def _alone(job: Job, shot: str) -> Line:
-    with _pool(1) as pool:
-        try:
-            return pool.submit(do, job, shot).result()
-        except BrokenProcessPool:
-            return died(job, shot)
+def _one_by_one(job: Job, shots: Iterable[str]) -> Iterator[Line]:
+    """Does the work with one shot at a time in a process, and another process if it ends."""
+    left = iter(shots)
+    ended = True
+    while ended:
+        ended = False
+        with _pool(1) as pool:
+            for shot in left:
+                try:
+                    yield pool.submit(do, job, shot).result()
+                except BrokenProcessPool:
+                    yield died(job, shot)
+                    ended = True
+                    break
 
 
 def _pool(jobs: int) -> ProcessPoolExecutor:
