@@ -10,7 +10,7 @@ from pathlib import Path
 import numpy as np
 import pytest
 import wedgepetal
-from ogg_files import packet_file, packets, pages
+from shots import make
 from wedgepetal import Census, Settings
 from wedgepetal.__main__ import main
 
@@ -20,20 +20,8 @@ KILLERS = ("shot-03.ogv", "shot-11.ogv")
 
 @pytest.fixture(scope="module")
 def shots(tmp_path_factory):
-    """A folder with shots in folders: some refused packets, a gap, a file that is no recording."""
-    folder = tmp_path_factory.mktemp("shots")
-    (folder / "older").mkdir()
-    sound = packets("three_by_five")
-    del sound[9]
-    for i in range(SHOTS):
-        repeated = sound + sound[3:] * (3 + i % 5)
-        (folder / ("older" if i % 3 else ".") / f"shot-{i:02}.ogv").write_bytes(b"".join(pages(repeated)))
-    (folder / "refused.ogv").write_bytes(b"".join(pages(packets("three_by_five"))))
-    file = pages(sound + sound[3:])
-    (folder / "older" / "gap.ogv").write_bytes(b"".join([*file[:8], *file[9:]]))
-    (folder / "other.ogv").write_bytes(b"a text that is none")
-    (folder / "small.packets").write_bytes(packet_file(packets("one_by_one")))
-    (folder / "notes.txt").write_text("not read")
+    folder = tmp_path_factory.mktemp("archive") / "shots"
+    make(folder, SHOTS)
     return folder
 
 

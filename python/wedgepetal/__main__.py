@@ -13,6 +13,7 @@ from ._jobs import VERBS
 from ._library import VERSION
 from ._report import report
 from ._settings import Settings, read_settings
+from ._slurm import submit
 
 
 def main(words: Optional[List[str]] = None) -> int:
@@ -63,6 +64,8 @@ def _archive_words() -> argparse.ArgumentParser:
     many.add_argument("--task", type=int, metavar="I", help="does task I of a plan, from 0, with a log of its own")
     many.add_argument("--tasks", type=_positive, metavar="N", help="how many tasks the plan is done in")
     many.add_argument("--collect", action="store_true", help="puts together what the logs have, and does nothing else")
+    many.add_argument("--slurm", type=int, nargs="?", const=0, metavar="N",
+                      help="hands the plan to Slurm as an array of N tasks; without a number of a hundred shots each")
     many.add_argument("--progress", action="store_true", help="says how far it is, also where that is no terminal")
     many.add_argument("--json", action="store_true", help="says the totals as JSON")
     return _common(many)
@@ -111,6 +114,11 @@ def _many(given: argparse.Namespace) -> int:
         if given.plan:
             _archive.plan(given.verb, given.folders, given.out, **choices)
             print(len(_archive.read_plan(given.out)[1]))
+            return 0
+        if given.slurm is not None:
+            job = _archive.plan(given.verb, given.folders, given.out, **choices)
+            number = submit(job, _archive.read_plan(given.out)[1], given.slurm)
+            print(f"job {number} collects: {given.out}/index.html is there when it has ended")
             return 0
         found = _archive.archive(given.verb, given.folders, given.out, jobs=given.jobs, progress=given.progress or None, **choices)
     if given.json:

@@ -91,7 +91,7 @@ def _tiles(job: Job, shot: str, path: Path) -> Line:
 
 
 def _y4m(job: Job, shot: str, path: Path) -> Line:
-    with open(path, held="refuse", on_refusal="skip", on_gap="key-frame", max_memory=job.max_memory) as opened:
+    with open(path, on_refusal="skip", on_gap="key-frame", max_memory=job.max_memory) as opened:
         with whole_file(_cleared(job.place(shot, ".y4m"))) as file:
             count = write_frames(opened, file)
         return {"frames": count, **_met(opened)}

@@ -52,7 +52,7 @@ class Sheet:
         self.lines: List[Line] = []
         self.thumbnails: List[Thumbnail] = []
         self._every = 1
-        with open(recording, held="refuse", on_refusal="skip", on_gap="key-frame", stream=stream, max_memory=max_memory,
+        with open(recording, on_refusal="skip", on_gap="key-frame", stream=stream, max_memory=max_memory,
                   tiles=settings) as shot:
             self.session, self.memory, self.rate = shot.session, shot.memory, shot.rate
             cs = shot.session.cs if colour_space is None else colour_space

@@ -56,7 +56,7 @@ def write_y4m(recording: Recording, out: Output, *, on_refusal: str = "raise", o
 
 def _write(recording: Recording, out: BinaryIO, on_refusal: str, on_gap: str, stream: Optional[int],
            max_memory: Optional[int]) -> int:
-    with open(recording, held="refuse", on_refusal=on_refusal, on_gap=on_gap, stream=stream,
+    with open(recording, on_refusal=on_refusal, on_gap=on_gap, stream=stream,
               max_memory=max_memory) as shot:
         return write_frames(shot, out)
 
