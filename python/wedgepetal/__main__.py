@@ -11,6 +11,7 @@ from . import _archive
 from ._faults import Fault
 from ._jobs import VERBS
 from ._library import VERSION
+from ._log import read_plan
 from ._report import report
 from ._settings import Settings, read_settings
 from ._slurm import submit
@@ -113,11 +114,11 @@ def _many(given: argparse.Namespace) -> int:
                    "max_memory": given.max_memory}
         if given.plan:
             _archive.plan(given.verb, given.folders, given.out, **choices)
-            print(len(_archive.read_plan(given.out)[1]))
+            print(len(read_plan(given.out)[1]))
             return 0
         if given.slurm is not None:
             job = _archive.plan(given.verb, given.folders, given.out, **choices)
-            number = submit(job, _archive.read_plan(given.out)[1], given.slurm)
+            number = submit(job, read_plan(given.out)[1], given.slurm)
             print(f"job {number} collects: {given.out}/index.html is there when it has ended")
             return 0
         found = _archive.archive(given.verb, given.folders, given.out, jobs=given.jobs, progress=given.progress or None, **choices)

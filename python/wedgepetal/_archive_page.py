@@ -53,8 +53,8 @@ def _parts(totals: Dict[str, Any], lines: Sequence[Line], missing: Sequence[str]
         (_name(line), f"{line.get('seconds', 0.0):.2f}", line.get("frames", 0), line.get("bytes", 0)) for line in slowest]))
     strange = list(_strangest(lines))
     if strange:
-        yield html.section("Strangest", html.table(("shot", "what", "its value", "in the middle of all shots"), strange),
-                           html.soft("Farthest from the median, counted in median distances from it."))
+        yield html.section("Strangest", html.table(("shot", "what", "its value", "median of all shots"), strange),
+                           html.soft("Farthest from the median of all shots, measured in median distances from it."))
     yield from _pages(lines)
 
 
@@ -65,13 +65,14 @@ def _kinds(totals: Dict[str, Any]) -> List[Tuple[str, str]]:
 
 def _pages(lines: Sequence[Line]) -> Iterator[str]:
     """The pages of the shots, if there are some."""
-    pages = [(line["page"], line.get("frames", 0), line["status"]) for line in lines if "page" in line]
+    pages = [(_name(line), line.get("frames", 0), line["status"]) for line in lines if "page" in line]
     if pages:
-        yield html.section("Pages of shots", html.table(("page", "frames", "status"), pages, links=True))
+        yield html.section("Pages of shots", html.table(("shot", "frames", "status"), pages))
 
 
-def _name(line: Line) -> str:
-    return str(line["shot"])
+def _name(line: Line) -> html.Cell:
+    """The name of a shot, which leads to its page if it has one."""
+    return html.Link(line["shot"], line["page"]) if "page" in line else str(line["shot"])
 
 
 def _refusals(line: Line) -> str:
@@ -94,8 +95,9 @@ def _features(line: Line) -> Dict[str, float]:
     return found
 
 
-def _strangest(lines: Sequence[Line]) -> Iterator[Tuple[str, str, str, str]]:
-    features = [(_name(line), _features(line)) for line in lines]
+def _strangest(lines: Sequence[Line]) -> Iterator[Tuple[html.Cell, str, str, str]]:
+    names = {line["shot"]: _name(line) for line in lines}
+    features = [(line["shot"], _features(line)) for line in lines]
     found = []
     for name in sorted({name for _, has in features for name in has}):
         values = [(shot, has[name]) for shot, has in features if name in has]
@@ -107,4 +109,4 @@ def _strangest(lines: Sequence[Line]) -> Iterator[Tuple[str, str, str, str]]:
     found.sort(key=lambda item: (-item[0], item[1], item[2]))
     for far, shot, name, value, middle in found[:MOST]:
         if far > 3:
-            yield shot, name, f"{value:,.3f}", f"{middle:,.3f}"
+            yield names[shot], name, f"{value:,.3f}", f"{middle:,.3f}"

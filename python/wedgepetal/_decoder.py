@@ -10,7 +10,7 @@ from . import _library as lib
 from ._faults import Held, Refused
 from ._frame import Kind, Lease, Map
 from ._lent import Work, need
-from ._library import call
+from ._library import Lent, call
 from ._session import Bytes, Numbers, Sizes, sizes
 from ._settings import Settings, map_length, numbers
 
@@ -113,7 +113,7 @@ class Decoder:
         joined = packets[0] if len(packets) == 1 else b"".join(packets)
         answers = np.zeros((len(packets), lib.ANSWER_NUMBERS), np.uint64)
         buffers = (buffer.memory for buffer in self._buffers)
-        given = (self.session, self._names, lengths, joined, self._table, *self._work, *buffers, answers)
+        given: Tuple[Lent, ...] = (self.session, self._names, lengths, joined, self._table, *self._work, *buffers, answers)
         if self._tiles is None:
             maps, number = None, call("shot", *given)
         else:

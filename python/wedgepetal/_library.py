@@ -86,7 +86,11 @@ def _load() -> ctypes.CDLL:
 library = _load()
 
 
-def call(name: str, *lists: Union[npt.NDArray[Any], bytes]) -> int:
+Lent = Union[npt.NDArray[Any], bytes]
+"""What the library takes as a list."""
+
+
+def call(name: str, *lists: Lent) -> int:
     """Calls the library with lists, each as a pointer and a length; they are held on to meanwhile."""
     arrays = [np.frombuffer(given, np.uint8) if isinstance(given, bytes) else given for given in lists]
     return int(getattr(library, f"wedgepetal_{name}")(*(n for array in arrays for n in (array.ctypes.data, array.size))))

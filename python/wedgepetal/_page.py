@@ -3,7 +3,8 @@ from __future__ import annotations
 
 import html
 from pathlib import Path
-from typing import Iterable, List, Sequence, Tuple, Union
+from typing import Iterable, List, NamedTuple, Sequence, Tuple, Union
+from urllib.parse import quote
 
 import numpy as np
 import numpy.typing as npt
@@ -11,7 +12,15 @@ import numpy.typing as npt
 from ._library import version
 from ._png import in_page, png
 
-Cell = Union[str, int]
+
+class Link(NamedTuple):
+    """Words that lead to another file."""
+
+    words: str
+    address: str
+
+
+Cell = Union[str, int, Link]
 Floats = npt.NDArray[np.float64]
 
 CIVIDIS = ((0, 34, 78), (53, 69, 108), (102, 105, 112), (148, 142, 119), (200, 184, 102), (254, 232, 56))
@@ -55,19 +64,23 @@ def facts(pairs: Iterable[Tuple[str, Cell]]) -> str:
     return "<dl>" + "".join(f"<div><dt>{text(name)}</dt><dd>{text(value)}</dd></div>" for name, value in pairs) + "</dl>"
 
 
-def table(heads: Sequence[str], rows: Iterable[Sequence[Cell]], links: bool = False) -> str:
-    """Rows under their heads. Whole numbers stand at the right; with links the first cell is an address too."""
-    body = []
-    numeric: Tuple[bool, ...] = ()
+def table(heads: Sequence[str], rows: Iterable[Sequence[Cell]]) -> str:
+    """Rows under their heads. Whole numbers stand at the right."""
+    body: List[str] = []
+    right: Sequence[bool] = [False] * len(heads)
     for row in rows:
-        numeric = tuple(isinstance(cell, int) for cell in row)
-        cells = [f'<td class="n">{cell:,}</td>' if isinstance(cell, int) else f"<td>{text(cell)}</td>" for cell in row]
-        if links:
-            cells[0] = f'<td><a href="{html.escape(str(row[0]))}">{text(row[0])}</a></td>'
-        body.append(f"<tr>{''.join(cells)}</tr>")
-    right = numeric or (False,) * len(heads)
+        right = [isinstance(cell, int) for cell in row]
+        body.append(f"<tr>{''.join(map(_cell, row))}</tr>")
     head = "".join(f'<th{" class=n" if number else ""}>{text(name)}</th>' for name, number in zip(heads, right))
     return f'<table class="table"><thead><tr>{head}</tr></thead><tbody>{"".join(body)}</tbody></table>'
+
+
+def _cell(cell: Cell) -> str:
+    if isinstance(cell, int):
+        return f'<td class="n">{cell:,}</td>'
+    if isinstance(cell, Link):
+        return f'<td><a href="{html.escape(quote(cell.address))}">{text(cell.words)}</a></td>'
+    return f"<td>{text(cell)}</td>"
 
 
 def lane(name: str, shares: Floats, colour: str) -> str:
@@ -108,7 +121,8 @@ def heat_map(counts: npt.NDArray[np.int64], words: str) -> str:
     most = max(int(counts.max(initial=0)), 1)
     picture = in_page(png((counts * 255 + most // 2) // most, _ramp(256)))
     stops = ", ".join(f"rgb{colour}" for colour in CIVIDIS)
-    return (f'<div class="heat"><img alt="{text(words)}" src="{picture}">'
+    rows, columns = counts.shape
+    return (f'<div class="heat" style="max-width: min(32rem, {28 * columns / max(rows, 1):.2f}rem)"><img alt="{text(words)}" src="{picture}">'
             f'<div class="ramp" style="background: linear-gradient(to right, {stops})"></div>'
             f"{axis(['0 frames', f'{most:,} frames'])}</div>")
 

@@ -39,7 +39,7 @@ def picture(tiles: Tiles, out: Optional[Union[str, "os.PathLike[str]"]] = None) 
     when.plot(tiles.times[repeats], np.full(repeats.sum(), -4.0), "|", color="#999999", label="repeats")
     when.plot(tiles.times[keys], np.full(keys.sum(), -8.0), "|", color="#d55e00", markersize=9, label="key frames")
     for gap in tiles.gaps:
-        when.axvline(gap.time, color="#cc79a7", linestyle=":")
+        when.axvline(gap.time, color="#7a1f5c", linestyle=":")
     when.set(title="share of tiles that changed", xlabel="seconds", ylabel="%", ylim=(-11, 103))
     when.legend(loc="upper right", fontsize="small")
     if out is not None:

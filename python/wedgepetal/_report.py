@@ -125,7 +125,7 @@ def _time(sheet: Sheet) -> str:
             html.lane("key", (key > 0).astype(float), "var(--orange)"),
             html.lane("inter", inter, "var(--sky)"),
             html.lane("repeat", repeat, "var(--grey)"),
-            html.lane("missing", missing, "var(--rose)") if sheet.gaps else "",
+            html.lane("missing", missing, "var(--plum)") if sheet.gaps else "",
             html.chart("changed tiles", ("100 %", "25 %"), *share, 1.0, "var(--blue)"),
             html.chart("tokens", (f"{most:,}", f"{most / 4:,.0f}"), *tokens, max(most, 1), "var(--orange)"),
             html.axis(f"{end * part / 4:.1f} s" for part in range(5)),

@@ -49,6 +49,7 @@ class Tiles:
         maps, packets, times, tokens = [], [], [], []
         self.kinds = []
         for packet, answer, changed in shot._answers(BATCH):
+            assert changed is not None
             maps.append(changed)
             packets.append(packet.number)
             times.append(shot._clock.time(packet.position))
