@@ -18,8 +18,7 @@ from ._whole import Whole
 REPORT_NUMBERS = 34
 _KINDS = ("intra", "inter", "repeat")
 _PLANES = ("y", "cb", "cr")
-MODES = ("inter no vector", "intra", "inter vector", "inter last", "inter last but one", "golden no vector", "golden vector",
-         "inter four")
+MODES = ("NOMV", "INTRA", "MV", "LAST", "LAST2", "GOLDEN_NOMV", "GOLDEN_MV", "FOUR")
 """The modes of macro blocks, 0 to 7."""
 
 

@@ -102,9 +102,12 @@ class Decoder:
         answer = [int(n) for n in answers[0]]
         if answer[lib.NUMBER]:
             raise Refused(answer[lib.NUMBER], answer[lib.PLACE])
-        lease = self._buffers[int(self._names[lib.PREVIOUS])].lease()
         qi = tuple(answer[lib.QIS : lib.QIS + answer[lib.QI_COUNT]])
-        return Answer(lease, KINDS[answer[lib.KIND]], qi, answer[lib.TOKENS], None if maps is None else maps[0])
+        return Answer(self.previous(), KINDS[answer[lib.KIND]], qi, answer[lib.TOKENS], None if maps is None else maps[0])
+
+    def previous(self) -> Lease:
+        """The frame that was decoded last."""
+        return self._buffers[int(self._names[lib.PREVIOUS])].lease()
 
     def shot(self, packets: Sequence[bytes]) -> Tuple[Numbers, Optional[Map]]:
         """Decodes packets in one call: the answer of each, 8 numbers, and its map of tiles if there are settings. The

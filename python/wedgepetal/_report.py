@@ -153,7 +153,7 @@ def _heat(sheet: Sheet) -> str:
 def _packets(counted: Census) -> str:
     blocks = [(plane, coded, uncoded, f"{100 * coded / max(coded + uncoded, 1):.1f} %")
               for plane, coded, uncoded in zip(_PLANES, counted.coded, counted.uncoded)]
-    modes = [(f"{i}, {name}", count) for i, (name, count) in enumerate(zip(MODES, counted.modes))]
+    modes = [(f"{i} {name}", count) for i, (name, count) in enumerate(zip(MODES, counted.modes))]
     return html.section(
         "What its packets hold",
         html.table(("blocks of", "coded", "not coded", "share coded"), blocks),

@@ -11,7 +11,8 @@ from ._faults import Gap, Refused
 from ._frame import Frame, Kind
 from ._session import Bytes, Session
 from ._settings import Settings
-from ._shot import open
+from ._shot import Answered, open
+from ._tiles import BATCH
 
 MOST_THUMBNAILS = 16
 THUMBNAIL_WIDTH = 240
@@ -60,18 +61,26 @@ class Sheet:
             """By which thumbnails are in colour; else they are luma alone."""
             self.count = np.zeros(shot._decoder.tile_rows_and_columns, np.int64)
             """In how many frames each tile changed, the top row first."""
-            for frame in shot:
-                self._take(frame)
+            for batch in shot._batches(self._until_next):
+                self._take(batch)
+                if batch and (len(self.lines) - 1) % self._every == 0:
+                    self._show(shot._shown())
             self.refused, self.gaps, self.notes = shot.refused, shot.gaps, shot.notes
         self.census = census(recording, stream=stream, max_memory=max_memory)
 
-    def _take(self, frame: Frame) -> None:
-        assert frame.changed is not None
-        self.count += frame.changed
-        changed = int(np.count_nonzero(frame.changed))
-        self.lines.append(Line(frame.packet, frame.position, frame.time, frame.kind, frame.tokens, changed))
-        if frame.number % self._every == 0:
-            self.thumbnails.append(Thumbnail(frame.number, frame.time, self._small(frame)))
+    def _until_next(self) -> int:
+        """How many packets to decode in a call, so that the next frame that is shown is its last."""
+        return min(BATCH, -len(self.lines) % self._every + 1)
+
+    def _take(self, batch: List[Answered]) -> None:
+        for packet, time, kind, tokens, changed in batch:
+            assert changed is not None
+            self.count += changed
+            self.lines.append(Line(packet.number, packet.position, time, kind, tokens, int(np.count_nonzero(changed))))
+
+    def _show(self, frame: Frame) -> None:
+        """Shows the last frame."""
+        self.thumbnails.append(Thumbnail(len(self.lines) - 1, self.lines[-1].time, self._small(frame)))
         if len(self.thumbnails) > MOST_THUMBNAILS:  # every second one goes
             del self.thumbnails[1::2]
             self._every *= 2

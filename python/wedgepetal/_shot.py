@@ -10,9 +10,9 @@ from typing import BinaryIO, Callable, Iterator, List, NamedTuple, Optional, Tup
 import numpy as np
 
 from . import _library as lib
-from ._decoder import Answer, Decoder
+from ._decoder import KINDS, Answer, Decoder
 from ._faults import Gap, NoRecording, Refused, SeveralStreams
-from ._frame import Frame, Map
+from ._frame import Frame, Kind, Map
 from ._parts import Begin, End, Foreign, Hole, Packet, Part, Source, parts
 from ._session import Bytes, Numbers, Session, identification
 from ._settings import Settings
@@ -57,6 +57,16 @@ class Coded(NamedTuple):
     """Its number in the stream, from 0."""
     position: int
     """Its place in time, counted in frames from 0."""
+
+
+class Answered(NamedTuple):
+    """A packet that was accepted, where its planes are not wanted."""
+
+    packet: Coded
+    time: float
+    kind: Kind
+    tokens: int
+    changed: Optional[Map]
 
 
 class Shot(Iterator[Frame]):
@@ -181,23 +191,26 @@ class Shot(Iterator[Frame]):
             session=self.session, changed=answer.changed,
         )
 
-    def _answers(self, most: int) -> Iterator[Tuple[Coded, Numbers, Optional[Map]]]:
-        """Decodes what is left, as many packets in a call as are given; no frame may be viewed meanwhile. Gives each
-        accepted packet, its answer and its map."""
+    def _batches(self, most: Callable[[], int]) -> Iterator[List[Answered]]:
+        """Decodes what is left, at each call as many packets as are wanted then; no frame may be viewed meanwhile. Gives
+        what was accepted of them."""
         batch: List[Coded] = []
+        wanted = most()
         for item in self._coming:
             if isinstance(item, Coded):
                 batch.append(item)
-            if isinstance(item, Gap) or len(batch) == most:
-                yield from self._answers_of(batch)
-                batch = []
+            if isinstance(item, Gap) or len(batch) >= wanted:
+                yield self._accepted(batch)
+                batch, wanted = [], most()
             if isinstance(item, Gap):
                 self._meet(item)
-        yield from self._answers_of(batch)
+        yield self._accepted(batch)
 
-    def _answers_of(self, batch: List[Coded]) -> Iterator[Tuple[Coded, Numbers, Optional[Map]]]:
+    def _accepted(self, batch: List[Coded]) -> List[Answered]:
+        """Decodes packets in one call."""
         if not batch:
-            return
+            return []
+        found: List[Answered] = []
         answers, maps = self._decoder.shot([packet.bytes for packet in batch])
         for i, packet in enumerate(batch):
             answer = answers[i]
@@ -205,7 +218,15 @@ class Shot(Iterator[Frame]):
                 self._refuse(Refused(int(answer[lib.NUMBER]), int(answer[lib.PLACE]), packet.number))
             else:
                 self._gap = None
-                yield packet, answer, None if maps is None else maps[i]
+                kind, tokens = KINDS[int(answer[lib.KIND])], int(answer[lib.TOKENS])
+                time = self._clock.time(packet.position)
+                found.append(Answered(packet, time, kind, tokens, None if maps is None else maps[i]))
+        return found
+
+    def _shown(self) -> Frame:
+        """The planes of the frame that was decoded last."""
+        decoder = self._decoder
+        return Frame(decoder.previous(), decoder.sizes, decoder.session.copy(), region=self.region, session=self.session)
 
     def _part(self) -> Optional[Part]:
         """The next part of the stream; none at the end of the file."""

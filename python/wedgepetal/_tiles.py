@@ -6,8 +6,6 @@ from typing import Any, List, Optional
 import numpy as np
 import numpy.typing as npt
 
-from . import _library as lib
-from ._decoder import KINDS
 from ._faults import Gap, Refused
 from ._frame import Kind, Map
 from ._session import Session
@@ -48,13 +46,14 @@ class Tiles:
         self.settings, self.session = settings, shot.session
         maps, packets, times, tokens = [], [], [], []
         self.kinds = []
-        for packet, answer, changed in shot._answers(BATCH):
-            assert changed is not None
-            maps.append(changed)
-            packets.append(packet.number)
-            times.append(shot._clock.time(packet.position))
-            self.kinds.append(KINDS[int(answer[lib.KIND])])
-            tokens.append(int(answer[lib.TOKENS]))
+        for batch in shot._batches(lambda: BATCH):
+            for packet, time, kind, count, changed in batch:
+                assert changed is not None
+                maps.append(changed)
+                packets.append(packet.number)
+                times.append(time)
+                self.kinds.append(kind)
+                tokens.append(count)
         self.maps = np.stack(maps) if maps else np.zeros((0, *shot._decoder.tile_rows_and_columns), np.bool_)
         self.packets, self.tokens = np.array(packets, np.int64), np.array(tokens, np.int64)
         self.times = np.array(times, np.float64)
