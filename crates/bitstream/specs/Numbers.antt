@@ -57,6 +57,10 @@ pastBlock = 13
 abbrev pub shortOutput : ℕ
 shortOutput = 14
 
+-- request 4: a sum of a census would pass 64 bits
+abbrev pub pastCount : ℕ
+pastCount = 15
+
 -- request 6: the lengths of packets reach past the joined bytes
 abbrev pub pastPackets : ℕ
 pastPackets = 16

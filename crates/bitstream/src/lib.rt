@@ -60,6 +60,8 @@ pub const LONG_RUN: u32 = 12;
 pub const PAST_BLOCK: u32 = 13;
 // The lent output is too short.
 pub const SHORT_OUTPUT: u32 = 14;
+// A sum of a census would pass 64 bits.
+pub const PAST_COUNT: u32 = 15;
 // The lengths of packets reach past the joined bytes.
 pub const PAST_PACKETS: u32 = 16;
 // One packet more than the session can count.

@@ -9,10 +9,6 @@ use lib.ListN.{set, replicate}
 abbrev pub reportSize : ℕ
 reportSize = 34
 
--- "a sum past 64 bits is new number 15"
-abbrev pub pastCount : ℕ
-pastCount = 15
-
 -- ---- where the numbers stand
 -- "packets by kind": intra, inter, repeat
 abbrev pub kindAt : ℕ → ℕ

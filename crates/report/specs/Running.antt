@@ -6,9 +6,10 @@ use mathlib.Core.List.{List}
 use lib.Dec.{ltb}
 use lib.ListN.{length}
 use Rattle.bitstream.specs.Reading.{choose}
+use Rattle.bitstream.specs.Numbers.{pastCount}
 use Rattle.report.specs.declared.Running.{Running}
 use Rattle.report.specs.declared.Sum.{Sum}
-use Rattle.report.specs.Report.{reportSize, pastCount, fits}
+use Rattle.report.specs.Report.{reportSize, fits}
 
 -- "a sum past 64 bits"
 abbrev pub sumOf : ℕ → ℕ → Sum

@@ -6,9 +6,6 @@ ghost use lib.ListN.{length};
 ghost use Rattle.report.specs.Report.{reportSize, plus, only};
 ghost use Rattle.report.specs.Running.{sumOf, Runs, sumNumber, reportAfter};
 
-// A sum of the report passes 64 bits.
-pub const PAST_COUNT: u32 = 15;
-
 // A report that is being added to. Once a sum has passed 64 bits its numbers say nothing.
 pub struct Running {
     pub numbers: [u64; 34],
@@ -81,7 +78,7 @@ pub fn store(running: Running, report: &mut [u64]) -> u32
     ensures { λ r. ⌜ ((l : List ℕ) → Runs running l → (r ≡ sumNumber l) × (now (report .exit) ≡ reportAfter l (now (report .entry)))) ⌝ }
 {
     if running.passed {
-        return PAST_COUNT;
+        return bitstream::PAST_COUNT;
     }
     let numbers = running.numbers;
     buffer::copy_longs(report, &numbers);
