@@ -1,6 +1,6 @@
 -- Each map of a shot by itself, and maps that are cut. Assumes nothing.
 use Prim.Native.Nat.{ℕ, zero, suc, _+_, _*_, _≤_, _<_}
-use native.Mathlib.Nat.{mul-suc, mul-le-mul-left}
+use native.Mathlib.Nat.{mul-suc}
 use native.Mathlib.Omega.{arith}
 use mathlib.Core.Path.{_≡_, refl, sym, ap, _∙_}
 use mathlib.Core.Bool.{Bool, true, false}
@@ -8,7 +8,7 @@ use mathlib.Core.List.{List, [], _∷_, _++_, append-assoc}
 use lib.ListN.{length, getD, take, drop, length-drop}
 use lib.Seq.{take-take, drop-drop, take-at, drop-append-add, length-take-le}
 use borrow.Author.Tests.{eq-eqb}
-use Rattle.bitstream.specs.Reading.{Outcome, got, refused, choose}
+use Rattle.bitstream.specs.Reading.{Outcome, got, refused}
 use Rattle.headers.specs.declared.Session.{Session}
 use Rattle.headers.specs.Fits.{sessionFits}
 use Rattle.settings.specs.declared.Settings.{Settings}

@@ -1,17 +1,15 @@
 -- The maps of a shot that is being played, and maps that are cut. Assumes nothing.
 use Prim.Native.Nat.{ℕ, zero, suc, _+_, _*_, _≤_, _<_}
-use native.Mathlib.Nat.{mul-suc, add-comm}
+use native.Mathlib.Nat.{mul-suc}
 use native.Mathlib.Numerals.{add-one}
 use native.Mathlib.Omega.{arith}
-use mathlib.Core.Path.{_≡_, refl, sym, ap, ap₂, _∙_, subst}
+use mathlib.Core.Path.{_≡_, refl, sym, ap, _∙_}
 use mathlib.Core.Bool.{Bool, true, false}
 use mathlib.Core.List.{List, [], _∷_, _++_, append-assoc}
-use mathlib.Core.Logic.{_≢_}
 use lib.ListN.{length, getD, take, drop, set, length-drop, length-append, take-append-drop}
-use lib.Seq.{take-all, drop-drop, take-at, drop-at, length-take-le, getD-set-same, getD-set-other}
+use lib.Seq.{drop-drop, take-at, drop-at, length-take-le, getD-set-other}
 use borrow.Author.Tests.{eq-eqb}
 use Rattle.bitstream.specs.Reading.{Outcome, got, refused, choose}
-use Rattle.headers.specs.declared.Fields.{Fields}
 use Rattle.headers.specs.declared.Session.{Session}
 use Rattle.headers.specs.Fits.{sessionFits}
 use Rattle.settings.specs.declared.Settings.{Settings}
@@ -22,7 +20,7 @@ use Rattle.ways.specs.Ways.{firstWay}
 use Rattle.work_memory.specs.Memory.{Memory}
 use Rattle.reading.specs.declared.FrameAnswer.{FrameAnswer}
 use Rattle.reading.specs.declared.Verdict.{Verdict}
-use Rattle.reading.specs.declared.Verdict.the-variants.{Accepted, Refused}
+use Rattle.reading.specs.declared.Verdict.the-variants.{Refused}
 use Rattle.reading.specs.Answer.{Asked, sessionAfter, answerFor}
 use Rattle.decoding.specs.Answer.{State, Done, Way}
 use Rattle.theora.specs.Call.{Call, outcomeOf, byRules}

@@ -11,9 +11,7 @@ use Rattle.settings.specs.declared.Settings.{Settings}
 use Rattle.setup.specs.Table.{isTable}
 use Rattle.ways.specs.Ways.{firstWay}
 use Rattle.work_memory.specs.Memory.{Memory}
-use Rattle.work_memory.specs.Lengths.{blocks, lengthsOf, cleared}
-use Rattle.decoding.specs.Answer.{Done}
-use Rattle.theora.specs.Call.{byRules}
+use Rattle.work_memory.specs.Lengths.{lengthsOf, cleared}
 use Rattle.packet_list.specs.Packets.{packetsIn}
 use Rattle.buffer_names.specs.declared.Names.{Names}
 use Rattle.buffer_names.specs.Names.{namesOf, free}
@@ -22,7 +20,6 @@ use Rattle.shot_packets.proofs.Rules.{any-memory}
 use Rattle.shot_packets.proofs.Packet.{cleared-memory}
 use Rattle.shot_packets.proofs.Loop.{holds}
 use Rattle.shot.specs.declared.ShotAnswer.{ShotAnswer}
-use Rattle.shot.specs.declared.ShotVerdict.{ShotVerdict}
 use Rattle.shot.specs.declared.ShotVerdict.the-variants.{Played}
 use Rattle.shot.specs.Call.{ShotCall, ShotDone, shotCall, shotDone, reaches, lentNumber, shotNumber, startOf, refusedBy, unchanged, byShot}
 use Rattle.shot.proofs.Calls.{passes, left-by, memory-fits, planes-long, shot-empty, shot-some}

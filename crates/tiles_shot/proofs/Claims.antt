@@ -1,9 +1,8 @@
 -- Each map is the map of the per-packet call; cutting; the shot call beside the maps. Assumes nothing.
-use Prim.Native.Nat.{ℕ, _+_, _*_, _≤_, _<_}
+use Prim.Native.Nat.{ℕ, _+_, _*_, _≤_}
 use native.Mathlib.Omega.{arith}
 use mathlib.Core.Path.{_≡_, refl, sym, ap, _∙_}
-use mathlib.Core.Bool.{true, false}
-use mathlib.Core.List.{List, [], _∷_, _++_}
+use mathlib.Core.List.{List, _++_}
 use lib.ListN.{length, getD, take, drop}
 use Rattle.geometry.specs.Sizes.{across, squares as tiles}
 use Rattle.headers.specs.Sizes.{format}
@@ -12,17 +11,17 @@ use Rattle.ways.specs.Ways.{firstWay}
 use Rattle.theora.specs.Call.{byRules}
 use Rattle.packet_list.specs.Packets.{packetsIn, total}
 use Rattle.packet_list.proofs.Cut.{packets-cut, packets-many}
-use Rattle.shot_packets.specs.Play.{Shot, played}
-use Rattle.shot.specs.Call.{ShotCall, ShotDone, shotNumber, startOf, ended, unchanged, byShot}
+use Rattle.shot_packets.specs.Play.{played}
+use Rattle.shot.specs.Call.{ShotCall, startOf, ended, unchanged, byShot}
 use Rattle.shot.proofs.Calls.{passes, shot-refused, shot-played}
 use Rattle.shot.proofs.Turns.{accepted-passed}
-use Rattle.changed_tiles.specs.Call.{mapLengthOf, tilesCall}
+use Rattle.changed_tiles.specs.Call.{mapLengthOf}
 use Rattle.changed_tiles.proofs.Said.{quiet-is-zero, repeat-is-zero, first-is-one, map-is-left}
-use Rattle.shot_maps.specs.Maps.{mapsNumber, mapsAfter}
+use Rattle.shot_maps.specs.Maps.{mapsAfter}
 use Rattle.shot_maps.proofs.Fits.{maps-pass, maps-long}
 use Rattle.shot_maps.proofs.Each.{each, maps-cut}
-use Rattle.tiles_shot.specs.Call.{tilesShotDone, tilesShot}
-use Rattle.tiles_shot.specs.Claims.{NotRefused, mapAt, before, stateAt, callAt, MapsEach, MapsSay, MapsCut, ShotBesideMaps}
+use Rattle.tiles_shot.specs.Call.{tilesShot}
+use Rattle.tiles_shot.specs.Claims.{NotRefused, mapAt, stateAt, callAt, MapsEach, MapsSay, MapsCut, ShotBesideMaps}
 use Rattle.tiles_shot.proofs.Calls.{call-refused, call-made}
 
 -- the maps of a call that is not refused

@@ -1,8 +1,8 @@
 -- What is promised of the maps of a shot: each is the map of the call of its packet, so all that is said of that call's map holds of it.
 use Prim.Native.Nat.{ℕ, _+_, _*_, _<_}
 use mathlib.Core.Path.{_≡_}
-use mathlib.Core.Bool.{true, false}
-use mathlib.Core.List.{List, [], _∷_, _++_}
+use mathlib.Core.Bool.{false}
+use mathlib.Core.List.{List, [], _++_}
 use lib.ListN.{length, getD, take, drop, replicate}
 use Rattle.bitstream.specs.Reading.{refused}
 use Rattle.geometry.specs.Sizes.{across, squares as tiles}

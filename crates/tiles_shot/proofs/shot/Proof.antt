@@ -1,6 +1,6 @@
 -- `tiles_shot::shot` meets its contract. Assumes nothing.
 use borrow.Author.Needs.{needs}
-use mathlib.Core.Path.{_≡_, refl, sym, ap, _∙_}
+use mathlib.Core.Path.{refl, sym, _∙_}
 use native.Mathlib.Omega.{arith}
 use Rattle.work_memory.specs.Memory.{memory}
 use Rattle.setup.proofs.Held.{genuine-setup, genuine-held, genuine-holds}

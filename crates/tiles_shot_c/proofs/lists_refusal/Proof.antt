@@ -1,6 +1,6 @@
 -- `tiles_shot_c::lists_refusal` meets its contract. Assumes nothing.
 use borrow.Author.Needs.{needs}
-use mathlib.Core.Path.{_≡_, sym, _∙_}
+use mathlib.Core.Path.{sym, _∙_}
 use Rattle.tiles_shot_c.proofs.Calls.{number-1, number-20, number-lists, number-0}
 use Rattle.tiles_shot_c.proofs.lists_refusal.Statement.{statement}
 use Rattle.tiles_shot_c.proofs.lists_refusal.Tie as tie

@@ -1,6 +1,6 @@
 -- `tiles_shot_c::wedgepetal_tiles_shot` meets its contract. Assumes nothing.
 use borrow.Author.Needs.{needs}
-use mathlib.Core.Path.{_≡_, sym, _∙_}
+use mathlib.Core.Path.{sym, _∙_}
 use lib.ListN.{length}
 use Rattle.work_memory.specs.Memory.{memory}
 use Rattle.tiles_shot_c.proofs.Calls.{lists-long, face-made, face-unmade}
