@@ -12,6 +12,8 @@ use Rattle.headers.specs.Fits.{sessionFits}
 use Rattle.setup.specs.Header.{Setup}
 use Rattle.setup.specs.Table.{heldSetup}
 use Rattle.setup.specs.declared.LoadedSetup.{LoadedSetup}
+use Rattle.setup.specs.Loaded.{Holds}
+use Rattle.setup.proofs.Held.{held-reads}
 use Rattle.work_memory.specs.Memory.{Memory, Work}
 use Rattle.work_memory.specs.Lengths.{lengthsOf, cleared}
 use Rattle.tokens.specs.Answer.{Tables, treesOf}
@@ -20,8 +22,6 @@ use Rattle.reading.proofs.Readable.{read-readable}
 use Rattle.reading.proofs.Held.{tables-held, trees-held}
 use Rattle.packet_list.specs.Packets.{packetsIn, total}
 use Rattle.packet_list.proofs.Walk.{total-drop, packets-left, packets-none}
-use Rattle.shot_packets.specs.Inner.{TableLoaded}
-use Rattle.shot_packets.proofs.Rules.{loaded-holds}
 use Rattle.tally.specs.declared.Counted.{Counted}
 use Rattle.tally.specs.Counted.{countedBy}
 use Rattle.report.specs.declared.Running.{Running}
@@ -32,6 +32,7 @@ use Rattle.census_packets.specs.Recording.{answerAdds, packetAdds, packetsAdd}
 use Rattle.census_packets.specs.Inner.{AllNumbered}
 use Rattle.census_packets.proofs.Numbers.{answer-numbered}
 use Rattle.census_packets.proofs.Rules.{read-kept}
+use Rattle.census.specs.Call.{Loaded}
 
 -- what the packets from number i on add, which begin at a place
 abbrev pub left : (table lengths packets : List ℕ) → Session → (at i : ℕ) → List ℕ
@@ -103,19 +104,22 @@ module _ (table lengths packets : List ℕ) (start : ℕ) (s₀ : Session) (firs
           (on sums′ w′ (λ m q. subst (λ (x : Counted). Runs sums′ (plus m (answerAdds (x .answer) (x .counts)))) e (h m q)) ew)
 
 -- ---- a packet, by the setup that was loaded
-module _ (table : List ℕ) {loaded : LoadedSetup} (h : TableLoaded table loaded) where
-  pub nodes-whole : Tables (loaded .nodes)
-  nodes-whole = tables-held table loaded (loaded-holds table h)
+module _ (table : List ℕ) {loaded : LoadedSetup} (h : Loaded table loaded) where
+  holds : Holds table loaded (h .0)
+  holds = record { end = h .1; reads = held-reads table (h .2); is = h .3 }
 
-  by-held : (s : Session) (p : List ℕ) → read s table p ≡ readBy s (h .setup) p
+  pub nodes-whole : Tables (loaded .nodes)
+  nodes-whole = tables-held table loaded holds
+
+  by-held : (s : Session) (p : List ℕ) → read s table p ≡ readBy s (h .0) p
   unfolding read
-  by-held s p = ap (λ (o : Outcome Setup). after o (λ setup _. readBy s setup p)) (h .held)
+  by-held s p = ap (λ (o : Outcome Setup). after o (λ setup _. readBy s setup p)) (h .2)
 
   pub counted-is : (s : Session) → sessionFits s ≡ true → (part packet : List ℕ) → packet ≡ readable part → (c : Counted)
       → ((setup : Setup) → treesOf (loaded .nodes) ≡ setup .trees → c ≡ countedBy s (readBy s setup packet)) → c ≡ countedBy s (read s table part)
   counted-is s fits part packet e c q =
-      q (h .setup) (trees-held table loaded (loaded-holds table h))
-      ∙ ap (countedBy s) (ap (readBy s (h .setup)) e ∙ sym (by-held s (readable part)) ∙ read-readable s fits table part)
+      q (h .0) (trees-held table loaded holds)
+      ∙ ap (countedBy s) (ap (readBy s (h .0)) e ∙ sym (by-held s (readable part)) ∙ read-readable s fits table part)
 
   pub counted-numbered : (s : Session) (part : List ℕ) (c : Counted) → c ≡ countedBy s (read s table part) → AllNumbered (c .answer .verdict)
   counted-numbered s part c e = subst (λ (x : Counted). AllNumbered (x .answer .verdict)) (sym e) (answer-numbered s table part (read s table part) refl)

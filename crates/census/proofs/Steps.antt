@@ -19,7 +19,6 @@ use Rattle.reading.specs.Answer.{read}
 use Rattle.work_memory.specs.Memory.{Memory, Work, memory}
 use Rattle.packet_list.specs.Packets.{packetsIn, total}
 use Rattle.packet_list.proofs.Cut.{packets-many, packets-cut}
-use Rattle.shot_packets.specs.Inner.{TableLoaded}
 use Rattle.report.specs.declared.Running.{Running}
 use Rattle.report.specs.Report.{reportSize, plus, refusalAdds}
 use Rattle.report.specs.Running.{Runs, sumNumber, reportAfter}
@@ -30,11 +29,11 @@ use Rattle.census_packets.proofs.Headers.{total-three}
 use Rattle.census_packets.proofs.Numbers.{Sounds, headers-number, headers-sound, setup-held}
 use Rattle.census_packets.proofs.Rules.{hold, adds-read, adds-wrong}
 use Rattle.census.specs.declared.CensusAnswer.{CensusAnswer}
-use Rattle.census.specs.Call.{Loads, countNumber, countReport, zeroed, allZero, CensusCall, censusCall, CensusDone, censusDone, answerBy, reaches, byCensus}
+use Rattle.census.specs.Call.{Loads, Loaded, countNumber, countReport, zeroed, allZero, CensusCall, censusCall, CensusDone, censusDone, answerBy, reaches, byCensus}
 
 -- ---- a table memory that holds a setup is loaded
-pub loads : (table : List ℕ) {r : SetupRead} → Loads table → r ≡ asSetupRead (heldSetup table) → TableLoaded table (r .setup)
-loads table h e = record { setup = h .0; end = h .1; held = h .2; is = ap (λ (x : SetupRead). x .setup) (e ∙ ap asSetupRead (h .2)) }
+pub loads : (table : List ℕ) {r : SetupRead} → Loads table → r ≡ asSetupRead (heldSetup table) → Loaded table (r .setup)
+loads table h e = (h .0, h .1, h .2, ap (λ (x : SetupRead). x .setup) (e ∙ ap asSetupRead (h .2)))
 
 -- ---- the packets behind the headers
 pub behind : (lengths packets : List ℕ) → 3 ≤ length lengths → drop 3 (packetsIn lengths packets) ≡ packetsIn (drop 3 lengths) (drop (total (take 3 lengths)) packets)

@@ -10,6 +10,8 @@ use Rattle.bitstream.specs.Reading.{choose, got}
 use Rattle.bitstream.specs.Numbers.{wrongLength, pastPackets}
 use Rattle.setup.specs.Header.{Setup}
 use Rattle.setup.specs.Table.{heldSetup}
+use Rattle.setup.specs.Loaded.{loadedSetup}
+use Rattle.setup.specs.declared.LoadedSetup.{LoadedSetup}
 use Rattle.work_memory.specs.Memory.{Memory, memory}
 use Rattle.packet_list.specs.Packets.{packetsIn, total}
 use Rattle.report.specs.Report.{reportSize, plus}
@@ -82,6 +84,11 @@ byCensus c = choose (reaches c) (counting c) (censusDone (Refused pastPackets 0)
 abbrev pub CensusPromise : CensusCall → CensusDone → Type 0
 CensusPromise c d = d ≡ byCensus c
 
--- ---- inside: table memory holds some setup
+-- ---- inside
+-- table memory holds some setup
 abbrev pub Loads : List ℕ → Type 0
 Loads table = (s : Setup) × (e : ℕ) × (heldSetup table ≡ got s e)
+
+-- and this is the setup
+abbrev pub Loaded : List ℕ → LoadedSetup → Type 0
+Loaded table l = (s : Setup) × (e : ℕ) × (heldSetup table ≡ got s e) × (l ≡ loadedSetup s)

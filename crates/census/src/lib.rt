@@ -15,11 +15,10 @@ ghost use Rattle.work_memory.specs.Memory.{memory, work};
 ghost use Rattle.work_memory.specs.Lengths.{lengthsOf, cleared};
 ghost use Rattle.reading.specs.Answer.{read};
 ghost use Rattle.packet_list.specs.Packets.{total, packetsIn};
-ghost use Rattle.shot_packets.specs.Inner.{TableLoaded};
 ghost use Rattle.report.specs.Report.{plus};
 ghost use Rattle.report.specs.Running.{Runs};
 ghost use Rattle.census_packets.specs.Recording.{lent, said, packetsAdd};
-ghost use Rattle.census.specs.Call.{zeroed, Loads, countNumber, countReport, censusCall, censusDone, answerBy, CensusPromise};
+ghost use Rattle.census.specs.Call.{zeroed, Loads, Loaded, countNumber, countReport, censusCall, censusDone, answerBy, CensusPromise};
 
 // The recording was counted; or the number of the call's refusal, with place 0.
 pub enum CensusAnswer {
@@ -46,7 +45,7 @@ fn count_packets(
     modes: &mut [u8],
     active: &mut [u64],
 ) -> Running
-    requires { ⌜ (sessionFits s ≡ true) × TableLoaded (now table) loaded × (work (now records) (now coded) (now coefs) (now lasts) (now flags) (now bits) (now supers) (now modes) (now active) ≡ cleared (lengthsOf s) .work) × (3 ≤ length (now lengths)) × (start + total (drop 3 (now lengths)) ≤ length (now packets)) ⌝ }
+    requires { ⌜ (sessionFits s ≡ true) × Loaded (now table) loaded × (work (now records) (now coded) (now coefs) (now lasts) (now flags) (now bits) (now supers) (now modes) (now active) ≡ cleared (lengthsOf s) .work) × (3 ≤ length (now lengths)) × (start + total (drop 3 (now lengths)) ≤ length (now packets)) ⌝ }
     ensures { λ r. ⌜ ((l : List ℕ) → Runs running l → Runs r (plus l (packetsAdd (λ s packet. read s (now (table .entry)) packet) s (packetsIn (drop 3 (now (lengths .entry))) (drop start (now (packets .entry))))))) ⌝ }
 {
     let mut session = s;

@@ -11,18 +11,29 @@ use Rattle.headers.specs.Fits.{sessionFits}
 use Rattle.frame_header.specs.declared.Kind.{Kind}
 use Rattle.frame_header.specs.declared.Kind.the-variants.{Intra, Inter, Repeat}
 use Rattle.work_memory.specs.Lengths.{blocks, lengthsOf, lengthsFit, cleared}
-use Rattle.reading.specs.Answer.{Asked, read, sessionAfter, answerFor}
+use Rattle.reading.specs.Answer.{Asked, staysCounted, read, sessionAfter, answerFor}
+use Rattle.reading.proofs.Counted.{fits-after}
 use Rattle.reading.proofs.Places.{read-got}
 use Rattle.theora.specs.Lengths.{buffersFit}
 use Rattle.theora.specs.Call.{outcomeOf}
-use Rattle.shot_packets.proofs.Rules.{session-kept}
 use Rattle.report.specs.Report.{plus, only, refusalAdds}
 use Rattle.census_packets.specs.Recording.{Lent, said, packetAdds, packetsAdd}
 
 -- ---- what stays from packet to packet
+cleared-after : (kind : Kind) (s : Session) → cleared (lengthsOf (sessionAfter kind s)) ≡ cleared (lengthsOf s)
+unfolding sessionAfter
+cleared-after Intra s = refl
+cleared-after Inter s = refl
+cleared-after Repeat s = refl
+
+pub session-kept : (s : Session) → sessionFits s ≡ true → (o : Outcome Asked) → ((a : Asked) (e : ℕ) → o ≡ got a e → staysCounted (a .frame .header .kind) s ≡ true)
+    → let s′ = answerFor s o .session in (sessionFits s′ ≡ true) × (cleared (lengthsOf s′) ≡ cleared (lengthsOf s))
+session-kept s fits (refused k e) stays = (fits, refl)
+session-kept s fits (got a e) stays = let kind = a .frame .header .kind in (fits-after kind s fits (stays a e refl), cleared-after kind s)
+
 pub read-kept : (s : Session) → sessionFits s ≡ true → (table packet : List ℕ)
     → let s′ = answerFor s (read s table packet) .session in (sessionFits s′ ≡ true) × (cleared (lengthsOf s′) ≡ cleared (lengthsOf s))
-read-kept s fits table packet = let k = session-kept s fits (read s table packet) (λ a e r. read-got s packet table r .1) in (k .0, k .1)
+read-kept s fits table packet = session-kept s fits (read s table packet) (λ a e r. read-got s packet table r .1)
 
 module _ (l : Lent) (table : List ℕ) where
   -- every lent length is the published one
