@@ -1,4 +1,5 @@
--- Fits: the tests of settings and maps. Parts: lists of parts. Maps: one packet more, and maps that are cut.
+-- Fits: the tests of settings and maps. Parts: lists of parts. Maps: one packet more. Each: each map by itself, and maps that are cut.
 pub mod Fits
 pub mod Parts
 pub mod Maps
+pub mod Each

@@ -1,17 +1,15 @@
 -- The maps of a shot that is being played, and maps that are cut. Assumes nothing.
 use Prim.Native.Nat.{ℕ, zero, suc, _+_, _*_, _≤_, _<_}
-use native.Mathlib.Nat.{mul-suc, add-comm}
+use native.Mathlib.Nat.{mul-suc}
 use native.Mathlib.Numerals.{add-one}
 use native.Mathlib.Omega.{arith}
-use mathlib.Core.Path.{_≡_, refl, sym, ap, ap₂, _∙_, subst}
+use mathlib.Core.Path.{_≡_, refl, sym, ap, _∙_}
 use mathlib.Core.Bool.{Bool, true, false}
 use mathlib.Core.List.{List, [], _∷_, _++_, append-assoc}
-use mathlib.Core.Logic.{_≢_}
 use lib.ListN.{length, getD, take, drop, set, length-drop, length-append, take-append-drop}
-use lib.Seq.{take-all, drop-drop, take-at, drop-at, length-take-le, getD-set-same, getD-set-other}
+use lib.Seq.{drop-drop, take-at, drop-at, length-take-le, getD-set-other}
 use borrow.Author.Tests.{eq-eqb}
 use Rattle.bitstream.specs.Reading.{Outcome, got, refused, choose}
-use Rattle.headers.specs.declared.Fields.{Fields}
 use Rattle.headers.specs.declared.Session.{Session}
 use Rattle.headers.specs.Fits.{sessionFits}
 use Rattle.settings.specs.declared.Settings.{Settings}
@@ -22,7 +20,7 @@ use Rattle.ways.specs.Ways.{firstWay}
 use Rattle.work_memory.specs.Memory.{Memory}
 use Rattle.reading.specs.declared.FrameAnswer.{FrameAnswer}
 use Rattle.reading.specs.declared.Verdict.{Verdict}
-use Rattle.reading.specs.declared.Verdict.the-variants.{Accepted, Refused}
+use Rattle.reading.specs.declared.Verdict.the-variants.{Refused}
 use Rattle.reading.specs.Answer.{Asked, sessionAfter, answerFor}
 use Rattle.decoding.specs.Answer.{State, Done, Way}
 use Rattle.theora.specs.Call.{Call, outcomeOf, byRules}
@@ -33,7 +31,7 @@ use Rattle.buffer_names.specs.Names.{free, Sound}
 use Rattle.buffer_names.proofs.Free.{free-is}
 use Rattle.shot_packets.specs.Play.{Shot, shot, bufferOf, stateOf, callOf, after, oneMore, played}
 use Rattle.shot_packets.proofs.Rules.{index, apart}
-use Rattle.changed_tiles.specs.Call.{mapLengthOf, mapFits, mapAfter, frameFor, tilesCall}
+use Rattle.changed_tiles.specs.Call.{mapLengthOf, mapFits, mapAfter, refusedBy, frameFor, tilesCall}
 use Rattle.changed_tiles.proofs.Calls.{map-here}
 use Rattle.shot_maps.specs.Maps.{mapOf, mapsAfter, withPart}
 use Rattle.shot_maps.proofs.Parts.{part-ends}
@@ -194,3 +192,16 @@ module _ (st : Settings) (table lengths packets : List ℕ) (start : Shot) (maps
                 ∙ ap (λ (qs : List (List ℕ)). front ++ mapsAfter st table begun qs (drop (k * i) maps)) (sym (packets-left lengths packets i at l))
                 ∙ g .rest;
           }
+
+-- ---- the map does not look at what work memory held
+pub map-same : (st : Settings) (s : State) (c c′ : Call) → byRules firstWay s c ≡ byRules firstWay s c′ → (map : List ℕ) → tilesCall st s c map .map ≡ tilesCall st s c′ map .map
+unfolding tilesCall frameFor
+map-same st s c c′ e map = go (settingsFit st) (mapFits st (s .session) map)
+  where
+    go : (a b : Bool)
+        → let d = choose a (choose b (byRules firstWay s c) (refusedBy 1 s c)) (refusedBy 20 s c) in
+        let d′ = choose a (choose b (byRules firstWay s c′) (refusedBy 1 s c′)) (refusedBy 20 s c′) in
+        mapAfter st (s .session) (d .answer .verdict) (s .previous) (d .new) map ≡ mapAfter st (s .session) (d′ .answer .verdict) (s .previous) (d′ .new) map
+    go true true = ap (λ (d : Done). mapAfter st (s .session) (d .answer .verdict) (s .previous) (d .new) map) e
+    go true false = refl
+    go false b = refl

@@ -1,5 +1,5 @@
 -- `shot_maps::maps_number` meets its contract. Assumes nothing.
-use mathlib.Core.Path.{_≡_, refl, sym, ap, _∙_}
+use mathlib.Core.Path.{sym, _∙_}
 use Rattle.shot_maps.proofs.Fits.{number-0, number-1, number-20}
 use borrow.Author.Needs.{needs}
 use Rattle.shot_maps.proofs.maps_number.Statement.{statement}

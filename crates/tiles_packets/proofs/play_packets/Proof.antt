@@ -1,8 +1,8 @@
 -- `tiles_packets::play_packets` meets its contract. Assumes nothing.
-use Prim.Native.Nat.{ℕ, _+_, _-_, _*_}
+use Prim.Native.Nat.{ℕ, _+_, _-_}
 use native.Mathlib.Omega.{arith}
 use mathlib.Core.Path.{_≡_, refl, sym, ap, _∙_}
-use mathlib.Core.List.{List, [], _∷_}
+use mathlib.Core.List.{[], _∷_}
 use lib.ListN.{length, getD, take, drop}
 use Rattle.work_memory.specs.Memory.{Memory, memory}
 use Rattle.shot_packets.specs.Play.{shot}
