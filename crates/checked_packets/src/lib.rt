@@ -27,19 +27,6 @@ pub struct Watched {
     pub bit: usize,
 }
 
-// The buffer of a name, and buffer 1 without references.
-fn buffer_of<'a>(name: u64, first: &'a [u8], second: &'a [u8], third: &'a [u8]) -> &'a [u8]
-    ensures { λ r. ⌜ now r ≡ bufferOf ((now (first .entry)) ∷ (now (second .entry)) ∷ (now (third .entry)) ∷ []) name ⌝ }
-{
-    if name == 0 {
-        return first;
-    }
-    if name == 2 {
-        return third;
-    }
-    second
-}
-
 // One packet more: its refusal, if it is the first, or its frame compared. Behind a refusal nothing is looked at.
 fn watch(w: Watched, s: Session, verdict: Verdict, frame: &[u8], file: &[u8]) -> Watched
     requires { ⌜ (sessionFits s ≡ true) × (length (now frame) ≡ frameBytes (numbersOf s)) × (w .compared .place ≤ length (now file)) ⌝ }
@@ -48,16 +35,16 @@ fn watch(w: Watched, s: Session, verdict: Verdict, frame: &[u8], file: &[u8]) ->
     if w.refused {
         return w;
     }
-    let before = w.compared;
+    let reached = w.compared;
     match verdict {
         Verdict::Refused(k, e) => Watched {
-            compared: before,
+            compared: reached,
             refused: true,
             number: k,
             bit: e,
         },
         Verdict::Accepted(_) => {
-            let compared = stream_check::compare_frame(before, s, frame, file);
+            let compared = stream_check::compare_frame(reached, s, frame, file);
             Watched {
                 compared,
                 refused: false,
@@ -82,8 +69,13 @@ fn watch_named(
     requires { ⌜ (sessionFits s ≡ true) × (length (now first) ≡ frameBytes (numbersOf s)) × (length (now second) ≡ frameBytes (numbersOf s)) × (length (now third) ≡ frameBytes (numbersOf s)) × (w .compared .place ≤ length (now file)) ⌝ }
     ensures { λ r. ⌜ (r ≡ watched (numbersOf s) (now (file .entry)) w verdict (bufferOf ((now (first .entry)) ∷ (now (second .entry)) ∷ (now (third .entry)) ∷ []) name)) × (r .compared .place ≤ length (now (file .entry))) ⌝ }
 {
-    let frame = buffer_of(name, first, second, third);
-    watch(w, s, verdict, frame, file)
+    if name == 0 {
+        return watch(w, s, verdict, first, file);
+    }
+    if name == 2 {
+        return watch(w, s, verdict, third, file);
+    }
+    watch(w, s, verdict, second, file)
 }
 
 // Packets, applied in order: `shot_packets::play_packets`, and the frame of each that is accepted compared with the file.

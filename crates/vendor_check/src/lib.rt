@@ -8,13 +8,12 @@ use setup::LoadedSetup;
 use setup::SetupAnswer;
 ghost use mathlib.Core.Path.{_≡_};
 ghost use mathlib.Core.Bool.{true};
+ghost use Prim.Native.Nat.{_≤_};
 ghost use lib.ListN.{length};
 ghost use Rattle.headers.specs.Fits.{sessionFits};
 ghost use Rattle.work_memory.specs.Memory.{memory};
 ghost use Rattle.shot_packets.specs.Inner.{TableLoaded};
 ghost use Rattle.shot.specs.Call.{shotCall, lentNumber};
-ghost use Rattle.stream_check.specs.Compared.{onward, beginning};
-ghost use Rattle.y4m.specs.Stream.{numbersOf, headerText};
 ghost use Rattle.vendor_check.specs.Check.{begunBy, saidBy, lent, checkDone, ShotChecked, checkLeft, checked};
 
 // The file is what it must be; the first byte at which it differs; or the number of the first refusal and its place.
