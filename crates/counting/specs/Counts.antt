@@ -1,7 +1,9 @@
 -- "coded and uncoded blocks by plane, macro blocks by mode (inter frames only)": what one frame adds to a census.
 use Prim.Native.Nat.{ℕ, suc, _+_, _-_}
+use mathlib.Core.Path.{_≡_}
 use mathlib.Core.List.{List, [], _∷_}
 use mathlib.Core.Bool.{Bool, _&&_}
+use mathlib.Core.Logic.{_⊎_}
 use lib.Dec.{eqb, leb, ltb}
 use lib.ListN.{replicate}
 use Rattle.bitstream.specs.Reading.{choose}
@@ -41,6 +43,10 @@ modeCount modes m = count (λ n. eqb n m) modes
 
 abbrev pub modeCounts : List ℕ → List ℕ
 modeCounts modes = tabulated (modeCount modes) 0 8
+
+-- a frame whose blocks are counted: an intra or an inter frame
+abbrev pub Codes : Kind → Type 0
+Codes kind = (kind ≡ Intra) ⊎ (kind ≡ Inter)
 
 -- nothing counted
 abbrev pub noCounts : Counts

@@ -2,8 +2,10 @@
 use frame_header::Kind;
 use geometry::PixelFormat;
 ghost use mathlib.Core.Path.{_≡_};
+ghost use mathlib.Core.Bool.{_&&_};
 ghost use Prim.Native.Nat.{_≤_};
-ghost use lib.ListN.{length, replicate};
+ghost use lib.Dec.{leb, ltb};
+ghost use Rattle.bitstream.specs.Reading.{choose};
 ghost use Rattle.bitstream.specs.Lists.{Once, AllBelow};
 ghost use Rattle.geometry.specs.Sizes.{blocksOf, largest};
 ghost use Rattle.counting.specs.Counts.{countWithin, modeCounts, noCounts, blockCounts, frameCounts};
@@ -26,6 +28,16 @@ pub fn no_counts() -> Counts
     }
 }
 
+// 1 for a number that lies from `low` on and below `high`, else 0.
+fn one_if_within(n: u64, low: u64, high: u64) -> u64
+    ensures { λ r. ⌜ (r ≡ choose (leb low n && ltb n high) 1 0) × (r ≤ 1) ⌝ }
+{
+    if (low <= n) & (n < high) {
+        return 1;
+    }
+    0
+}
+
 // How many numbers lie from `low` on and below `high`.
 fn count_within(numbers: &[u64], low: u64, high: u64) -> u64
     ensures { λ r. ⌜ r ≡ countWithin low high (now (numbers .entry)) ⌝ }
@@ -33,10 +45,7 @@ fn count_within(numbers: &[u64], low: u64, high: u64) -> u64
     let mut i: usize = 0;
     let mut found: u64 = 0;
     while i < numbers.len() {
-        let n = numbers[i];
-        if (low <= n) & (n < high) {
-            found += 1;
-        }
+        found += one_if_within(numbers[i], low, high);
         i += 1;
     }
     found
@@ -69,9 +78,12 @@ fn count_blocks(format: PixelFormat, w: u64, h: u64, coded: &[u64], modes: [u64;
     let first = count_within(coded, 0, cb);
     let second = count_within(coded, cb, cr);
     let third = count_within(coded, cr, all);
+    let first_rest = cb - first;
+    let second_rest = cr - cb - second;
+    let third_rest = all - cr - third;
     Counts {
         coded: [first, second, third],
-        uncoded: [cb - first, cr - cb - second, all - cr - third],
+        uncoded: [first_rest, second_rest, third_rest],
         modes,
     }
 }

@@ -29,6 +29,7 @@ use Rattle.frame_packet.specs.Work.{padded, holding, workAfter, asFrame}
 use Rattle.frame_packet.specs.declared.Read.the-variants.{Whole, Refused}
 use Rattle.frame_packet.specs.declared.FrameRead.{FrameRead}
 use Rattle.frame_packet.proofs.Fits.{Fits, packet-fits}
+use Rattle.frame_packet.proofs.Held.{read-refused, read-whole}
 use Rattle.ways.specs.Loops.{_∈_}
 use Rattle.ways.specs.Ways.{Picture, firstWay}
 use Rattle.reconstruct.specs.Picture.{Blocks, Matrices, pictureOf}
@@ -41,24 +42,6 @@ use Rattle.headers.specs.Sizes.{format}
 use Rattle.reading.specs.Answer.{staysCounted, counted, readBy, sessionAfter, answerFor}
 use Rattle.decoding.specs.Answer.{state, done, picture, decoded}
 use Rattle.decoding.specs.Made.{AllQi, BlocksLent}
-
--- ---- what the reader's answer says
-pub read-refused : (o : Outcome Frame) {r : FrameRead} {k e : ℕ} → r ≡ asFrame o → r .read ≡ Refused k e → o ≡ refused k e
-read-refused (got fr d) {r} {k} {e} a h =
-    let t : Whole (length (fr .body .coded)) (fr .body .tokens .tokens) d ≡ Refused k e = sym (ap (λ (x : FrameRead). x .read) a) ∙ h in
-    let z : _≡_ {A = ℕ} 0 1 = cc in
-    absurd (omega arith)
-read-refused (refused j d) {r} {k} {e} a h = let t : Refused j d ≡ Refused k e = sym (ap (λ (x : FrameRead). x .read) a) ∙ h in cc
-
-pub read-whole : (o : Outcome Frame) {r : FrameRead} {n t e : ℕ} → r ≡ asFrame o → r .read ≡ Whole n t e
-    → (fr : Frame) × (o ≡ got fr e) × (n ≡ length (fr .body .coded)) × (r .header ≡ asHeader (fr .header)) × (t ≡ fr .body .tokens .tokens)
-read-whole (got fr d) {r} {n} {t} {e} a h =
-    let z : Whole (length (fr .body .coded)) (fr .body .tokens .tokens) d ≡ Whole n t e = sym (ap (λ (x : FrameRead). x .read) a) ∙ h in
-    (fr, cc, cc, ap (λ (x : FrameRead). x .header) a, cc)
-read-whole (refused j d) {r} {n} {t} {e} a h =
-    let t : Refused j d ≡ Whole n t e = sym (ap (λ (x : FrameRead). x .read) a) ∙ h in
-    let z : _≡_ {A = ℕ} 0 1 = cc in
-    absurd (omega arith)
 
 -- ---- a list with zeros behind it
 module _ {A : Type 0} (z : A) where

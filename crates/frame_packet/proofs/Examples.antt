@@ -32,12 +32,12 @@ use Rattle.block_qi.specs.BlockQi.{qiSteps, blockQi}
 use Rattle.numeric.specs.Sign.{withSign}
 use Rattle.token.specs.Token.{rowOf, meaning, extra}
 use Rattle.tokens.specs.Tokens.{token, unfinished, runOf, act, readFor, visit, pass, group, table, choices, atPosition, positionsFrom, ranks, start, readTokens}
-use Rattle.frame_packet.specs.Frame.{Frame, flagsOf, predictions, body, frame, framePacket}
+use Rattle.frame_packet.specs.Frame.{Frame, flagsOf, modesOf, vectorsOf, body, frame, framePacket}
 
-abbrev given : Kind → List ℕ → List ℕ → List BlockRecord → List ℤ → List ℕ → ℕ → Frame
-given kind qis coded records coefs lasts tokens = record {
+abbrev given : Kind → List ℕ → List ℕ → List ℕ → List BlockRecord → List ℤ → List ℕ → ℕ → Frame
+given kind qis coded modes records coefs lasts tokens = record {
   header = record { kind = kind; qis = qis };
-  body = record { coded = coded; records = records; tokens = record { coefs = coefs; lasts = lasts; tokens = tokens } };
+  body = record { coded = coded; modes = modes; records = records; tokens = record { coefs = coefs; lasts = lasts; tokens = tokens } };
 }
 
 -- "9 comes at the frame type bit (at once if empty)"
@@ -58,8 +58,8 @@ unfolding framePacket frame frameHeader frameType moreQis qiList reserved kindOf
 reserved-set = refl
 
 -- an inter frame with the qi 1 and no coded block: no super block partly coded and none of them fully; modes sent raw, of which there are none; the vector bit; the four choices
-nothing : framePacket Chroma420 1 1 [] true (0x41 ∷ 0x2A ∷ 0xF0 ∷ 0x00 ∷ 0x00 ∷ []) ≡ got (given Inter (1 ∷ []) [] (replicate 6 uncoded) [] [] 0) 37
-unfolding framePacket frame frameHeader frameType moreQis qiList reserved kindOf judged body flagsOf predictions
+nothing : framePacket Chroma420 1 1 [] true (0x41 ∷ 0x2A ∷ 0xF0 ∷ 0x00 ∷ 0x00 ∷ []) ≡ got (given Inter (1 ∷ []) [] (0 ∷ []) (replicate 6 uncoded) [] [] 0) 37
+unfolding framePacket frame frameHeader frameType moreQis qiList reserved kindOf judged body flagsOf modesOf vectorsOf
     interFlags superFlags sizesFrom partlyBlocks spread ones superBlockOf superBlockIn superBlocksBefore superBlocksOf bitString sent until oneRun nextBit run runLength unary most runExtra leastRun
     order flagged codedBlocks codedLuma setAt codedRecords rasterNumber frameOrder planeOrder inPlane inTurn ordered rowOfSquares square present shifted blocksOf blocksBefore total
     macroModes sentAlphabet modesFrom modeOf lumaCoded
@@ -68,8 +68,8 @@ unfolding framePacket frame frameHeader frameType moreQis qiList reserved kindOf
 nothing = refl
 
 -- four bytes of an intra frame with the qi 16, and lone leaves of the token 9: 64 times the value 1 in each block, for no bit but the four choices
-pub ones-all : framePacket Chroma420 1 1 (replicate 80 (leaf 9)) false (0x10 ∷ 0x00 ∷ 0x00 ∷ 0x00 ∷ []) ≡ got (given Intra (16 ∷ []) (0 ∷ 1 ∷ 3 ∷ 2 ∷ 4 ∷ 5 ∷ []) (replicate 6 nowCoded) (replicate 384 (pos 1)) (replicate 6 63) 384) 28
-unfolding framePacket frame frameHeader frameType moreQis qiList reserved kindOf judged body flagsOf predictions
+pub ones-all : framePacket Chroma420 1 1 (replicate 80 (leaf 9)) false (0x10 ∷ 0x00 ∷ 0x00 ∷ 0x00 ∷ []) ≡ got (given Intra (16 ∷ []) (0 ∷ 1 ∷ 3 ∷ 2 ∷ 4 ∷ 5 ∷ []) [] (replicate 6 nowCoded) (replicate 384 (pos 1)) (replicate 6 63) 384) 28
+unfolding framePacket frame frameHeader frameType moreQis qiList reserved kindOf judged body flagsOf modesOf vectorsOf
     intraFlags ones order flagged codedBlocks codedLuma setAt codedRecords rasterNumber frameOrder planeOrder inPlane inTurn ordered rowOfSquares square present shifted blocksOf blocksBefore total
     blockQi qiSteps readTokens positionsFrom atPosition choices table group ranks start pass visit readFor act runOf unfinished token tokenCode code extra meaning withSign rowOf whole field number bitAt
 ones-all = refl
@@ -82,7 +82,7 @@ run-past = refl
 
 -- 13: lone leaves of the token 8 (a run of zeros, 6 extra bits), each block with one zero at position 0; then 64 zeros from position 1 on, at that token's code, which is empty
 token-past : framePacket Chroma420 1 1 (replicate 80 (leaf 8)) false (0x10 ∷ 0x00 ∷ 0x00 ∷ 0x00 ∷ 0x00 ∷ 0x00 ∷ 0x00 ∷ 0x00 ∷ 0xFC ∷ []) ≡ refused 13 64
-unfolding framePacket frame frameHeader frameType moreQis qiList reserved kindOf judged body flagsOf predictions
+unfolding framePacket frame frameHeader frameType moreQis qiList reserved kindOf judged body flagsOf modesOf vectorsOf
     intraFlags ones order flagged codedBlocks codedLuma setAt codedRecords rasterNumber frameOrder planeOrder inPlane inTurn ordered rowOfSquares square present shifted blocksOf blocksBefore total
     blockQi qiSteps readTokens positionsFrom atPosition choices table group ranks start pass visit readFor act runOf unfinished token tokenCode code extra meaning withSign rowOf whole field number bitAt
 token-past = refl
@@ -94,10 +94,10 @@ moved-by x y = record { coded = true; «qi_index» = 0; prediction = Previous (r
 -- two macro blocks, and lone leaves of the token 0. The first has four vectors and its block D is not coded: A (1, 0), B (0, 1), C (-1, 2). The second, LAST,
 -- of which only block A is coded, takes the last vector that was read, which is C's
 four-then-last : framePacket Chroma420 2 1 (replicate 80 (leaf 0)) true (0x41 ∷ 0x51 ∷ 0x28 ∷ 0x21 ∷ 0xFB ∷ 0x10 ∷ 0x0A ∷ 0x60 ∷ 0x00 ∷ 0x00 ∷ [])
-    ≡ got (given Inter (1 ∷ []) (0 ∷ 1 ∷ 4 ∷ 2 ∷ [])
+    ≡ got (given Inter (1 ∷ []) (0 ∷ 1 ∷ 4 ∷ 2 ∷ []) (7 ∷ 3 ∷ [])
     (moved-by (pos 1) (pos 0) ∷ moved-by (pos 0) (pos 1) ∷ moved-by (negsuc 0) (pos 2) ∷ uncoded ∷ moved-by (negsuc 0) (pos 2) ∷ replicate 7 uncoded)
     (replicate 256 (pos 0)) (replicate 4 0) 4) 76
-unfolding framePacket frame frameHeader frameType moreQis qiList reserved kindOf judged body flagsOf predictions
+unfolding framePacket frame frameHeader frameType moreQis qiList reserved kindOf judged body flagsOf modesOf vectorsOf
     interFlags superFlags sizesFrom partlyBlocks spread ones superBlockOf superBlockIn superBlocksBefore superBlocksOf bitString sent until oneRun nextBit run runLength unary most runExtra leastRun
     order flagged codedBlocks codedLuma setAt codedRecords rasterNumber frameOrder planeOrder inPlane inTurn ordered rowOfSquares square present shifted blocksOf blocksBefore total
     macroModes sentAlphabet modesFrom modeOf mode lumaCoded
@@ -107,7 +107,7 @@ four-then-last = refl
 
 -- 4 within a vector: the same packet cut behind its sixth byte, in the first component of B, which is refused at its first bit
 component-cut : framePacket Chroma420 2 1 (replicate 80 (leaf 0)) true (0x41 ∷ 0x51 ∷ 0x28 ∷ 0x21 ∷ 0xFB ∷ 0x10 ∷ []) ≡ refused 4 47
-unfolding framePacket frame frameHeader frameType moreQis qiList reserved kindOf judged body flagsOf predictions
+unfolding framePacket frame frameHeader frameType moreQis qiList reserved kindOf judged body flagsOf modesOf vectorsOf
     interFlags superFlags sizesFrom partlyBlocks spread ones superBlockOf superBlockIn superBlocksBefore superBlocksOf bitString sent until oneRun nextBit run runLength unary most runExtra leastRun
     order flagged codedBlocks codedLuma setAt codedRecords rasterNumber frameOrder planeOrder inPlane inTurn ordered rowOfSquares square present shifted blocksOf blocksBefore total
     macroModes sentAlphabet modesFrom modeOf mode lumaCoded

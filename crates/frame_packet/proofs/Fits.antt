@@ -25,6 +25,8 @@ use Rattle.frame_header.proofs.Laws.{header-fits, header-kind}
 use Rattle.coded_flags.specs.Coded.{codedBlocks, codedLuma, codedRecords}
 use Rattle.coded_flags.proofs.CodedLaws.{coded-once, coded-below, coded-most, coded-is, coded-every, luma-most, records-all, records-length, coded-in-range}
 use Rattle.modes.specs.Modes.{macroModes}
+use Rattle.modes.proofs.Laws.{macroModes-length}
+use Rattle.modes.proofs.Below.{modes-below}
 use Rattle.vectors.specs.Vectors.{vectors}
 use Rattle.vectors.proofs.Laws.{Keeps, vectors-keep}
 use Rattle.block_qi.specs.BlockQi.{blockQi}
@@ -32,8 +34,15 @@ use Rattle.block_qi.proofs.Laws.{qi-length, qi-in-range, qi-but, qi-most}
 use Rattle.tokens.specs.Tokens.{Tokens, readTokens}
 use Rattle.tokens.proofs.Laws.{Given, tokens-given}
 use Rattle.tokens.proofs.Fronts.{same-at}
-use Rattle.frame_packet.specs.Frame.{Body, Frame, isIntra, flagsOf, predictions, body, frame, repeatFrame, framePacket}
-use Rattle.frame_packet.proofs.Laws.{made, tokensThen, indexThen, flags-of-length, packet-some}
+use Rattle.frame_packet.specs.Frame.{Body, Frame, isIntra, flagsOf, modesOf, vectorsOf, body, frame, repeatFrame, framePacket}
+use Rattle.frame_packet.proofs.Laws.{made, tokensThen, indexThen, vectorsThen, flags-of-length, packet-some}
+
+-- the modes of a frame of a kind: an intra frame has none, an inter frame one for each macro block
+pub record ModesFit (w h : ℕ) (kind : Kind) (modes : List ℕ) : Type 0 where
+  pub none-sent : kind ≡ Intra → modes ≡ []
+  pub all-there : kind ≡ Inter → length modes ≡ macroBlocksOf w h
+  pub most : length modes ≤ macroBlocksOf w h
+  pub below : AllBelow 8 modes
 
 -- the blocks of a frame of w by h macro blocks, of a kind and with so many qi
 pub record BodyFits (f : PixelFormat) (w h : ℕ) (kind : Kind) (qis : ℕ) (b : Body) : Type 0 where
@@ -50,6 +59,7 @@ pub record BodyFits (f : PixelFormat) (w h : ℕ) (kind : Kind) (qis : ℕ) (b :
   pub index : (k : ℕ) → k < length (b .coded) → getD (b .records) (getD (b .coded) k 0) uncoded .«qi_index» < qis
   -- those of an intra frame are predicted from no reference
   pub intra : kind ≡ Intra → (n : ℕ) → getD (b .records) n uncoded .prediction ≡ None
+  pub modes : ModesFit w h kind (b .modes)
   -- 64 coefficients and a last visit for each of them, and at most 64 tokens
   pub tokens : Given (length (b .coded)) (b .tokens)
 
@@ -59,27 +69,37 @@ pub record Fits (f : PixelFormat) (w h : ℕ) (fr : Frame) : Type 0 where
   pub body : BodyFits f w h (fr .header .kind) (length (fr .header .qis)) (fr .body)
 
 module _ (f : PixelFormat) (w h : ℕ) where
-  -- predictions change nothing else of the records
-  pub predictions-keep : (kind : Kind) (flags : List ℕ) (rs : List BlockRecord) (p : List ℕ) (i : ℕ) {ss : List BlockRecord} {e : ℕ} → AllInRange rs → predictions f w h kind flags rs p i ≡ got ss e → Keeps rs ss
-  unfolding predictions
-  predictions-keep kind flags rs p i {ss} {e} a g = go (isIntra kind) g
+  modes-fit : (kind : Kind) (flags p : List ℕ) (i : ℕ) {modes : List ℕ} {e : ℕ} → modesOf f w h kind flags p i ≡ got modes e → ModesFit w h kind modes
+  unfolding modesOf
+  modes-fit kind flags p i {modes} {e} g = go (isIntra kind) refl g
     where
-      go : (t : Bool) → pick t (pure rs) (bind (macroModes flags (macroBlocksOf w h)) (λ modes. vectors f w h modes rs)) p i ≡ got ss e → Keeps rs ss
-      go true g = let z : rs ≡ ss = cc in subst (Keeps rs) z (record { long = refl; in-range = a; but = λ m. refl })
-      go false g =
-          let u = bind-got (macroModes flags (macroBlocksOf w h)) (λ modes. vectors f w h modes rs) p i g in
-          vectors-keep f w h (u .0) rs p (u .1) a (u .3)
+      go : (t : Bool) → isIntra kind ≡ t → pick t (pure []) (macroModes flags (macroBlocksOf w h)) p i ≡ got modes e → ModesFit w h kind modes
+      go true y g =
+          let z : [] ≡ modes = cc in
+          record { none-sent = λ k. sym z; all-there = λ k. absurd (true≢false (sym y ∙ ap isIntra k)); most = omega (arith, ap length z); below = subst (AllBelow 8) z none }
+      go false y g =
+          let l = macroModes-length flags (macroBlocksOf w h) p i g in
+          record { none-sent = λ k. absurd (true≢false (sym (ap isIntra k) ∙ y)); all-there = λ k. l; most = omega (arith, l); below = modes-below flags (macroBlocksOf w h) p i g }
 
-  predictions-intra : (kind : Kind) (flags : List ℕ) (rs : List BlockRecord) (p : List ℕ) (i : ℕ) {ss : List BlockRecord} {e : ℕ} → predictions f w h kind flags rs p i ≡ got ss e → kind ≡ Intra → rs ≡ ss
-  unfolding predictions
-  predictions-intra kind flags rs p i {ss} {e} g y = go (isIntra kind) (ap isIntra y) g
+  -- vectors change nothing else of the records
+  pub vectors-of-keep : (kind : Kind) (modes : List ℕ) (rs : List BlockRecord) (p : List ℕ) (i : ℕ) {ss : List BlockRecord} {e : ℕ} → AllInRange rs → vectorsOf f w h kind modes rs p i ≡ got ss e → Keeps rs ss
+  unfolding vectorsOf
+  vectors-of-keep kind modes rs p i {ss} {e} a g = go (isIntra kind) g
     where
-      go : (t : Bool) → t ≡ true → pick t (pure rs) (bind (macroModes flags (macroBlocksOf w h)) (λ modes. vectors f w h modes rs)) p i ≡ got ss e → rs ≡ ss
+      go : (t : Bool) → pick t (pure rs) (vectors f w h modes rs) p i ≡ got ss e → Keeps rs ss
+      go true g = let z : rs ≡ ss = cc in subst (Keeps rs) z (record { long = refl; in-range = a; but = λ m. refl })
+      go false g = vectors-keep f w h modes rs p i a g
+
+  vectors-intra : (kind : Kind) (modes : List ℕ) (rs : List BlockRecord) (p : List ℕ) (i : ℕ) {ss : List BlockRecord} {e : ℕ} → vectorsOf f w h kind modes rs p i ≡ got ss e → kind ≡ Intra → rs ≡ ss
+  unfolding vectorsOf
+  vectors-intra kind modes rs p i {ss} {e} g y = go (isIntra kind) (ap isIntra y) g
+    where
+      go : (t : Bool) → t ≡ true → pick t (pure rs) (vectors f w h modes rs) p i ≡ got ss e → rs ≡ ss
       go true y g = cc
       go false y g = absurd (true≢false (sym y))
 
   module _ (trees : List Tree) (kind : Kind) (qis : ℕ) (some : 1 ≤ qis) (few : qis ≤ 3) (p : List ℕ) where
-    module _ (flags : List ℕ) (full : length flags ≡ blocksOf f w h) (predicted records : List BlockRecord) (k : Keeps (codedRecords f w h flags) predicted) (none : kind ≡ Intra → codedRecords f w h flags ≡ predicted)
+    module _ (flags : List ℕ) (full : length flags ≡ blocksOf f w h) (modes : List ℕ) (sent : ModesFit w h kind modes) (predicted records : List BlockRecord) (k : Keeps (codedRecords f w h flags) predicted) (none : kind ≡ Intra → codedRecords f w h flags ≡ predicted)
         (i e : ℕ) (g : blockQi qis (codedBlocks f w h flags) predicted p i ≡ got records e) (t : Tokens) (v : Given (length (codedBlocks f w h flags)) t) where
       flag-kept : (n : ℕ) → getD records n uncoded .coded ≡ getD (codedRecords f w h flags) n uncoded .coded
       flag-kept n =
@@ -92,7 +112,7 @@ module _ (f : PixelFormat) (w h : ℕ) where
           let y = records-all f w h flags (λ r. r .«qi_index» ≡ 0) refl refl n in
           omega arith
 
-      made-fits : BodyFits f w h kind qis (made f w h flags records t)
+      made-fits : BodyFits f w h kind qis (made f w h flags modes records t)
       made-fits = record {
         records = qi-length qis few (codedBlocks f w h flags) predicted p i records e g ∙ k .long ∙ records-length f w h flags;
         in-range = qi-in-range qis few (codedBlocks f w h flags) predicted p i records e g (k .in-range);
@@ -106,22 +126,25 @@ module _ (f : PixelFormat) (w h : ℕ) where
             ap (λ (r : BlockRecord). r .prediction) (qi-but qis few (codedBlocks f w h flags) predicted p i records e g n)
             ∙ ap (λ (l : List BlockRecord). getD l n uncoded .prediction) (sym (none y))
             ∙ records-all f w h flags (λ r. r .prediction ≡ None) refl refl n;
+        modes = sent;
         tokens = v;
       }
 
     pub body-fits : (i : ℕ) {b : Body} {e : ℕ} → body f w h trees kind qis p i ≡ got b e → BodyFits f w h kind qis b
     unfolding body
     body-fits i {b} {e} g =
-        let u = bind-got (flagsOf f w h kind) (λ flags. bind (predictions f w h kind flags (codedRecords f w h flags)) (indexThen f w h trees qis flags)) p i g in
+        let u = bind-got (flagsOf f w h kind) (λ flags. bind (modesOf f w h kind flags) (vectorsThen f w h trees kind qis flags)) p i g in
         let flags = u .0 in
         let full = flags-of-length f w h kind p i (u .2) in
-        let v = bind-got (predictions f w h kind flags (codedRecords f w h flags)) (indexThen f w h trees qis flags) p (u .1) (u .3) in
-        let q = bind-got (blockQi qis (codedBlocks f w h flags) (v .0)) (tokensThen f w h trees flags) p (v .1) (v .3) in
-        let t = bind-got (readTokens trees (codedLuma f w h flags) (length (codedBlocks f w h flags))) (λ t. pure (made f w h flags (q .0) t)) p (q .1) (q .3) in
-        let z : made f w h flags (q .0) (t .0) ≡ b = cc in
+        let m = bind-got (modesOf f w h kind flags) (vectorsThen f w h trees kind qis flags) p (u .1) (u .3) in
+        let modes = m .0 in
+        let v = bind-got (vectorsOf f w h kind modes (codedRecords f w h flags)) (indexThen f w h trees qis flags modes) p (m .1) (m .3) in
+        let q = bind-got (blockQi qis (codedBlocks f w h flags) (v .0)) (tokensThen f w h trees flags modes) p (v .1) (v .3) in
+        let t = bind-got (readTokens trees (codedLuma f w h flags) (length (codedBlocks f w h flags))) (λ t. pure (made f w h flags modes (q .0) t)) p (q .1) (q .3) in
+        let z : made f w h flags modes (q .0) (t .0) ≡ b = cc in
         subst (BodyFits f w h kind qis) z
-        (made-fits flags full (v .0) (q .0) (predictions-keep kind flags (codedRecords f w h flags) p (u .1) (coded-in-range f w h flags) (v .2))
-        (predictions-intra kind flags (codedRecords f w h flags) p (u .1) (v .2)) (v .1) (q .1) (q .2) (t .0) (tokens-given trees (codedLuma f w h flags) (length (codedBlocks f w h flags)) p (q .1) (luma-most f w h flags full) (t .2)))
+        (made-fits flags full modes (modes-fit kind flags p (u .1) (m .2)) (v .0) (q .0) (vectors-of-keep kind modes (codedRecords f w h flags) p (m .1) (coded-in-range f w h flags) (v .2))
+        (vectors-intra kind modes (codedRecords f w h flags) p (m .1) (v .2)) (v .1) (q .1) (q .2) (t .0) (tokens-given trees (codedLuma f w h flags) (length (codedBlocks f w h flags)) p (q .1) (luma-most f w h flags full) (t .2)))
 
   -- the frame of an empty packet
   pub repeatFrame-fits : Fits f w h (repeatFrame f w h)
@@ -138,9 +161,13 @@ module _ (f : PixelFormat) (w h : ℕ) where
       every = λ n l c. absurd (true≢false (sym c ∙ ap (λ (r : BlockRecord). r .coded) (getD-replicate (blocksOf f w h) n uncoded uncoded l)));
       index = λ k l. absurd (not-suc-le-zero l);
       intra = λ y n. ap (λ (r : BlockRecord). r .prediction) (same-at (blocksOf f w h) n uncoded);
+      modes = record { none-sent = λ k. refl; all-there = λ k. no-inter k; most = omega arith; below = none };
       tokens = record { tokens = omega arith; lasts = refl; coefs = refl; visits = λ b. omega arith; bounded = λ j. omega arith };
     };
   }
+    where
+      no-inter : {X : Type 0} → Repeat ≡ Inter → X
+      no-inter z = let y : _≡_ {A = ℕ} 0 1 = cc in absurd (omega arith)
 
   module _ (trees : List Tree) (references : Bool) where
     -- what a frame went through: its header, and its blocks behind it

@@ -1,7 +1,7 @@
--- What work memory holds after a frame was read, in the words of those who make its samples from it. Assumes nothing.
+-- What the reader's answer says, and what work memory holds after a frame was read, in the words of those who use it. Assumes nothing.
 use Prim.Native.Nat.{ℕ, _-_, _*_, _≤_}
 use native.Mathlib.Omega.{arith}
-use mathlib.Core.Path.{_≡_, ap, _∙_}
+use mathlib.Core.Path.{_≡_, sym, ap, _∙_}
 use mathlib.Core.List.{List}
 use lib.IntN.{pos}
 use lib.ListN.{length, take, drop, replicate, length-append, length-replicate, length-map}
@@ -12,10 +12,33 @@ use Rattle.block_record.specs.Packed.{packed}
 use Rattle.block_record.specs.Memory.{recordsOf}
 use Rattle.block_record.proofs.MemoryLaws.{records-packed}
 use Rattle.frame_header.specs.declared.Kind.{Kind}
-use Rattle.frame_packet.specs.Frame.{Body}
-use Rattle.frame_packet.specs.Work.{padded, holding}
+use Rattle.frame_header.specs.Answer.{asHeader}
+use Rattle.bitstream.specs.Reading.{Outcome, got, refused}
+use Rattle.frame_packet.specs.Frame.{Body, Frame}
+use Rattle.frame_packet.specs.declared.Read.the-variants.{Whole, Refused}
+use Rattle.frame_packet.specs.declared.FrameRead.{FrameRead}
+use Rattle.frame_packet.specs.Work.{padded, holding, asFrame}
 use Rattle.frame_packet.proofs.Fits.{BodyFits}
 
+-- ---- what the reader's answer says
+pub read-refused : (o : Outcome Frame) {r : FrameRead} {k e : ℕ} → r ≡ asFrame o → r .read ≡ Refused k e → o ≡ refused k e
+read-refused (got fr d) {r} {k} {e} a h =
+    let t : Whole (length (fr .body .coded)) (fr .body .tokens .tokens) d ≡ Refused k e = sym (ap (λ (x : FrameRead). x .read) a) ∙ h in
+    let z : _≡_ {A = ℕ} 0 1 = cc in
+    absurd (omega arith)
+read-refused (refused j d) {r} {k} {e} a h = let t : Refused j d ≡ Refused k e = sym (ap (λ (x : FrameRead). x .read) a) ∙ h in cc
+
+pub read-whole : (o : Outcome Frame) {r : FrameRead} {n t e : ℕ} → r ≡ asFrame o → r .read ≡ Whole n t e
+    → (fr : Frame) × (o ≡ got fr e) × (n ≡ length (fr .body .coded)) × (r .header ≡ asHeader (fr .header)) × (t ≡ fr .body .tokens .tokens)
+read-whole (got fr d) {r} {n} {t} {e} a h =
+    let z : Whole (length (fr .body .coded)) (fr .body .tokens .tokens) d ≡ Whole n t e = sym (ap (λ (x : FrameRead). x .read) a) ∙ h in
+    (fr, cc, cc, ap (λ (x : FrameRead). x .header) a, cc)
+read-whole (refused j d) {r} {n} {t} {e} a h =
+    let t : Refused j d ≡ Whole n t e = sym (ap (λ (x : FrameRead). x .read) a) ∙ h in
+    let z : _≡_ {A = ℕ} 0 1 = cc in
+    absurd (omega arith)
+
+-- ---- work memory
 -- a list of k with zeros behind it, n in all: its length, its front, and what is behind
 pub record Front {A : Type 0} (zero : A) (n k : ℕ) (l out : List A) : Type 0 where
   pub long : length out ≡ n

@@ -27,9 +27,9 @@ use Rattle.coded_flags.proofs.CodedLaws.{record-of, coded-in-range}
 use Rattle.block_qi.specs.BlockQi.{blockQi}
 use Rattle.block_qi.proofs.Laws.{qi-but}
 use Rattle.tokens.specs.Tokens.{readTokens}
-use Rattle.frame_packet.specs.Frame.{Body, Frame, flagsOf, predictions, body, framePacket}
-use Rattle.frame_packet.proofs.Laws.{made, tokensThen, indexThen, packet-some}
-use Rattle.frame_packet.proofs.Fits.{predictions-keep, frame-through, packet-repeat, packet-fits}
+use Rattle.frame_packet.specs.Frame.{Body, Frame, flagsOf, modesOf, vectorsOf, body, framePacket}
+use Rattle.frame_packet.proofs.Laws.{made, tokensThen, indexThen, vectorsThen, packet-some}
+use Rattle.frame_packet.proofs.Fits.{vectors-of-keep, frame-through, packet-repeat, packet-fits}
 
 module _ (f : PixelFormat) (w h : ℕ) where
   -- flags that are all 1 make every record coded
@@ -49,13 +49,15 @@ module _ (f : PixelFormat) (w h : ℕ) where
         → (n : ℕ) → getD (b .records) n uncoded .coded ≡ getD (codedRecords f w h (intraFlags f w h)) n uncoded .coded
     unfolding body flagsOf
     body-coded kind y qis few i {b} {e} g n =
-        let u = bind-got (flagsOf f w h kind) (λ flags. bind (predictions f w h kind flags (codedRecords f w h flags)) (indexThen f w h trees qis flags)) p i g in
+        let u = bind-got (flagsOf f w h kind) (λ flags. bind (modesOf f w h kind flags) (vectorsThen f w h trees kind qis flags)) p i g in
         let flags = u .0 in
-        let v = bind-got (predictions f w h kind flags (codedRecords f w h flags)) (indexThen f w h trees qis flags) p (u .1) (u .3) in
-        let q = bind-got (blockQi qis (codedBlocks f w h flags) (v .0)) (tokensThen f w h trees flags) p (v .1) (v .3) in
-        let t = bind-got (readTokens trees (codedLuma f w h flags) (length (codedBlocks f w h flags))) (λ t. pure (made f w h flags (q .0) t)) p (q .1) (q .3) in
-        let z : made f w h flags (q .0) (t .0) ≡ b = cc in
-        let k = predictions-keep f w h kind flags (codedRecords f w h flags) p (u .1) (coded-in-range f w h flags) (v .2) in
+        let m = bind-got (modesOf f w h kind flags) (vectorsThen f w h trees kind qis flags) p (u .1) (u .3) in
+        let modes = m .0 in
+        let v = bind-got (vectorsOf f w h kind modes (codedRecords f w h flags)) (indexThen f w h trees qis flags modes) p (m .1) (m .3) in
+        let q = bind-got (blockQi qis (codedBlocks f w h flags) (v .0)) (tokensThen f w h trees flags modes) p (v .1) (v .3) in
+        let t = bind-got (readTokens trees (codedLuma f w h flags) (length (codedBlocks f w h flags))) (λ t. pure (made f w h flags modes (q .0) t)) p (q .1) (q .3) in
+        let z : made f w h flags modes (q .0) (t .0) ≡ b = cc in
+        let k = vectors-of-keep f w h kind modes (codedRecords f w h flags) p (m .1) (coded-in-range f w h flags) (v .2) in
         ap (λ (b : Body). getD (b .records) n uncoded .coded) (sym z)
         ∙ ap (λ (r : BlockRecord). r .coded) (qi-but qis few (codedBlocks f w h flags) (v .0) p (v .1) (q .0) (q .1) (q .2) n)
         ∙ ap (λ (r : BlockRecord). r .coded) (k .but n)

@@ -25,6 +25,7 @@ use Rattle.coded_flags.specs.Flags.{interFlags, intraFlags}
 use Rattle.coded_flags.specs.Coded.{codedBlocks, codedLuma, codedRecords}
 use Rattle.coded_flags.proofs.Laws.{flags-lawful, flags-inside, flags-refuses, flags-spends, flags-length, intra-length}
 use Rattle.coded_flags.proofs.CodedLaws.{coded-most, luma-most}
+use Rattle.modes.specs.Modes.{macroModes}
 use Rattle.modes.proofs.Laws.{macroModes-lawful, macroModes-inside, macroModes-refuses, macroModes-spends, macroModes-length}
 use Rattle.vectors.proofs.Laws.{vectors-lawful, vectors-inside, vectors-refuses, vectors-spends}
 use Rattle.block_qi.specs.BlockQi.{blockQi}
@@ -32,39 +33,47 @@ use Rattle.block_qi.proofs.Laws.{qi-lawful, qi-inside, qi-refuses, qi-spends}
 use Rattle.tokens.specs.Tokens.{Tokens, readTokens}
 use Rattle.tokens.specs.Answer.{AllProper}
 use Rattle.tokens.proofs.Laws.{tokens-lawful, tokens-inside, tokens-refuses, tokens-spends}
-use Rattle.frame_packet.specs.Frame.{Body, isIntra, flagsOf, predictions, body, frame, framePacket}
+use Rattle.frame_packet.specs.Frame.{Body, isIntra, flagsOf, modesOf, vectorsOf, body, frame, framePacket}
 
 -- the numbers by which a frame packet is refused
 abbrev pub packetNumbers : List ℕ
 packetNumbers = 4 ∷ 9 ∷ 10 ∷ 11 ∷ 12 ∷ 13 ∷ []
 
 module _ (f : PixelFormat) (w h : ℕ) where
-  -- ---- the parts of `body` behind its predictions
-  abbrev pub made : List ℕ → List BlockRecord → Tokens → Body
-  made flags records t = record { coded = codedBlocks f w h flags; records = records; tokens = t }
+  -- ---- the parts of `body` behind its modes
+  abbrev pub made : (flags modes : List ℕ) → List BlockRecord → Tokens → Body
+  made flags modes records t = record { coded = codedBlocks f w h flags; modes = modes; records = records; tokens = t }
 
-  abbrev pub tokensThen : List Tree → List ℕ → List BlockRecord → Parse Body
-  tokensThen trees flags records = bind (readTokens trees (codedLuma f w h flags) (length (codedBlocks f w h flags))) (λ t. pure (made flags records t))
+  abbrev pub tokensThen : List Tree → (flags modes : List ℕ) → List BlockRecord → Parse Body
+  tokensThen trees flags modes records = bind (readTokens trees (codedLuma f w h flags) (length (codedBlocks f w h flags))) (λ t. pure (made flags modes records t))
 
-  abbrev pub indexThen : List Tree → ℕ → List ℕ → List BlockRecord → Parse Body
-  indexThen trees qis flags predicted = bind (blockQi qis (codedBlocks f w h flags) predicted) (tokensThen trees flags)
+  abbrev pub indexThen : List Tree → ℕ → (flags modes : List ℕ) → List BlockRecord → Parse Body
+  indexThen trees qis flags modes predicted = bind (blockQi qis (codedBlocks f w h flags) predicted) (tokensThen trees flags modes)
+
+  abbrev pub vectorsThen : List Tree → Kind → ℕ → (flags modes : List ℕ) → Parse Body
+  vectorsThen trees kind qis flags modes = bind (vectorsOf f w h kind modes (codedRecords f w h flags)) (indexThen trees qis flags modes)
 
   -- ---- Local and Firm
   flags-of-lawful : (kind : Kind) → Lawful (flagsOf f w h kind)
   unfolding flagsOf
   flags-of-lawful kind = pick-lawful (isIntra kind) (pure-lawful _) (flags-lawful f w h)
 
-  predictions-lawful : (kind : Kind) (flags : List ℕ) (rs : List BlockRecord) → Lawful (predictions f w h kind flags rs)
-  unfolding predictions
-  predictions-lawful kind flags rs = pick-lawful (isIntra kind) (pure-lawful rs) (bind-lawful (macroModes-lawful flags (macroBlocksOf w h)) (λ modes. vectors-lawful f w h modes rs))
+  modes-of-lawful : (kind : Kind) (flags : List ℕ) → Lawful (modesOf f w h kind flags)
+  unfolding modesOf
+  modes-of-lawful kind flags = pick-lawful (isIntra kind) (pure-lawful []) (macroModes-lawful flags (macroBlocksOf w h))
+
+  vectors-of-lawful : (kind : Kind) (modes : List ℕ) (rs : List BlockRecord) → Lawful (vectorsOf f w h kind modes rs)
+  unfolding vectorsOf
+  vectors-of-lawful kind modes rs = pick-lawful (isIntra kind) (pure-lawful rs) (vectors-lawful f w h modes rs)
 
   body-lawful : (trees : List Tree) (kind : Kind) (qis : ℕ) → Lawful (body f w h trees kind qis)
   unfolding body
   body-lawful trees kind qis =
       bind-lawful (flags-of-lawful kind) (λ flags.
-      bind-lawful (predictions-lawful kind flags (codedRecords f w h flags)) (λ predicted.
+      bind-lawful (modes-of-lawful kind flags) (λ modes.
+      bind-lawful (vectors-of-lawful kind modes (codedRecords f w h flags)) (λ predicted.
       bind-lawful (qi-lawful qis (codedBlocks f w h flags) predicted) (λ records.
-      bind-lawful (tokens-lawful trees (codedLuma f w h flags) (length (codedBlocks f w h flags))) (λ t. pure-lawful _))))
+      bind-lawful (tokens-lawful trees (codedLuma f w h flags) (length (codedBlocks f w h flags))) (λ t. pure-lawful _)))))
 
   pub frame-lawful : (trees : List Tree) (references : Bool) → Lawful (frame f w h trees references)
   unfolding frame
@@ -77,17 +86,22 @@ module _ (f : PixelFormat) (w h : ℕ) where
   unfolding flagsOf
   flags-of-inside kind = pick-inside (isIntra kind) (pure-inside _) (flags-inside f w h)
 
-  predictions-inside : {d : ℕ} (kind : Kind) (flags : List ℕ) (rs : List BlockRecord) → Inside d (predictions f w h kind flags rs)
-  unfolding predictions
-  predictions-inside kind flags rs = pick-inside (isIntra kind) (pure-inside rs) (bind-inside (macroModes-inside flags (macroBlocksOf w h)) (λ modes. vectors-inside f w h modes rs))
+  modes-of-inside : {d : ℕ} (kind : Kind) (flags : List ℕ) → Inside d (modesOf f w h kind flags)
+  unfolding modesOf
+  modes-of-inside kind flags = pick-inside (isIntra kind) (pure-inside []) (macroModes-inside flags (macroBlocksOf w h))
+
+  vectors-of-inside : {d : ℕ} (kind : Kind) (modes : List ℕ) (rs : List BlockRecord) → Inside d (vectorsOf f w h kind modes rs)
+  unfolding vectorsOf
+  vectors-of-inside kind modes rs = pick-inside (isIntra kind) (pure-inside rs) (vectors-inside f w h modes rs)
 
   body-inside : {d : ℕ} (trees : List Tree) (kind : Kind) (qis : ℕ) → Inside d (body f w h trees kind qis)
   unfolding body
   body-inside trees kind qis =
       bind-inside (flags-of-inside kind) (λ flags.
-      bind-inside (predictions-inside kind flags (codedRecords f w h flags)) (λ predicted.
+      bind-inside (modes-of-inside kind flags) (λ modes.
+      bind-inside (vectors-of-inside kind modes (codedRecords f w h flags)) (λ predicted.
       bind-inside (qi-inside qis (codedBlocks f w h flags) predicted) (λ records.
-      bind-inside (tokens-inside trees (codedLuma f w h flags) (length (codedBlocks f w h flags))) (λ t. pure-inside _))))
+      bind-inside (tokens-inside trees (codedLuma f w h flags) (length (codedBlocks f w h flags))) (λ t. pure-inside _)))))
 
   pub frame-inside : {d : ℕ} (trees : List Tree) (references : Bool) → Inside d (frame f w h trees references)
   unfolding frame
@@ -106,18 +120,22 @@ module _ (f : PixelFormat) (w h : ℕ) where
   unfolding flagsOf among
   flags-of-refuses kind = pick-refuses (isIntra kind) (pure-refuses _) (flags-refuses refl refl f w h)
 
-  predictions-refuses : (kind : Kind) (flags : List ℕ) (rs : List BlockRecord) → Refuses packetNumbers (predictions f w h kind flags rs)
-  unfolding predictions among
-  predictions-refuses kind flags rs =
-      pick-refuses (isIntra kind) (pure-refuses rs) (bind-refuses (macroModes-refuses refl flags (macroBlocksOf w h)) (λ modes. vectors-refuses refl f w h modes rs))
+  modes-of-refuses : (kind : Kind) (flags : List ℕ) → Refuses packetNumbers (modesOf f w h kind flags)
+  unfolding modesOf among
+  modes-of-refuses kind flags = pick-refuses (isIntra kind) (pure-refuses []) (macroModes-refuses refl flags (macroBlocksOf w h))
+
+  vectors-of-refuses : (kind : Kind) (modes : List ℕ) (rs : List BlockRecord) → Refuses packetNumbers (vectorsOf f w h kind modes rs)
+  unfolding vectorsOf among
+  vectors-of-refuses kind modes rs = pick-refuses (isIntra kind) (pure-refuses rs) (vectors-refuses refl f w h modes rs)
 
   body-refuses : (trees : List Tree) (kind : Kind) (qis : ℕ) → Refuses packetNumbers (body f w h trees kind qis)
   unfolding body among
   body-refuses trees kind qis =
       bind-refuses (flags-of-refuses kind) (λ flags.
-      bind-refuses (predictions-refuses kind flags (codedRecords f w h flags)) (λ predicted.
+      bind-refuses (modes-of-refuses kind flags) (λ modes.
+      bind-refuses (vectors-of-refuses kind modes (codedRecords f w h flags)) (λ predicted.
       bind-refuses (qi-refuses refl refl qis (codedBlocks f w h flags) predicted) (λ records.
-      bind-refuses (tokens-refuses refl refl trees (codedLuma f w h flags) (length (codedBlocks f w h flags))) (λ t. pure-refuses _))))
+      bind-refuses (tokens-refuses refl refl trees (codedLuma f w h flags) (length (codedBlocks f w h flags))) (λ t. pure-refuses _)))))
 
   pub frame-refuses : (trees : List Tree) (references : Bool) → Refuses packetNumbers (frame f w h trees references)
   unfolding frame among
@@ -155,12 +173,22 @@ module _ (f : PixelFormat) (w h : ℕ) where
   unfolding flagsOf
   flags-of-spends kind = pick-spends (isIntra kind) (λ _. spends-more (omega arith) (pure-spends _)) (λ _. flags-spends f w h)
 
-  predictions-spends : (kind : Kind) (flags : List ℕ) (rs : List BlockRecord) → Spends (28 + macroBlocksOf w h * 71) (predictions f w h kind flags rs)
-  unfolding predictions
-  predictions-spends kind flags rs =
-      pick-spends (isIntra kind) (λ _. spends-more (omega arith) (pure-spends rs))
-      (λ _. spends-more (omega arith) (bind-spends-got {b = 1 + macroBlocksOf w h * 64} (macroModes-spends flags (macroBlocksOf w h)) (λ modes p i e g.
-      spends-more (omega (arith, macroModes-length flags (macroBlocksOf w h) p i g)) (vectors-spends f w h modes rs))))
+  modes-of-spends : (kind : Kind) (flags : List ℕ) → Spends (27 + macroBlocksOf w h * 7) (modesOf f w h kind flags)
+  unfolding modesOf
+  modes-of-spends kind flags = pick-spends (isIntra kind) (λ _. spends-more (omega arith) (pure-spends [])) (λ _. macroModes-spends flags (macroBlocksOf w h))
+
+  -- at most a mode for each macro block
+  modes-of-most : (kind : Kind) (flags p : List ℕ) (i : ℕ) {modes : List ℕ} {e : ℕ} → modesOf f w h kind flags p i ≡ got modes e → length modes ≤ macroBlocksOf w h
+  unfolding modesOf
+  modes-of-most kind flags p i {modes} {e} g = go (isIntra kind) g
+    where
+      go : (t : Bool) → pick t (pure []) (macroModes flags (macroBlocksOf w h)) p i ≡ got modes e → length modes ≤ macroBlocksOf w h
+      go true g = let z : [] ≡ modes = cc in omega (arith, ap length z)
+      go false g = omega (arith, macroModes-length flags (macroBlocksOf w h) p i g)
+
+  vectors-of-spends : (kind : Kind) (modes : List ℕ) → length modes ≤ macroBlocksOf w h → (rs : List BlockRecord) → Spends (1 + macroBlocksOf w h * 64) (vectorsOf f w h kind modes rs)
+  unfolding vectorsOf
+  vectors-of-spends kind modes most rs = pick-spends (isIntra kind) (λ _. spends-more (omega arith) (pure-spends rs)) (λ _. spends-more (omega arith) (vectors-spends f w h modes rs))
 
   -- a packet that is not empty
   pub packet-some : (trees : List Tree) (references : Bool) (p : List ℕ) → 1 ≤ length p → framePacket f w h trees references p ≡ frame f w h trees references p 0
@@ -169,8 +197,8 @@ module _ (f : PixelFormat) (w h : ℕ) where
   packet-some trees references (b ∷ p) l = refl
 
   module _ (trees : List Tree) (proper : AllProper trees) where
-    index-spends : (flags : List ℕ) → length flags ≡ blocksOf f w h → (qis : ℕ) → qis ≤ 3 → (rs : List BlockRecord) → Spends (512 + blocksOf f w h * 2854) (indexThen trees qis flags rs)
-    index-spends flags full qis few rs =
+    index-spends : (flags : List ℕ) → length flags ≡ blocksOf f w h → (modes : List ℕ) (qis : ℕ) → qis ≤ 3 → (rs : List BlockRecord) → Spends (512 + blocksOf f w h * 2854) (indexThen trees qis flags modes rs)
+    index-spends flags full modes qis few rs =
         spends-more (omega (arith, coded-most f w h flags full, steps))
         (bind-spends (qi-spends qis (codedBlocks f w h flags) rs) (λ records.
         bind-spends {b = 0} (tokens-spends trees proper (codedLuma f w h flags) (length (codedBlocks f w h flags)) (luma-most f w h flags full)) (λ t. pure-spends _)))
@@ -184,8 +212,10 @@ module _ (f : PixelFormat) (w h : ℕ) where
         spends-more (omega arith)
         (bind-spends-got {b = 540 + blocksOf f w h * 2854 + macroBlocksOf w h * 71} (flags-of-spends kind) (λ flags p i e g.
         spends-more (omega arith)
-        (bind-spends {b = 512 + blocksOf f w h * 2854} (predictions-spends kind flags (codedRecords f w h flags)) (λ predicted.
-        index-spends flags (flags-of-length kind p i g) qis few predicted))))
+        (bind-spends-got {b = 513 + blocksOf f w h * 2854 + macroBlocksOf w h * 64} (modes-of-spends kind flags) (λ modes q j d y.
+        spends-more (omega arith)
+        (bind-spends {b = 512 + blocksOf f w h * 2854} (vectors-of-spends kind modes (modes-of-most kind flags q j y) (codedRecords f w h flags)) (λ predicted.
+        index-spends flags (flags-of-length kind p i g) modes qis few predicted))))))
 
     pub frame-spends : (references : Bool) → Spends frameBits (frame f w h trees references)
     unfolding frame

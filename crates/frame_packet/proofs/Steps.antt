@@ -1,8 +1,9 @@
 -- What each function has to show, over plain lists and outcomes. Assumes nothing.
 use Prim.Native.Nat.{ℕ, zero, _-_, _*_, _≤_, _^_}
 use native.Mathlib.Omega.{arith}
+use native.Mathlib.Nat.{sub-zero}
 use mathlib.Core.Path.{_≡_, refl, sym, ap, _∙_, subst}
-use mathlib.Core.List.{List, [], _∷_, _++_, map}
+use mathlib.Core.List.{List, [], _∷_, _++_, map, append-nil}
 use mathlib.Core.Bool.{false}
 use mathlib.Core.Logic.{⊎-elim}
 use lib.IntN.{ℤ, pos}
@@ -11,7 +12,8 @@ use lib.Seq.{take-at, length-take-le}
 use denote.Enum.Declared.{tagOf}
 use types.Run.{OneOf}
 use Rattle.bitstream.specs.Reading.{Outcome, got, refused, after, bind}
-use Rattle.bitstream.proofs.Laws.{bind-step}
+use Rattle.bitstream.proofs.Fields.{no-mix}
+use Rattle.bitstream.proofs.Laws.{bind-step, bind-got}
 use Rattle.huffman.specs.Tree.{Tree}
 use Rattle.buffer.proofs.Laws.{take-cleared, drop-cleared}
 use Rattle.geometry.specs.declared.PixelFormat.{PixelFormat}
@@ -20,7 +22,7 @@ use Rattle.geometry.specs.Sizes.{blocksOf, superBlocksOf, macroBlocksOf}
 use Rattle.geometry.proofs.SizeLaws.{blocks-each, sizes-small}
 use Rattle.bitstream.specs.declared.End.{End}
 use Rattle.bitstream.specs.declared.End.the-variants as end
-use Rattle.bitstream.specs.Answer.{Stored, StoredAs, asEnd}
+use Rattle.bitstream.specs.Answer.{IfGot, Stored, StoredAs, asEnd}
 use Rattle.bitstream.specs.Lists.{Once, AllBelow}
 use Rattle.block_record.specs.declared.BlockRecord.{BlockRecord}
 use Rattle.block_record.specs.Packed.{packed}
@@ -35,7 +37,9 @@ use Rattle.coded_flags.specs.Coded.{codedBlocks, codedLuma, codedRecords}
 use Rattle.coded_flags.specs.Answer.{listedOf}
 use Rattle.coded_flags.proofs.CodedLaws.{coded-once, coded-below, luma-most, coded-in-range}
 use Rattle.modes.specs.Modes.{macroModes}
+use Rattle.modes.proofs.Laws.{macroModes-length}
 use Rattle.vectors.specs.Vectors.{vectors}
+use Rattle.vectors.proofs.Laws.{Keeps}
 use Rattle.block_qi.specs.BlockQi.{blockQi}
 use Rattle.tokens.specs.Tokens.{Tokens, readTokens}
 use Rattle.tokens.specs.declared.Counted.{Counted}
@@ -46,10 +50,10 @@ use Rattle.work_memory.specs.Lengths.{published, cleared}
 use Rattle.frame_packet.specs.declared.CodedRead.{CodedRead}
 use Rattle.frame_packet.specs.declared.CodedRead.the-variants as answer
 use Rattle.frame_packet.specs.declared.Read.the-variants as read
-use Rattle.frame_packet.specs.Frame.{Body, isIntra, flagsOf, predictions, body}
-use Rattle.frame_packet.specs.Work.{padded, LeftBy, Left, asCoded, StoredCoded, StoredTokens, asRead}
+use Rattle.frame_packet.specs.Frame.{Body, isIntra, flagsOf, modesOf, vectorsOf, body}
+use Rattle.frame_packet.specs.Work.{padded, LeftBy, Left, asCoded, StoredCoded, predictions, StoredModes, StoredTokens, asRead}
 use Rattle.frame_packet.proofs.Laws.{made}
-use Rattle.frame_packet.proofs.Fits.{predictions-keep}
+use Rattle.frame_packet.proofs.Fits.{vectors-of-keep}
 
 -- ---- the published lengths
 pub record Sized (f : PixelFormat) (w h : ℕ) (m : Work) : Type 0 where
@@ -151,22 +155,44 @@ macro-blocks-fit Chroma444 w h = omega (arith, blocks-each Chroma444 w h)
 
 module _ (f : PixelFormat) (w h : ℕ) (k : Kind) (flags : List ℕ) (rs : List BlockRecord) (p : List ℕ) (i : ℕ) where
   pub predictions-none : k ≡ Intra → predictions f w h k flags rs p i ≡ got rs i
-  unfolding predictions
+  unfolding predictions modesOf vectorsOf
   predictions-none e = rw e refl
 
   module _ (e : isIntra k ≡ false) where
     pub predictions-modes : {n d : ℕ} → macroModes flags (macroBlocksOf w h) p i ≡ refused n d → predictions f w h k flags rs p i ≡ refused n d
-    unfolding predictions
+    unfolding predictions modesOf vectorsOf
     predictions-modes g = rw (e, g)
 
     pub predictions-vectors : {modes : List ℕ} {d : ℕ} → macroModes flags (macroBlocksOf w h) p i ≡ got modes d → predictions f w h k flags rs p i ≡ vectors f w h modes rs p d
-    unfolding predictions
+    unfolding predictions modesOf vectorsOf
     predictions-vectors g = rw (e, g)
+
+  -- the modes as the slice has them: it was all zero before
+  pub modes-none : (modes : List ℕ) → k ≡ Intra → modes ≡ replicate (macroBlocksOf w h) 0 → StoredModes f w h modes (modesOf f w h k flags p i)
+  unfolding modesOf
+  modes-none modes e z = rw e (z ∙ ap (λ (n : ℕ). replicate n 0) (sym (sub-zero (macroBlocksOf w h))))
+
+  pub modes-stored : (modes : List ℕ) → isIntra k ≡ false → {d : ℕ} → macroModes flags (macroBlocksOf w h) p i ≡ got modes d → StoredModes f w h modes (modesOf f w h k flags p i)
+  unfolding modesOf
+  modes-stored modes e g =
+      let z : macroBlocksOf w h - length modes ≡ 0 = omega (arith, macroModes-length flags (macroBlocksOf w h) p i g) in
+      rw (e, g) (sym (append-nil modes) ∙ ap (λ (n : ℕ). modes ++ replicate n 0) (sym z))
+
+  pub modes-refused : (modes : List ℕ) → isIntra k ≡ false → {n d : ℕ} → macroModes flags (macroBlocksOf w h) p i ≡ refused n d → StoredModes f w h modes (modesOf f w h k flags p i)
+  unfolding modesOf
+  modes-refused modes e g = rw (e, g) tt
+
+  -- predictions change nothing else of the records
+  predictions-keep : {ss : List BlockRecord} {e : ℕ} → AllInRange rs → predictions f w h k flags rs p i ≡ got ss e → Keeps rs ss
+  unfolding predictions
+  predictions-keep a g =
+      let u = bind-got (modesOf f w h k flags) (λ modes. vectorsOf f w h k modes rs) p i g in
+      vectors-of-keep f w h k (u .0) rs p (u .1) a (u .3)
 
   -- the predictions as the slice has them
   module _ (l : List ℕ) (a : AllInRange rs) {ss : List BlockRecord} {e : ℕ} (g : predictions f w h k flags rs p i ≡ got ss e) (s : l ≡ map packed ss) where
     in-range : AllInRange ss
-    in-range = predictions-keep f w h k flags rs p i a g .in-range
+    in-range = predictions-keep a g .in-range
 
     pub predicted-packed : AllPacked l
     predicted-packed = subst AllPacked (sym s) (all-packed ss in-range)
@@ -198,6 +224,28 @@ coded-listed f w h (refused j d) flags records coded s t g = let z : _≡_ {A = 
 after-after : {A B C : Type 0} (o : Outcome A) (m : A → ℕ → Outcome B) (g : B → ℕ → Outcome C) → after o (λ a e. after (m a e) g) ≡ after (after o m) g
 after-after (got a e) m g = refl
 after-after (refused k e) m g = refl
+
+-- the list that was got, none after a refusal
+abbrev listOf : Outcome (List ℕ) → List ℕ
+listOf (got l e) = l
+listOf (refused k e) = []
+
+-- what came first is needed again at last: it is there if what stands between them is
+module _ {A B C : Type 0} (o : Outcome (List ℕ)) (then : List ℕ → ℕ → Outcome A) (next : A → ℕ → Outcome B) where
+  first-at-last : (last : List ℕ → B → ℕ → Outcome C) → after o (λ l d. after (then l d) (λ a e. after (next a e) (last l))) ≡ after (after (after o then) next) (last (listOf o))
+  first-at-last last = go o
+    where
+      go : (o : Outcome (List ℕ)) → after o (λ l d. after (then l d) (λ a e. after (next a e) (last l))) ≡ after (after (after o then) next) (last (listOf o))
+      go (got l d) = after-after (then l d) next (last l)
+      go (refused k e) = refl
+
+module _ {A B : Type 0} (o : Outcome (List ℕ)) (then : List ℕ → ℕ → Outcome A) (next : A → ℕ → Outcome B) where
+  first-there : (P : List ℕ → Type 0) → IfGot P o → {b : B} {e : ℕ} → after (after o then) next ≡ got b e → P (listOf o)
+  first-there P s {b} {e} g = go o s g
+    where
+      go : (o : Outcome (List ℕ)) → IfGot P o → after (after o then) next ≡ got b e → P (listOf o)
+      go (got l d) s g = s
+      go (refused k d) s g = no-mix (sym g)
 
 module _ (f : PixelFormat) (w h : ℕ) (trees : List Tree) (k : Kind) (qis : ℕ) (p : List ℕ) (i : ℕ) where
   pub body-flags : {n e : ℕ} → flagsOf f w h k p i ≡ refused n e → body f w h trees k qis p i ≡ refused n e
@@ -236,34 +284,44 @@ module _ (f : PixelFormat) (w h : ℕ) (trees : List Tree) (k : Kind) (qis : ℕ
     abbrev pub indexed : Outcome (List BlockRecord)
     indexed = bind (predictions f w h k flags (recordsOf records)) (blockQi qis (take count coded)) p place
 
+    abbrev sent : Outcome (List ℕ)
+    sent = modesOf f w h k flags p place
+
+    abbrev pub whole : List BlockRecord → Tokens → Body
+    whole rs t = made f w h flags (listOf sent) rs t
+
     abbrev behind : List BlockRecord → ℕ → Outcome Body
-    behind rs e = after (readTokens trees luma count p e) (λ t d. got (made f w h flags rs t) d)
+    behind rs e = after (readTokens trees luma count p e) (λ t d. got (whole rs t) d)
 
     body-after : body f w h trees k qis p i ≡ after indexed behind
-    unfolding body
+    unfolding body predictions
     body-after =
         rw (x .there)
-        (after-after (predictions f w h k flags (codedRecords f w h flags) p place) (λ rs e. blockQi qis (codedBlocks f w h flags) rs p e) (λ rs e. after (readTokens trees (codedLuma f w h flags) (length (codedBlocks f w h flags)) p e) (λ t d. got (made f w h flags rs t) d))
-        ∙ (λ j. after (bind (predictions f w h k flags (sym listed-records j)) (blockQi qis (sym listed-taken j)) p place) (λ rs e. after (readTokens trees (sym (x .lumas) j) (sym (x .counted) j) p e) (λ t d. got (made f w h flags rs t) d))))
+        (first-at-last sent (λ modes d. vectorsOf f w h k modes (codedRecords f w h flags) p d) (λ rs e. blockQi qis (codedBlocks f w h flags) rs p e)
+        (λ modes rs e. after (readTokens trees (codedLuma f w h flags) (length (codedBlocks f w h flags)) p e) (λ t d. got (made f w h flags modes rs t) d))
+        ∙ (λ j. after (after (after sent (λ modes d. vectorsOf f w h k modes (sym listed-records j) p d)) (λ rs e. blockQi qis (sym listed-taken j) rs p e))
+        (λ rs e. after (readTokens trees (sym (x .lumas) j) (sym (x .counted) j) p e) (λ t d. got (whole rs t) d))))
 
     pub body-index : {n e : ℕ} → indexed ≡ refused n e → body f w h trees k qis p i ≡ refused n e
     body-index g = body-after ∙ ap (λ (o : Outcome (List BlockRecord)). after o behind) g
 
     module _ {rs : List BlockRecord} {e : ℕ} (g : indexed ≡ got rs e) where
       pub body-tokens : {n d : ℕ} → readTokens trees luma count p e ≡ refused n d → body f w h trees k qis p i ≡ refused n d
-      body-tokens q = body-after ∙ ap (λ (o : Outcome (List BlockRecord)). after o behind) g ∙ ap (λ (o : Outcome Tokens). after o (λ t d. got (made f w h flags rs t) d)) q
+      body-tokens q = body-after ∙ ap (λ (o : Outcome (List BlockRecord)). after o behind) g ∙ ap (λ (o : Outcome Tokens). after o (λ t d. got (whole rs t) d)) q
 
-      pub body-whole : {t : Tokens} {d : ℕ} → readTokens trees luma count p e ≡ got t d → body f w h trees k qis p i ≡ got (made f w h flags rs t) d
-      body-whole q = body-after ∙ ap (λ (o : Outcome (List BlockRecord)). after o behind) g ∙ ap (λ (o : Outcome Tokens). after o (λ t d. got (made f w h flags rs t) d)) q
+      pub body-whole : {t : Tokens} {d : ℕ} → readTokens trees luma count p e ≡ got t d → body f w h trees k qis p i ≡ got (whole rs t) d
+      body-whole q = body-after ∙ ap (λ (o : Outcome (List BlockRecord)). after o behind) g ∙ ap (λ (o : Outcome Tokens). after o (λ t d. got (whole rs t) d)) q
 
     -- what stands in the slices then
     pub left-by : (n : ℕ) (rs : List BlockRecord) (t : Tokens) (e : ℕ) (records′ : List ℕ) (cs : List ℤ) (ls flags′ bs supers modes active : List ℕ) → n ≡ blocksOf f w h → records′ ≡ map packed rs
-        → StoredTokens n count cs ls bs active (got t e) → LeftBy f w h (made f w h flags rs t) (work records′ coded cs ls flags′ bs supers modes active)
-    left-by n rs t e records′ cs ls flags′ bs supers modes active en r s = record {
+        → {d : ℕ} → indexed ≡ got rs d → StoredModes f w h modes sent → StoredTokens n count cs ls bs active (got t e) → LeftBy f w h (whole rs t) (work records′ coded cs ls flags′ bs supers modes active)
+    unfolding predictions
+    left-by n rs t e records′ cs ls flags′ bs supers modes active en r {d} g m s = record {
       records = r;
       coded = x .numbers;
       coefs = s .0 ∙ ap (λ (m : ℕ). padded (pos 0) (64 * m) (t .coefs)) en;
       lasts = s .1 ∙ ap (λ (m : ℕ). padded 0 m (t .lasts)) en;
+      modes = first-there sent (λ ms e. vectorsOf f w h k ms (recordsOf records) p e) (λ rs e. blockQi qis (take count coded) rs p e) (λ l. modes ≡ padded 0 (macroBlocksOf w h) l) m g;
       bits = subst (λ (c : ℕ). drop c bs ≡ replicate (blocksOf f w h - c) 0) (x .counted) (s .2 ∙ ap (λ (m : ℕ). replicate (m - count) 0) en);
       active = subst (λ (c : ℕ). drop c active ≡ replicate (blocksOf f w h - c) 0) (x .counted) (s .3 ∙ ap (λ (m : ℕ). replicate (m - count) 0) en);
     }

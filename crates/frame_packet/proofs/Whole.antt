@@ -9,7 +9,7 @@ use lib.IntN.{pos}
 use lib.ListN.{length, drop, replicate, length-append}
 use Rattle.bitstream.specs.Reading.{Outcome, got, refused, after, choose}
 use Rattle.geometry.specs.declared.PixelFormat.{PixelFormat}
-use Rattle.geometry.specs.Sizes.{blocksOf}
+use Rattle.geometry.specs.Sizes.{blocksOf, macroBlocksOf}
 use Rattle.huffman.specs.Tree.{Tree}
 use Rattle.bitstream.specs.declared.End.the-variants as end
 use Rattle.block_record.specs.Record.{uncoded}
@@ -24,9 +24,9 @@ use Rattle.frame_packet.specs.declared.Read.{Read}
 use Rattle.frame_packet.specs.declared.Read.the-variants as read
 use Rattle.frame_packet.specs.declared.FrameRead.{FrameRead}
 use Rattle.frame_packet.specs.Frame.{Body, Frame, body, frame, repeatFrame, framePacket}
-use Rattle.work_memory.specs.Memory.{Work}
+use Rattle.work_memory.specs.Memory.{Work, work}
 use Rattle.work_memory.specs.Lengths.{published, cleared}
-use Rattle.frame_packet.specs.Work.{padded, holding, LeftBy, Left, workAfter, asRead, asFrame}
+use Rattle.frame_packet.specs.Work.{padded, keeping, LeftBy, Left, workAfter, workKept, asRead, asFrame}
 use Rattle.frame_packet.proofs.Laws.{packet-some}
 
 -- ---- what the answers of the header and of the body say
@@ -77,11 +77,12 @@ module _ (f : PixelFormat) (w h : ℕ) (trees : List Tree) (references : Bool) (
       go [] e = refl
       go (b ∷ p) e = absurd (omega arith)
 
-  nothing-held : holding f w h (repeatFrame f w h .body) ≡ cleared (published f w h) .work
+  nothing-held : keeping f w h (repeatFrame f w h .body) ≡ cleared (published f w h) .work
   nothing-held =
       let r : map packed (replicate (blocksOf f w h) uncoded) ≡ replicate (blocksOf f w h) 0 = map-replicate packed (blocksOf f w h) uncoded ∙ ap (replicate (blocksOf f w h)) packed-uncoded in
       let n : blocksOf f w h - 0 ≡ blocksOf f w h = sub-zero (blocksOf f w h) in
       let m : 64 * blocksOf f w h - 0 ≡ 64 * blocksOf f w h = sub-zero (64 * blocksOf f w h) in
+      let k : macroBlocksOf w h - 0 ≡ macroBlocksOf w h = sub-zero (macroBlocksOf w h) in
       λ i. record {
         records = r i;
         coded = replicate (n i) 0;
@@ -90,25 +91,31 @@ module _ (f : PixelFormat) (w h : ℕ) (trees : List Tree) (references : Bool) (
         flags = cleared (published f w h) .work .flags;
         bits = cleared (published f w h) .work .bits;
         supers = cleared (published f w h) .work .supers;
-        modes = cleared (published f w h) .work .modes;
+        modes = replicate (k i) 0;
         active = cleared (published f w h) .work .active;
       }
 
   pub on-empty : (r : FrameRead) (m : Work) → r ≡ asFrame (choose references (got (repeatFrame f w h) 0) (refused 9 0)) → m ≡ cleared (published f w h) .work
-      → (r ≡ asFrame (framePacket f w h trees references p)) × (m ≡ workAfter f w h (framePacket f w h trees references p))
+      → (r ≡ asFrame (framePacket f w h trees references p)) × (m ≡ workKept f w h (framePacket f w h trees references p))
   on-empty r m a b = rw packet-empty (a, b ∙ go references)
     where
-      go : (t : Bool) → cleared (published f w h) .work ≡ workAfter f w h (choose t (got (repeatFrame f w h) 0) (refused 9 0))
+      go : (t : Bool) → cleared (published f w h) .work ≡ workKept f w h (choose t (got (repeatFrame f w h) 0) (refused 9 0))
       go true = sym nothing-held
       go false = refl
 
 -- ---- what a return has to show
 module _ (f : PixelFormat) (w h : ℕ) (r : FrameRead) (m : Work) (o : Outcome Frame) where
-  pub on-no-frame : {k e : ℕ} → o ≡ refused k e → r ≡ asFrame (refused k e) → m ≡ cleared (published f w h) .work → (r ≡ asFrame o) × (m ≡ workAfter f w h o)
+  pub on-no-frame : {k e : ℕ} → o ≡ refused k e → r ≡ asFrame (refused k e) → m ≡ cleared (published f w h) .work → (r ≡ asFrame o) × (m ≡ workKept f w h o)
   on-no-frame g a b = rw g (a, b)
 
-  pub on-frame : {fr : Frame} {e : ℕ} → o ≡ got fr e → r ≡ asFrame (got fr e) → m ≡ holding f w h (fr .body) → (r ≡ asFrame o) × (m ≡ workAfter f w h o)
+  pub on-frame : {fr : Frame} {e : ℕ} → o ≡ got fr e → r ≡ asFrame (got fr e) → m ≡ keeping f w h (fr .body) → (r ≡ asFrame o) × (m ≡ workKept f w h o)
   on-frame g a b = rw g (a, b)
+
+-- once the modes are cleared, too
+pub modes-cleared : (f : PixelFormat) (w h : ℕ) (m : Work) (o : Outcome Frame) → m ≡ workKept f w h o → (modes : List ℕ) → modes ≡ replicate (macroBlocksOf w h) 0
+    → work (m .records) (m .coded) (m .coefs) (m .lasts) (m .flags) (m .bits) (m .supers) modes (m .active) ≡ workAfter f w h o
+modes-cleared f w h m (got fr e) k modes z = λ i. work (k i .records) (k i .coded) (k i .coefs) (k i .lasts) (k i .flags) (k i .bits) (k i .supers) (z i) (k i .active)
+modes-cleared f w h m (refused n e) k modes z = λ i. work (k i .records) (k i .coded) (k i .coefs) (k i .lasts) (k i .flags) (k i .bits) (k i .supers) (z i) (k i .active)
 
 -- ---- clearing
 -- zeros are behind the coded blocks

@@ -28,9 +28,9 @@ use Rattle.coded_flags.proofs.Listing.{order-at}
 use Rattle.coded_flags.proofs.CodedLaws.{record-of, coded-in-range}
 use Rattle.block_qi.specs.BlockQi.{blockQi}
 use Rattle.block_qi.proofs.Laws.{qi-but}
-use Rattle.frame_packet.specs.Frame.{Body, Frame, isIntra, flagsOf, predictions, body, frame, repeatFrame, framePacket}
-use Rattle.frame_packet.proofs.Laws.{tokensThen, indexThen, made, packet-some}
-use Rattle.frame_packet.proofs.Fits.{predictions-keep, packet-fits, packet-kind, packet-repeat}
+use Rattle.frame_packet.specs.Frame.{Body, Frame, isIntra, flagsOf, modesOf, vectorsOf, body, frame, repeatFrame, framePacket}
+use Rattle.frame_packet.proofs.Laws.{tokensThen, indexThen, vectorsThen, made, packet-some}
+use Rattle.frame_packet.proofs.Fits.{vectors-of-keep, packet-fits, packet-kind, packet-repeat}
 use Rattle.reconstruct.specs.Picture.{pictureOf, recordOf}
 use Rattle.reading.specs.Answer.{Asked}
 use Rattle.decoding.specs.Answer.{State, picture, blocksAsked}
@@ -62,15 +62,17 @@ module _ (f : PixelFormat) (w h : ℕ) where
     body-intra : (i : ℕ) {b : Body} {e : ℕ} → body f w h trees Intra qis p i ≡ got b e → (n : ℕ) → getD (b .records) n uncoded .coded ≡ getD (codedRecords f w h (intraFlags f w h)) n uncoded .coded
     unfolding body
     body-intra i {b} {e} g n =
-        let u = bind-got (flagsOf f w h Intra) (λ flags. bind (predictions f w h Intra flags (codedRecords f w h flags)) (indexThen f w h trees qis flags)) p i g in
+        let u = bind-got (flagsOf f w h Intra) (λ flags. bind (modesOf f w h Intra flags) (vectorsThen f w h trees Intra qis flags)) p i g in
         let flags = u .0 in
-        let v = bind-got (predictions f w h Intra flags (codedRecords f w h flags)) (indexThen f w h trees qis flags) p (u .1) (u .3) in
-        let q = bind-got (blockQi qis (codedBlocks f w h flags) (v .0)) (tokensThen f w h trees flags) p (v .1) (v .3) in
-        let t = bind-got (readTokens trees (codedLuma f w h flags) (length (codedBlocks f w h flags))) (λ t. pure (made f w h flags (q .0) t)) p (q .1) (q .3) in
-        let z : made f w h flags (q .0) (t .0) ≡ b = cc in
+        let m = bind-got (modesOf f w h Intra flags) (vectorsThen f w h trees Intra qis flags) p (u .1) (u .3) in
+        let modes = m .0 in
+        let v = bind-got (vectorsOf f w h Intra modes (codedRecords f w h flags)) (indexThen f w h trees qis flags modes) p (m .1) (m .3) in
+        let q = bind-got (blockQi qis (codedBlocks f w h flags) (v .0)) (tokensThen f w h trees flags modes) p (v .1) (v .3) in
+        let t = bind-got (readTokens trees (codedLuma f w h flags) (length (codedBlocks f w h flags))) (λ t. pure (made f w h flags modes (q .0) t)) p (q .1) (q .3) in
+        let z : made f w h flags modes (q .0) (t .0) ≡ b = cc in
         ap (λ (b : Body). getD (b .records) n uncoded .coded) (sym z)
         ∙ ap (λ (r : BlockRecord). r .coded) (qi-but qis few (codedBlocks f w h flags) (v .0) p (v .1) (q .0) (q .1) (q .2) n)
-        ∙ ap (λ (r : BlockRecord). r .coded) (predictions-keep f w h Intra flags (codedRecords f w h flags) p (u .1) (coded-in-range f w h flags) (v .2) .but n)
+        ∙ ap (λ (r : BlockRecord). r .coded) (vectors-of-keep f w h Intra modes (codedRecords f w h flags) p (m .1) (coded-in-range f w h flags) (v .2) .but n)
         ∙ ap (λ (l : List ℕ). getD (codedRecords f w h l) n uncoded .coded) (flags-intra i (u .2))
 
   -- so a packet that gives an intra frame codes every block

@@ -66,7 +66,7 @@ module _ (c : tie.After-known-told4) where
   index =
       let a = s (c .before .before .before .before .before .before .before .before .before .before .before .before .before .before .before) .args in
       let w = c .before .before .before .before .before .before .before .before .before .read-records in
-      stored-as-at (map packed) (indexed (a .format) (a .w) (a .h) (treesOf (a .nodes .now)) (a .kind) (a .qis) (a .packet .now) (a .at) (flags (c .before .before .before .before .before .before .before .before .before .before .before .before .before .before .before)) (records (c .before .before .before .before .before .before .before .before .before .before .before .before .before .before .before)) (coded (c .before .before .before .before .before .before .before .before .before .before .before .before .before .before .before)) (count (c .before .before .before .before .before .before .before .before .before .before .before .before .before .before .before)) (luma (c .before .before .before .before .before .before .before .before .before .before .before .before .before .before .before)) (place (c .before .before .before .before .before .before .before .before .before .before .before .before .before .before .before)) (listed (c .before .before .before .before .before .before .before .before .before .before .before .before .before .before .before))) _ (w .ensures .0) (w .ensures .1) (c .before .done2 .given .1)
+      stored-as-at (map packed) (indexed (a .format) (a .w) (a .h) (treesOf (a .nodes .now)) (a .kind) (a .qis) (a .packet .now) (a .at) (flags (c .before .before .before .before .before .before .before .before .before .before .before .before .before .before .before)) (records (c .before .before .before .before .before .before .before .before .before .before .before .before .before .before .before)) (coded (c .before .before .before .before .before .before .before .before .before .before .before .before .before .before .before)) (count (c .before .before .before .before .before .before .before .before .before .before .before .before .before .before .before)) (luma (c .before .before .before .before .before .before .before .before .before .before .before .before .before .before .before)) (place (c .before .before .before .before .before .before .before .before .before .before .before .before .before .before .before)) (listed (c .before .before .before .before .before .before .before .before .before .before .before .before .before .before .before))) _ (w .ensures .0) (w .ensures .1 .0) (c .before .done2 .given .1)
 
   bits-then : length (c .before .before .before .before .before .before .before .before .before .read-records .last .1 .1 .1 .1 .1 .1 .1 .1 .1 .0) ≡ all (s (c .before .before .before .before .before .before .before .before .before .before .before .before .before .before .before))
   bits-then = c .before .before .before .before .before .before .before .before .before .read-records .kept .1 .1 .1 .1 .1 .1 .1 .1 .1 .0 ∙ c .before .before .before .before .before .before .before .before .before .before .before .before .before .before .before .before .before .before .before .before .before .before .before .before .before .before .before .before .read-coded .kept .1 .1 .1 .1 .1 .1 .1 .0 ∙ long (s (c .before .before .before .before .before .before .before .before .before .before .before .before .before .before .before)) .bits
@@ -103,7 +103,7 @@ read-records-requires c κs =
         p .1,
         p .2,
         k .1 .1 .1 .1 .1 .1 .1 .1 .0 ∙ long (c .before .before .before .before .before .before .before .before .before .before .before .before .before .before .before .before .before .before .before .before .before .before .before .before .before .before .before .before .before .before .before .before .before .before) .flags,
-        long (c .before .before .before .before .before .before .before .before .before .before .before .before .before .before .before .before .before .before .before .before .before .before .before .before .before .before .before .before .before .before .before .before .before .before) .modes,
+        ap (λ (m : Work). m .modes) (p .5),
         k .1 .1 .1 .1 .1 .1 .1 .1 .1 .0 ∙ long (c .before .before .before .before .before .before .before .before .before .before .before .before .before .before .before .before .before .before .before .before .before .before .before .before .before .before .before .before .before .before .before .before .before .before) .records,
         listed-packed (a .format) (a .w) (a .h) (treesOf (a .nodes .now)) (a .kind) (a .qis) (a .packet .now) (a .at) _ _ _ _ _ _ (listed d),
       ),
@@ -259,7 +259,7 @@ returns-4 c =
     let t = counted-done (readTokens (treesOf (a .nodes .now)) (luma d) (count d) (a .packet .now) (c .before .before .before .before .before .before .before .before .before .before .before .before .before .before .before .before .done2 .given .0 .0)) _ (count d) _ _ _ _ (w .ensures .0) (w .ensures .1) (c .before .given2 .given .1) in
     on-body (a .format) (a .w) (a .h) _ (body (a .format) (a .w) (a .h) (treesOf (a .nodes .now)) (a .kind) (a .qis) (a .packet .now) (a .at))
     (body-whole (a .format) (a .w) (a .h) (treesOf (a .nodes .now)) (a .kind) (a .qis) (a .packet .now) (a .at) (flags d) (records d) (coded d) (count d) (luma d) (place d) (listed d) (u .1) (t .1)) (listed d .counted) (t .2)
-    (left-by (a .format) (a .w) (a .h) (treesOf (a .nodes .now)) (a .kind) (a .qis) (a .packet .now) (a .at) (flags d) (records d) (coded d) (count d) (luma d) (place d) (listed d) _ (u .0) (t .0) (c .before .given2 .given .0 .0) _ _ _ _ _ _ _ _ (bits-then (c .before .before .before .before .before .before .before .before .before .before .before .before .before .before .before)) (u .2) (t .3))
+    (left-by (a .format) (a .w) (a .h) (treesOf (a .nodes .now)) (a .kind) (a .qis) (a .packet .now) (a .at) (flags d) (records d) (coded d) (count d) (luma d) (place d) (listed d) _ (u .0) (t .0) (c .before .given2 .given .0 .0) _ _ _ _ _ _ _ _ (bits-then (c .before .before .before .before .before .before .before .before .before .before .before .before .before .before .before)) (u .2) (u .1) (c .before .before .before .before .before .before .before .before .before .before .before .before .before .before .before .before .before .before .before .before .before .before .before .before .read-records .ensures .1 .1) (t .3))
 
 pub read-body-spec : {M : Type 1} → statement M
 read-body-spec =

@@ -11,7 +11,7 @@ use Rattle.block_record.specs.Packed.{packed}
 use Rattle.block_record.specs.Memory.{recordsOf}
 use Rattle.block_record.proofs.MemoryLaws.{AllInRange, records-in-range}
 use Rattle.block_qi.specs.BlockQi.{blockQi}
-use Rattle.frame_packet.specs.Frame.{predictions}
+use Rattle.frame_packet.specs.Work.{predictions}
 use Rattle.frame_packet.proofs.Steps.{same-stored, predicted-packed, predicted-then}
 use borrow.Author.Needs.{needs}
 use Rattle.frame_packet.proofs.read_records.Statement.{statement}
@@ -26,7 +26,7 @@ module _ (c : tie.Start) where
 
 -- the predictions, and the records as they are then
 predicted : (c : tie.After-known-told2) → (rs : List BlockRecord) × (outcome (c .before .before .before .before .before .before .before .before .before .before .before .before .before .before .before .before) ≡ got rs (c .before .done2 .given .0 .0)) × (c .before .before .before .before .before .before .before .read-predictions .last .1 .1 .1 .1 .1 .1 .1 .1 .0 ≡ map packed rs)
-predicted c = let w = c .before .before .before .before .before .before .before .read-predictions in stored-as-at (map packed) (outcome (c .before .before .before .before .before .before .before .before .before .before .before .before .before .before .before .before)) _ (w .ensures .0) (w .ensures .1) (c .before .done2 .given .1)
+predicted c = let w = c .before .before .before .before .before .before .before .read-predictions in stored-as-at (map packed) (outcome (c .before .before .before .before .before .before .before .before .before .before .before .before .before .before .before .before)) _ (w .ensures .0) (w .ensures .1 .0) (c .before .done2 .given .1)
 
 read-predictions-requires : tie.Need-read-predictions-requires
 read-predictions-requires c κs = search needs
@@ -59,8 +59,9 @@ same-length-2 c = search needs
 returns : tie.Need-returns
 returns c =
     let a = c .before .before .before .before .before .before .before .before .before .before .before .before .before .before .before .before .args in
-    on-refused (λ rs. c .before .before .before .before .before .before .before .read-predictions .last .1 .1 .1 .1 .1 .1 .1 .1 .0 ≡ map packed rs) (bind (predictions (a .format) (a .w) (a .h) (a .kind) (a .flags .now) (recordsOf (a .records .now))) (blockQi (a .qis) (a .coded .now)) (a .packet .now) (a .at))
-    (bind-refused (predictions (a .format) (a .w) (a .h) (a .kind) (a .flags .now) (recordsOf (a .records .now))) (blockQi (a .qis) (a .coded .now)) (a .packet .now) (a .at) (end-refused (outcome (c .before .before .before .before .before .before .before .before .before .before .before .before .before .before .before .before)) (c .before .before .before .before .before .before .before .read-predictions .ensures .0) (c .before .done .given .1)))
+    let z = on-refused (λ rs. c .before .before .before .before .before .before .before .read-predictions .last .1 .1 .1 .1 .1 .1 .1 .1 .0 ≡ map packed rs) (bind (predictions (a .format) (a .w) (a .h) (a .kind) (a .flags .now) (recordsOf (a .records .now))) (blockQi (a .qis) (a .coded .now)) (a .packet .now) (a .at))
+    (bind-refused (predictions (a .format) (a .w) (a .h) (a .kind) (a .flags .now) (recordsOf (a .records .now))) (blockQi (a .qis) (a .coded .now)) (a .packet .now) (a .at) (end-refused (outcome (c .before .before .before .before .before .before .before .before .before .before .before .before .before .before .before .before)) (c .before .before .before .before .before .before .before .read-predictions .ensures .0) (c .before .done .given .1))) in
+    (z .0, (z .1, c .before .before .before .before .before .before .before .read-predictions .ensures .1 .1))
 
 same-length-3 : tie.Need-same-length-3
 same-length-3 c = search needs
@@ -76,9 +77,10 @@ returns-2 c =
     let a = c .before .before .before .before .before .before .before .before .before .before .before .before .before .before .before .before .before .before .before .before .before .before .before .args in
     let u = predicted (c .before .before .before .before .before .before .before) in
     let w = c .before .before .before .before .read-block-qi in
-    same-stored (map packed) _
+    let z = same-stored (map packed) _
     (predicted-then (a .format) (a .w) (a .h) (a .kind) (a .flags .now) (recordsOf (a .records .now)) (a .packet .now) (a .at) _ (small (c .before .before .before .before .before .before .before .before .before .before .before .before .before .before .before .before .before .before .before .before .before .before .before)) (u .1) (u .2) (a .qis) (a .coded .now))
-    (w .ensures .0) (w .ensures .1)
+    (w .ensures .0) (w .ensures .1) in
+    (z .0, (z .1, c .before .before .before .before .before .before .before .before .before .before .before .before .before .before .read-predictions .ensures .1 .1))
 
 pub read-records-spec : {M : Type 1} → statement M
 read-records-spec =
