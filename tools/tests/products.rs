@@ -287,6 +287,14 @@ fn recordings_are_counted_and_reports_added_up() {
     assert!(both.ends_with(",all,2,9,2,0,0,0,1,0,0,0,0,0,0,0,0,0,0,0,0,0,8528,2100,2100,4672,1200,1200,1200,0,3,897,0,600,0,0,\"\"\n"), "{both}");
     let (status, _, err) = run(&folder, "census --add 1.csv 1.csv --quiet");
     assert_eq!((status, &err[..]), (1, "s.packets: counted twice\n"));
+    for words in [
+        "s.packets --csv s.packets",
+        ". --csv s.packets",
+        "--add 1.csv --csv 1.csv",
+    ] {
+        let (status, _, err) = run(&folder, &format!("census {words} --force"));
+        assert!(status == 2 && err.contains("named twice"), "{words}: {err}");
+    }
     let (status, _, err) = run(&folder, "census --add s.y4m");
     assert_eq!(status, 2, "{err}");
     let large = fs::read_to_string(folder.join("1.csv")).unwrap();

@@ -5,7 +5,7 @@ mod files;
 mod report;
 
 use crate::arguments::Job;
-use crate::input::Input;
+use crate::input::{Input, is_same_file};
 use crate::json::Json;
 use crate::memory::{self, Limit};
 use crate::progress::clock;
@@ -35,22 +35,15 @@ struct Census {
 
 /// Counts recordings, or adds up reports.
 pub fn run(job: &Job) -> Result<Said, Failure> {
-    let table = job.value("--csv").map(Path::new);
-    let force = job.has("--force");
-    let table = table.map(|path| (path, Target::plan(path, force)));
-    let table = match table {
-        Some((path, target)) => Some((path, target.map_err(Failure::File)?)),
-        None => None,
-    };
+    let path = job.value("--csv").map(Path::new);
+    let table = path.map(|path| Target::plan(path, job.has("--force")));
+    let table = table.transpose().map_err(Failure::File)?;
     let census = match job.has("--add") {
         true => add(job)?,
         false => count(job)?,
     };
     let all = report::sum(&census.lines).map_err(|why| Failure::Refused(why.to_string()))?;
-    let standard = table
-        .as_ref()
-        .is_some_and(|(path, _)| target::is_standard(path));
-    if let Some((_, mut target)) = table {
+    if let Some(mut target) = table {
         let text = report::csv(&census.lines, &all);
         target.open().map_err(Failure::File)?;
         let written = target.write(|out| out.write_all(text.as_bytes()));
@@ -64,13 +57,25 @@ pub fn run(job: &Job) -> Result<Said, Failure> {
             Form::Faults => census.faults(),
             Form::Text => census.text(&all),
         },
-        output_taken: standard || job.has("--quiet"),
+        output_taken: path.is_some_and(target::is_standard) || job.has("--quiet"),
         clean: census.is_clean(),
     })
 }
 
+/// A report is none of the files that are read.
+fn check_report<'a>(job: &Job, mut read: impl Iterator<Item = &'a Path>) -> Result<(), Failure> {
+    match job.value("--csv").map(Path::new) {
+        Some(path) if read.any(|read| is_same_file(read, path)) => {
+            let text = format!("{}: named twice, as two different files", path.display());
+            Err(Failure::Usage(text))
+        }
+        _ => Ok(()),
+    }
+}
+
 /// Adds up reports.
 fn add(job: &Job) -> Result<Census, Failure> {
+    check_report(job, job.words.iter().map(Path::new))?;
     let mut census = Census::default();
     for word in &job.words {
         let path = Path::new(word);
@@ -95,6 +100,7 @@ fn count(job: &Job) -> Result<Census, Failure> {
         passed_over,
         unread,
     } = files::find(job.words.iter().map(Path::new))?;
+    check_report(job, files.iter().map(|(path, _)| path.as_path()))?;
     let limit = Limit::new(parsed(job, "--max-memory", memory::parse)?);
     let jobs = parsed(job, "--jobs", |text| {
         text.parse().ok().filter(|jobs| *jobs > 0)
