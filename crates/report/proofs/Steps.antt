@@ -12,7 +12,7 @@ use Rattle.bitstream.specs.Reading.{choose}
 use Rattle.report.specs.declared.Running.{Running}
 use Rattle.report.specs.declared.Sum.{Sum}
 use Rattle.report.specs.Report.{reportSize, plus, fits}
-use Rattle.report.specs.Running.{sumOf, Runs}
+use Rattle.report.specs.Running.{sumOf, Runs, sumNumber, reportAfter}
 use Rattle.report.proofs.Sums.{by-elements, plus-long, plus-at, fits-all, fits-not, fits-at, past-stays}
 
 below-not : (j i : ℕ) → (j ≡ i → ⊥) → j < i + 1 → j < i
@@ -94,6 +94,21 @@ module _ (l m : List ℕ) (hl : length l ≡ reportSize) (hm : length m ≡ repo
     midway-next passed w s e = subst (λ (s : Sum). Midway l m (set numbers i (s .is)) (passed || s .past) (i + 1)) (sym e) (go (ltb (getD numbers i 0 + getD m i 0) (2 ^ 64)) refl)
       where
         go : (t : Bool) → ltb (getD numbers i 0 + getD m i 0) (2 ^ 64) ≡ t
-            → let s = choose t (record { is = getD numbers i 0 + getD m i 0; past = false }) (record { is = getD numbers i 0; past = true }) in Midway l m (set numbers i (s .is)) (passed || s .past) (i + 1)
+            → let s = choose {X = Sum} t (record { is = getD numbers i 0 + getD m i 0; past = false }) (record { is = getD numbers i 0; past = true }) in Midway l m (set numbers i (s .is)) (passed || s .past) (i + 1)
         go true f = on-sum passed w (ltb-true _ _ f)
         go false f = on-past passed w (ltb-false _ _ f)
+
+pub at-end : (i : ℕ) → reportSize ≤ i → i ≤ 34 → (l m numbers : List ℕ) (passed : Bool) → Midway l m numbers passed i → Midway l m numbers passed reportSize
+at-end i a b l m numbers passed w = let e : i ≡ reportSize = omega arith in subst (Midway l m numbers passed) e w
+
+-- a report as it is lent: each number has 64 bits
+pub begun : (l : List ℕ) → length l ≡ reportSize → ((i : ℕ) → getD l i 0 < 2 ^ 64) → (numbers : List ℕ) → numbers ≡ l → Runs (record { numbers = numbers; passed = false }) l
+begun l h below numbers e = record { long = h; kept = λ _. (e, fits-all l below); past = λ z. let y : _≡_ {A = ℕ} 0 1 = cc in absurd (omega arith) }
+
+-- the sums are stored, or 15 leaves the report as it was
+module _ (r : Running) (l report : List ℕ) (h : Runs r l) where
+  pub not-stored : r .passed ≡ true → (15 ≡ sumNumber l) × (report ≡ reportAfter l report)
+  not-stored p = rw (h .past p) (refl, refl)
+
+  pub stored : r .passed ≡ false → (after : List ℕ) → after ≡ r .numbers → (0 ≡ sumNumber l) × (after ≡ reportAfter l report)
+  stored p after e = let k = h .kept p in rw (k .1) (refl, e ∙ k .0)

@@ -82,12 +82,12 @@ pub past-stays : (l m : List ℕ) → length l ≡ length m → fits l ≡ false
 unfolding fits plus
 past-stays [] m h f = f
 past-stays (x ∷ l) [] h f = absurd (omega arith)
-past-stays (x ∷ l) (y ∷ m) h f = go (ltb x (2 ^ 64)) refl f
+past-stays (x ∷ l) (y ∷ m) h f = go (past-stays l m (omega arith)) (ltb x (2 ^ 64)) refl f
   where
     then : (b : Bool) → fits (plus l m) ≡ false → (b && fits (plus l m)) ≡ false
     then true e = e
     then false e = refl
 
-    go : (b : Bool) → ltb x (2 ^ 64) ≡ b → (b && fits l) ≡ false → (ltb (x + y) (2 ^ 64) && fits (plus l m)) ≡ false
-    go true t e = then (ltb (x + y) (2 ^ 64)) (past-stays l m (omega arith) e)
-    go false t e = rw (le-ltb (x + y) (2 ^ 64) (omega (arith, ltb-false x (2 ^ 64) t)))
+    go : (fits l ≡ false → fits (plus l m) ≡ false) → (b : Bool) → ltb x (2 ^ 64) ≡ b → (b && fits l) ≡ false → (ltb (x + y) (2 ^ 64) && fits (plus l m)) ≡ false
+    go rest true t e = then (ltb (x + y) (2 ^ 64)) (rest e)
+    go rest false t e = rw (le-ltb (x + y) (2 ^ 64) (omega (arith, ltb-false x (2 ^ 64) t)))

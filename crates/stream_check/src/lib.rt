@@ -71,8 +71,9 @@ fn compare(c: Compared, want: &[u8], file: &[u8]) -> Compared
     let at = c.place;
     let end = file.len();
     let n = difference(want, &file[at..end]);
+    let next = at + n;
     Compared {
-        place: at + n,
+        place: next,
         differs: n < want.len(),
     }
 }

@@ -2,12 +2,12 @@
 use borrow.Author.Needs.{needs}
 use Prim.Native.Nat.{ℕ, _-_, _≤_}
 use native.Mathlib.Omega.{arith}
-use mathlib.Core.Path.{_≡_}
+use mathlib.Core.Path.{_≡_, _∙_}
 use mathlib.Core.List.{List}
-use lib.ListN.{length}
+use lib.ListN.{length, length-set}
 use Rattle.report.specs.Report.{reportSize}
 use Rattle.report.specs.Running.{Runs}
-use Rattle.report.proofs.Steps.{Midway, midway-first, midway-next, midway-last}
+use Rattle.report.proofs.Steps.{Midway, midway-first, midway-next, midway-last, at-end}
 use Rattle.report.proofs.add.Statement.{statement}
 use Rattle.report.proofs.add.Tie as tie
 use Rattle.report.proofs.add.Reads as reads
@@ -21,7 +21,7 @@ abbrev μ-loop : tie.MeasureT-loop
 μ-loop more numbers₀ passed₀ i₀ numbers passed i = 34 - i
 
 loop-holds : tie.Need-loop-holds Inv-loop μ-loop
-loop-holds c = search needs
+loop-holds c = (omega arith, search needs, λ l h. midway-first l ((c .before .before .args) .more .now) (h .long) ((c .before .before .pre)) _ h)
 
 mul-n : tie.Need-mul-n Inv-loop μ-loop
 mul-n c = search needs
@@ -51,10 +51,10 @@ loop-less : tie.Need-loop-less Inv-loop μ-loop
 loop-less c = search needs
 
 loop-again : tie.Need-loop-again Inv-loop μ-loop
-loop-again c = search needs
+loop-again c = (omega (arith, (c .before .before .before .loop-test) .taken), length-set ((c .before .before .before .before .loop) .numbers) ((c .before .before .before .before .loop) .i) ((c .before .sum-of) .result .is) ∙ (c .before .before .before .before .loop) .inv .1, λ l h. midway-next l ((c .before .before .before .before .before .before .before .args) .more .now) (h .long) ((c .before .before .before .before .before .before .before .pre)) ((c .before .before .before .before .loop) .numbers) ((c .before .before .before .before .loop) .i) ((c .before .before .before .loop-test) .taken) ((c .before .before .before .before .loop) .inv .1) ((c .before .before .before .before .loop) .passed) ((c .before .before .before .before .loop) .inv .2 l h) ((c .before .sum-of) .result) ((c .before .sum-of) .ensures))
 
 returns : tie.Need-returns Inv-loop μ-loop
-returns c = search needs
+returns c = λ l h. midway-last l ((c .before .before .before .before .args) .more .now) (h .long) ((c .before .before .before .before .pre)) _ ((c .before .loop) .inv .1) (at-end ((c .before .loop) .i) ((c .loop-test) .left) ((c .before .loop) .inv .0) _ _ _ _ ((c .before .loop) .inv .2 l h))
 
 pub add-spec : {M : Type 1} → statement M
 add-spec =

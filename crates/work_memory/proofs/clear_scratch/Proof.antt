@@ -4,6 +4,16 @@ use borrow.Author.Needs.{needs}
 use Rattle.work_memory.proofs.clear_scratch.Statement.{statement}
 use Rattle.work_memory.proofs.clear_scratch.Tie as tie
 
+returns : tie.Need-returns
+returns c =
+    let a = c .before .before .before .before .before .before .before .before .before .before .before .before .before .before .before .before .before .before .before .before .args in
+    let p = c .before .before .before .before .before .before .before .before .before .before .before .before .before .before .before .before .before .before .before .before .pre in (
+      clear-whole 0 (a .flags .now) _ (c .before .before .before .before .before .before .before .before .before .before .before .before .before .before .clear-bytes .ensures),
+      clear-front 0 (a .count) (a .bits .now) _ (p .0) (p .1) (c .before .before .before .before .before .before .before .before .before .before .clear-bytes2 .ensures),
+      clear-whole 0 (a .supers .now) _ (c .before .before .before .before .before .before .clear-bytes3 .ensures),
+      clear-front 0 (a .count) (a .active .now) _ (p .2) (p .3) (c .before .before .clear-longs .ensures),
+    )
+
 clear-bytes-requires : tie.Need-clear-bytes-requires
 clear-bytes-requires c κs = search needs
 
@@ -12,9 +22,6 @@ clear-bytes-requires-2 c κs = search needs
 
 clear-bytes-requires-3 : tie.Need-clear-bytes-requires-3
 clear-bytes-requires-3 c κs = search needs
-
-clear-bytes-requires-4 : tie.Need-clear-bytes-requires-4
-clear-bytes-requires-4 c κs = search needs
 
 clear-longs-requires : tie.Need-clear-longs-requires
 clear-longs-requires c κs = search needs
@@ -31,20 +38,6 @@ same-length-3 c = search needs
 same-length-4 : tie.Need-same-length-4
 same-length-4 c = search needs
 
-same-length-5 : tie.Need-same-length-5
-same-length-5 c = search needs
-
-returns : tie.Need-returns
-returns c =
-    let a = c .before .before .before .before .before .before .before .before .before .before .before .before .before .before .before .before .before .before .before .before .before .before .before .before .before .args in
-    let p = c .before .before .before .before .before .before .before .before .before .before .before .before .before .before .before .before .before .before .before .before .before .before .before .before .before .pre in (
-      clear-whole 0 (a .flags .now) _ (c .before .before .before .before .before .before .before .before .before .before .before .before .before .before .before .before .before .before .clear-bytes .ensures),
-      clear-front 0 (a .count) (a .bits .now) _ (p .0) (p .1) (c .before .before .before .before .before .before .before .before .before .before .before .before .before .before .clear-bytes2 .ensures),
-      clear-whole 0 (a .supers .now) _ (c .before .before .before .before .before .before .before .before .before .before .clear-bytes3 .ensures),
-      clear-whole 0 (a .modes .now) _ (c .before .before .before .before .before .before .clear-bytes4 .ensures),
-      clear-front 0 (a .count) (a .active .now) _ (p .2) (p .3) (c .before .before .clear-longs .ensures),
-    )
-
 pub clear-scratch-spec : {M : Type 1} → statement M
 clear-scratch-spec =
     tie.close
@@ -52,11 +45,9 @@ clear-scratch-spec =
     clear-bytes-requires
     clear-bytes-requires-2
     clear-bytes-requires-3
-    clear-bytes-requires-4
     clear-longs-requires
     same-length
     same-length-2
     same-length-3
     same-length-4
-    same-length-5
     returns)
