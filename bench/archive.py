@@ -6,10 +6,10 @@ their packets takes by itself.
 """
 import json
 import os
-import resource
 import shutil
 import subprocess
 import sys
+import tempfile
 import time
 from pathlib import Path
 
@@ -39,12 +39,30 @@ def run(verb, folder, out, jobs, films):
     """Clock, processor seconds, totals, and the most memory that a process took, in bytes."""
     words = [sys.executable, "-m", "wedgepetal", "archive", verb, folder, "--out", str(out), "--jobs", str(jobs), "--json"]
     words += ["--films", str(films)] if verb == "check" else []
-    before, begun = resource.getrusage(resource.RUSAGE_CHILDREN), time.monotonic()
-    done = subprocess.run(words, env=ENVIRONMENT, capture_output=True, text=True)
-    assert done.returncode in (0, 1), done.stderr
-    clock, after = time.monotonic() - begun, resource.getrusage(resource.RUSAGE_CHILDREN)
-    spent = after.ru_utime + after.ru_stime - before.ru_utime - before.ru_stime
-    return clock, spent, json.loads(done.stdout), 1024 * after.ru_maxrss
+    begun = time.monotonic()
+    with tempfile.TemporaryFile("w+") as said:
+        done = subprocess.Popen(words, env=ENVIRONMENT, stdout=said)
+        _, status, usage = os.wait4(done.pid, 0)
+        clock = time.monotonic() - begun
+        assert os.waitstatus_to_exitcode(status) in (0, 1), words
+        said.seek(0)
+        return clock, usage.ru_utime + usage.ru_stime, json.load(said), 1024 * usage.ru_maxrss
+
+
+def paper(spent, size):
+    """What archives of shots like these need: processor seconds and bytes of a shot, by verb."""
+    print("\n| verb | shots | to read | 1 core | 16 cores | 256 cores | 256 cores read |\n|---|---|---|---|---|---|---|")
+    for verb, seconds in spent.items():
+        for shots in (10**4, 10**5, 10**6):
+            times = " | ".join(span(shots * seconds / cores) for cores in (1, 16, 256))
+            print(f"| {verb} | {shots:,} | {shots * size / 1e9:,.0f} GB | {times} | {256 * size / seconds / 1e9:.1f} GB/s |")
+
+
+def span(seconds):
+    for unit, length in (("days", 86400), ("h", 3600), ("min", 60)):
+        if seconds >= 1.5 * length:
+            return f"{seconds / length:.1f} {unit}"
+    return f"{seconds:.0f} s"
 
 
 def main():
@@ -54,7 +72,7 @@ def main():
     print(f"reading alone: {read:.2f} s of a processor")
     print("| verb | processes | clock, s | processor, s | shots a second | frames a second | frames a processor second | reading | memory of a process |")
     print("|---|---|---|---|---|---|---|---|---|")
-    frames = None
+    frames, each = None, {}
     for verb in verbs:
         for jobs in (1, 2):
             out = work / f"{verb}-{jobs}"
@@ -62,8 +80,14 @@ def main():
             frames = totals["frames"] or frames
             print(f"| {verb} | {jobs} | {clock:.1f} | {spent:.1f} | {totals['shots'] / clock:.1f} | {frames / clock:,.0f} | "
                   f"{frames / spent:,.0f} | {100 * read / spent:.0f} % | {memory / 1e6:.0f} MB |", flush=True)
+            if jobs == 1:
+                each[verb] = spent / totals["shots"]
+            size = sum(path.stat().st_size for path in out.glob("y4m/**/*.y4m"))
+            if size:
+                print(f"films: {size / 1e6 / totals['shots']:.0f} MB a shot", file=sys.stderr)
             if verb != "y4m" or jobs == 2:
                 shutil.rmtree(out)
+    paper(each, sum(path.stat().st_size for path in Path(folder).glob("**/*") if path.is_file()) / totals["shots"])
 
 
 if __name__ == "__main__":

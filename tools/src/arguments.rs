@@ -1,6 +1,7 @@
 //! The words of the command line: the table of verbs and options, from which
 //! parsing, help and hints are made.
 
+use crate::python;
 use std::collections::BTreeMap;
 use std::ffi::{OsStr, OsString};
 use std::fmt::Write;
@@ -628,6 +629,9 @@ fn overview() -> String {
         let call = format!("{} {}", verb.name, words.join(" "));
         // Writing to a string does not fail.
         let _ = writeln!(text, "  {call:30} {}", verb.about);
+    }
+    for (call, about) in &python::VERBS {
+        let _ = writeln!(text, "  {call:30} {about} (by the Python module)");
     }
     text.push_str(
         "\n  wedgepetal VERB --help           its words and options\n  \

@@ -23,6 +23,7 @@ mod packets;
 mod places;
 mod png;
 mod progress;
+mod python;
 mod sample;
 mod settings;
 mod summary;
@@ -117,8 +118,11 @@ impl From<String> for Said {
 }
 
 fn main() -> ExitCode {
-    interrupt::watch();
     let words: Vec<OsString> = std::env::args_os().skip(1).collect();
+    if python::takes(&words) {
+        return fail(&python::run(&words), 2);
+    }
+    interrupt::watch();
     let done = arguments::parse(&words)
         .map_err(Failure::Usage)
         .and_then(|wanted| match wanted {
