@@ -3,7 +3,7 @@
 
 mod common;
 
-use common::{inter, intra, setup_packet};
+use common::{header, inter, intra, setup_header};
 use std::path::{Path, PathBuf};
 use std::process::Command;
 use std::{env, fs};
@@ -23,14 +23,10 @@ fn example(name: &str, words: &[&Path]) -> (bool, String) {
 
 /// A recording of a frame and its change, in a folder of this test.
 fn recording(name: &str) -> PathBuf {
-    let mut header = b"\x80theora\x03\x02\x01\x00\x01\x00\x01".to_vec();
-    header.extend([0, 0, 16, 0, 0, 16, 0, 0, 0, 0, 0, 25, 0, 0, 0, 1]);
-    header.extend([0, 0, 0, 0, 0, 0, 0, 0, 0, 0, 0, 0xC0]);
-    let setup = setup_packet(|i| if i < 16 { i as u8 } else { 0 });
     let packets = [
-        header,
+        header([16, 16, 0, 0]),
         Vec::new(),
-        setup,
+        setup_header(),
         intra(9, 10),
         inter(0, 9, 0),
         vec![0x80],

@@ -4,29 +4,13 @@
 
 mod common;
 
-use common::{inter, inter_without_blocks, intra, packet, session, setup_packet, table};
+use common::{header, inter, inter_without_blocks, intra, packet, session, setup_header, table};
 use std::error::Error;
 use wedgepetal::lists::{self, Headers, REPORT_NUMBERS, TABLE_BYTES};
 use wedgepetal::{
     Checked, Kind, Packets, Player, Refusal, Refused, Report, Settings, Unplayable, Work, check,
     check_within, identification,
 };
-
-/// An identification header of one macro block, of which this much is shown.
-fn header(picture: [u8; 4]) -> Vec<u8> {
-    let [width, height, left, bottom] = picture;
-    let mut header = b"\x80theora\x03\x02\x01\x00\x01\x00\x01".to_vec();
-    header.extend([0, 0, width, 0, 0, height, left, bottom]);
-    header.extend([0, 0, 0, 25, 0, 0, 0, 1]); // 25 frames a second
-    header.extend([0, 0, 0, 0, 0, 0, 0]); // aspect and colours unknown
-    header.extend([0, 0, 0, 0, 0xC0]); // KFGSHIFT 6, 4:2:0
-    header
-}
-
-/// A setup header as `common::table` has it.
-fn setup_header() -> Vec<u8> {
-    setup_packet(|i| if i < 16 { i as u8 } else { 0 })
-}
 
 /// A recording all of whose packets are accepted.
 fn recording() -> Vec<Vec<u8>> {
