@@ -4,15 +4,14 @@ use native.Mathlib.Omega.{arith}
 use mathlib.Core.Path.{_≡_, refl, sym, ap, _∙_}
 use mathlib.Core.Bool.{Bool}
 use mathlib.Core.List.{List, [], _∷_}
-use lib.Dec.{eqb}
 use lib.ListN.{length, set}
 use borrow.Author.Tests.{eq-eqb, ne-eqb}
 use Rattle.bitstream.specs.Reading.{choose}
 use Rattle.work_memory.specs.Memory.{Memory}
 use Rattle.vendor_check.specs.declared.CheckAnswer.{CheckAnswer}
 use Rattle.vendor_check.specs.declared.CheckAnswer.the-variants.{Passes, Differs, Refused}
-use Rattle.vendor_check.specs.Check.{Lent, lent, CheckLeft, checkLeft, checked}
-use Rattle.check_c.specs.Face.{Returned, returned, foundBy, CheckReturned, checkGives, leftReturned, untouched, checkFace}
+use Rattle.vendor_check.specs.Check.{Lent, checkLeft, checked}
+use Rattle.check_c.specs.Face.{Returned, returned, foundBy, checkGives, leftReturned, untouched, checkFace}
 
 -- two numbers written into a list of two
 pub two-set : (l : List ℕ) → length l ≡ 2 → (a b : ℕ) → set (set l 0 a) 1 b ≡ a ∷ b ∷ []

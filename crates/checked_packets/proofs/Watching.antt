@@ -1,6 +1,5 @@
 -- The packets of a shot, one after the other, while a file is compared. Assumes nothing.
 use Prim.Native.Nat.{ℕ, _+_, _*_, _≤_, _<_}
-use native.Mathlib.Omega.{arith}
 use mathlib.Core.Path.{_≡_, refl, sym, ap, _∙_}
 use mathlib.Core.Bool.{true}
 use mathlib.Core.List.{List, [], _∷_, _++_}
@@ -12,8 +11,8 @@ use Rattle.ways.specs.Ways.{firstWay}
 use Rattle.work_memory.specs.Memory.{Memory}
 use Rattle.work_memory.specs.Lengths.{blocks, lengthsOf, cleared}
 use Rattle.reading.specs.declared.FrameAnswer.{FrameAnswer}
-use Rattle.decoding.specs.Answer.{State, Done}
-use Rattle.theora.specs.Call.{Call, byRules}
+use Rattle.decoding.specs.Answer.{Done}
+use Rattle.theora.specs.Call.{byRules}
 use Rattle.packet_list.specs.Packets.{packetsIn, total}
 use Rattle.packet_list.proofs.Walk.{packets-left, packets-none}
 use Rattle.buffer_names.specs.declared.Names.{Names}

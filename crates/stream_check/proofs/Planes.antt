@@ -1,7 +1,7 @@
 -- The planes of a frame as a stream has them. Assumes nothing.
-use Prim.Native.Nat.{ℕ, _+_, _-_, _*_, _/_, _≤_, _<_}
+use Prim.Native.Nat.{ℕ, _+_, _-_, _*_, _≤_}
 use native.Mathlib.Omega.{arith}
-use mathlib.Core.Path.{_≡_, refl, sym, ap, _∙_}
+use mathlib.Core.Path.{_≡_, sym, ap, _∙_}
 use mathlib.Core.Bool.{true}
 use mathlib.Core.List.{List, _++_}
 use lib.ListN.{length, take, drop}
@@ -13,7 +13,6 @@ use Rattle.headers.specs.declared.Session.{Session}
 use Rattle.headers.specs.Fits.{sessionFits}
 use Rattle.headers.specs.Sizes.{formatOf}
 use Rattle.rows.specs.Rows.{turned}
-use Rattle.headers.specs.Sizes.{format}
 use Rattle.y4m.specs.Stream.{numbersOf, frameBytes, planeRows, frameRows, frameLine, frameText}
 use Rattle.y4m.proofs.Sessions.{session-range}
 use Rattle.y4m.proofs.Streams.{session-bytes}

@@ -2,7 +2,7 @@
 use Prim.Native.Nat.{ℕ}
 use native.Mathlib.Omega.{arith}
 use mathlib.Core.Path.{_≡_, refl, sym, ap, _∙_}
-use mathlib.Core.Bool.{Bool, true, false}
+use mathlib.Core.Bool.{Bool, true}
 use mathlib.Core.List.{List, [], _∷_, map}
 use lib.Dec.{eqb}
 use lib.ListN.{length, getD, take, drop}
@@ -23,7 +23,7 @@ use Rattle.decoding.specs.Answer.{Done}
 use Rattle.theora.specs.Call.{byRules}
 use Rattle.packet_list.specs.Packets.{packetsIn}
 use Rattle.buffer_names.specs.declared.Names.{Names}
-use Rattle.buffer_names.specs.Names.{names, namesOf, free, Sound}
+use Rattle.buffer_names.specs.Names.{names, namesOf, free}
 use Rattle.buffer_names.proofs.First.{sound-first}
 use Rattle.y4m.specs.Stream.{numbersOf}
 use Rattle.shot_packets.specs.Play.{Shot, shot, stateOf, after}
@@ -38,8 +38,8 @@ use Rattle.film.specs.Film.{filmOf}
 use Rattle.checked_packets.specs.declared.Watched.{Watched}
 use Rattle.checked_packets.specs.Watch.{watched, watchedAll, ChecksAll}
 use Rattle.vendor_check.specs.declared.CheckAnswer.{CheckAnswer}
-use Rattle.vendor_check.specs.declared.CheckAnswer.the-variants.{Passes, Differs, Refused}
-use Rattle.vendor_check.specs.Check.{compared, firstRefused, turnsOf, checkedShot, CheckDone, checkDone, checkOf, Lent, lent, fresh, CheckLeft, checkLeft, unplayed, bySetup, bySession, checked, begunBy, saidBy}
+use Rattle.vendor_check.specs.declared.CheckAnswer.the-variants.{Refused}
+use Rattle.vendor_check.specs.Check.{compared, firstRefused, turnsOf, checkedShot, CheckDone, checkDone, checkOf, Lent, fresh, CheckLeft, unplayed, bySetup, bySession, checked, begunBy, saidBy}
 use Rattle.vendor_check.proofs.Films.{film-said}
 
 -- ---- the answer and what is left

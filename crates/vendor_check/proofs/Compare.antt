@@ -1,22 +1,20 @@
 -- A whole file compared. Assumes nothing.
-use Prim.Native.Nat.{ℕ, zero, suc, _+_, _≤_, _<_}
+use Prim.Native.Nat.{ℕ, suc, _+_, _≤_}
 use native.Mathlib.Omega.{arith}
 use native.Mathlib.Nat.{zero-add}
 use mathlib.Core.Path.{_≡_, refl, sym, ap, _∙_}
 use mathlib.Core.Bool.{Bool, true, false}
-use mathlib.Core.List.{List, [], _∷_, _++_}
+use mathlib.Core.List.{List, [], _∷_}
 use lib.Dec.{eqb, ltb}
-use lib.ListN.{length, drop, getD}
-use borrow.Author.Tests.{eqb-true, eq-eqb, ltb-true, ltb-false, lt-ltb, le-ltb}
+use lib.ListN.{length}
+use borrow.Author.Tests.{eqb-true, eq-eqb, ltb-false, le-ltb}
 use Rattle.bitstream.specs.Reading.{choose}
 use Rattle.text.specs.Same.{same}
 use Rattle.text.proofs.Texts.{same-eq, same-refl}
 use Rattle.stream_check.specs.declared.Compared.{Compared}
 use Rattle.stream_check.specs.Compared.{difference, onward, beginning}
-use Rattle.stream_check.proofs.Differences.{within-want, within-file}
 use Rattle.stream_check.proofs.Onward.{onward-on}
-use Rattle.vendor_check.specs.declared.CheckAnswer.{CheckAnswer}
-use Rattle.vendor_check.specs.declared.CheckAnswer.the-variants.{Passes, Differs, Refused}
+use Rattle.vendor_check.specs.declared.CheckAnswer.the-variants.{Passes, Differs}
 use Rattle.vendor_check.specs.Check.{compared, comparedAll}
 
 -- a list and itself

@@ -1,15 +1,14 @@
 -- The frames of a shot, as they are compared one after the other. Assumes nothing.
-use Prim.Native.Nat.{ℕ, zero, suc, _+_, _*_, _<_}
+use Prim.Native.Nat.{ℕ, suc, _+_}
 use native.Mathlib.Omega.{arith}
 use mathlib.Core.Path.{_≡_, refl, sym, ap, _∙_, subst}
 use mathlib.Core.Bool.{true, false}
-use mathlib.Core.List.{List, [], _∷_, _++_, map, append-nil}
+use mathlib.Core.List.{List, [], _∷_, _++_, map}
 use lib.ListN.{length, getD}
 use Rattle.geometry.specs.Order.{inTurn}
 use Rattle.geometry.proofs.Lists.{turn-same, turn-add}
 use Rattle.headers.specs.declared.Session.{Session}
 use Rattle.ways.specs.Ways.{firstWay}
-use Rattle.work_memory.specs.Lengths.{blocks}
 use Rattle.reading.specs.declared.Verdict.{Verdict}
 use Rattle.reading.specs.declared.Verdict.the-variants as verdict
 use Rattle.decoding.specs.Answer.{State, Done}
@@ -30,8 +29,7 @@ use Rattle.stream_check.proofs.Onward.{onward-none, onward-parts}
 use Rattle.checked_packets.specs.declared.Watched.{Watched}
 use Rattle.checked_packets.specs.Watch.{byVerdict, watched, watchedAll}
 use Rattle.checked_packets.proofs.Steps.{watched-stays}
-use Rattle.vendor_check.specs.declared.CheckAnswer.{CheckAnswer}
-use Rattle.vendor_check.specs.declared.CheckAnswer.the-variants.{Passes, Differs, Refused}
+use Rattle.vendor_check.specs.declared.CheckAnswer.the-variants.{Refused}
 use Rattle.vendor_check.specs.Check.{compared, refusedOr, firstRefused, begunBy, comparedAll, saidBy}
 use Rattle.vendor_check.proofs.Compare.{compared-whole}
 

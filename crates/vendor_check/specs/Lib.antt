@@ -1,2 +1,1 @@
--- Check: the call. Claims: what is promised of it.
 pub mod Check

@@ -4,10 +4,9 @@ use native.Mathlib.Omega.{arith}
 use mathlib.Core.Path.{_≡_, refl, sym, ap, _∙_, subst}
 use mathlib.Core.Bool.{Bool, true, false}
 use mathlib.Core.List.{List, [], _∷_, _++_, map}
-use mathlib.Core.Logic.{_≢_}
 use lib.Dec.{eqb}
 use lib.ListN.{length}
-use borrow.Author.Tests.{eqb-true, eqb-false, eq-eqb}
+use borrow.Author.Tests.{eqb-true}
 use Rattle.bitstream.specs.Reading.{Outcome, got, refused, choose}
 use Rattle.bitstream.proofs.Fields.{no-mix}
 use Rattle.headers.specs.declared.Session.{Session}
@@ -17,22 +16,21 @@ use Rattle.headers.proofs.Accepted.{accepted-fits}
 use Rattle.setup.specs.Header.{Setup, setupHeader}
 use Rattle.setup.specs.Table.{tableBytes, setupOutcome, tableAfter, isTable}
 use Rattle.setup.proofs.Laws.{accepted-table}
-use Rattle.ways.specs.Ways.{firstWay}
 use Rattle.reading.specs.declared.FrameAnswer.{FrameAnswer}
 use Rattle.reading.specs.declared.Verdict.{Verdict}
 use Rattle.reading.specs.declared.Verdict.the-variants as verdict
 use Rattle.text.specs.Same.{same}
 use Rattle.text.proofs.Texts.{same-eq, same-refl}
 use Rattle.buffer_names.specs.Names.{names, namesFit}
-use Rattle.shot.specs.Call.{ShotCall, ShotDone, shotLengthsFit, reaches, lentNumber, shotNumber, byShot}
+use Rattle.shot.specs.Call.{ShotCall, shotLengthsFit, reaches, lentNumber, shotNumber}
 use Rattle.shot.specs.Claims.{answerOf}
 use Rattle.film.specs.Film.{filmOf}
 use Rattle.stream_check.specs.Compared.{difference}
 use Rattle.vendor_check.specs.declared.CheckAnswer.{CheckAnswer}
 use Rattle.vendor_check.specs.declared.CheckAnswer.the-variants.{Passes, Differs, Refused}
-use Rattle.vendor_check.specs.Check.{compared, refusedOr, firstRefused, turnsOf, checkedShot, CheckDone, checkOf, Lent, fresh, CheckLeft, unplayed, bySetup, bySession, checked}
+use Rattle.vendor_check.specs.Check.{compared, refusedOr, firstRefused, turnsOf, checkedShot, checkOf, Lent, fresh, CheckLeft, unplayed, bySetup, bySession, checked}
 use Rattle.vendor_check.proofs.Calls.{answer-refused, answer-played}
-use Rattle.vendor_claims.specs.Claims.{Begins, IsAccepted, AllAccepted, Accepts, answer, FirstDifference, PassesExactly, DiffersFirst, RefusalWins, RefusalsWin, LeftAsShot, LeftAsShots, Never8}
+use Rattle.vendor_claims.specs.Claims.{Begins, IsAccepted, AllAccepted, Accepts, answer, FirstDifference, PassesExactly, DiffersFirst, RefusalsWin, LeftAsShots, Never8}
 use Rattle.vendor_claims.proofs.First.{first-difference}
 
 -- ---- the call, where both headers are accepted, and where one is not

@@ -1,7 +1,7 @@
 -- A file passes exactly if request 1's reader gives these numbers and planes. Assumes nothing.
-use Prim.Native.Nat.{ℕ, _*_, _≤_}
+use Prim.Native.Nat.{ℕ, _*_}
 use native.Mathlib.Omega.{arith}
-use mathlib.Core.Path.{_≡_, refl, sym, ap, _∙_}
+use mathlib.Core.Path.{_≡_, refl, ap, _∙_}
 use mathlib.Core.Bool.{Bool, true, false}
 use mathlib.Core.List.{List}
 use lib.Dec.{leb}
@@ -9,11 +9,11 @@ use lib.ListN.{length}
 use Rattle.bitstream.specs.Reading.{choose}
 use Rattle.y4m.specs.declared.Numbers.{Numbers}
 use Rattle.y4m.specs.Stream.{numbersOf, frameBytes, streamText}
-use Rattle.y4m.specs.Film.{Holds, holds, refused, numbersIn, isStreamOf, bodyOf, framesOf as countIn, planesOf, filmIn}
+use Rattle.y4m.specs.Film.{holds, refused, numbersIn, isStreamOf, bodyOf, framesOf as countIn, planesOf, filmIn}
 use Rattle.y4m.proofs.Streams.{stream-only}
 use Rattle.shot.proofs.Calls.{passes}
 use Rattle.shot.proofs.Turns.{accepted-passed}
-use Rattle.shot.specs.Call.{ShotCall, startOf}
+use Rattle.shot.specs.Call.{startOf}
 use Rattle.shot.specs.Claims.{callsOf}
 use Rattle.shot_packets.specs.Play.{stateOf}
 use Rattle.theora.specs.Call.{byRules}
@@ -22,7 +22,7 @@ use Rattle.packet_list.specs.Packets.{packetsIn}
 use Rattle.film.specs.Film.{framesOf, joined, filmOf}
 use Rattle.film.proofs.Films.{films-hold}
 use Rattle.vendor_check.specs.Check.{turnsOf}
-use Rattle.vendor_claims.specs.Claims.{Accepts, PassesByReader}
+use Rattle.vendor_claims.specs.Claims.{PassesByReader}
 use Rattle.vendor_claims.proofs.Answers.{accepted-same, same-accepted}
 
 -- a stream that is read is the stream of what is read

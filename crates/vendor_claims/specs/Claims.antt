@@ -21,7 +21,7 @@ use Rattle.shot.specs.Claims.{answerOf}
 use Rattle.film.specs.Film.{framesOf, joined, filmOf}
 use Rattle.vendor_check.specs.declared.CheckAnswer.{CheckAnswer}
 use Rattle.vendor_check.specs.declared.CheckAnswer.the-variants.{Passes, Differs, Refused}
-use Rattle.vendor_check.specs.Check.{turnsOf, Lent, fresh, CheckLeft, checked, unplayed}
+use Rattle.vendor_check.specs.Check.{turnsOf, Lent, fresh, checked, unplayed}
 
 -- both headers are accepted, and the packets are those of this shot call
 pub record Begins (header setup : List ℕ) (l : Lent) (c : ShotCall) : Type 0 where

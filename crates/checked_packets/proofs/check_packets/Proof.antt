@@ -9,7 +9,6 @@ use Rattle.work_memory.specs.Memory.{Memory, memory}
 use Rattle.shot_packets.proofs.Rules.{loaded-whole}
 use Rattle.shot_packets.proofs.Loop.{end-few, slots-few, work-same, first-same, second-same, third-same}
 use Rattle.checked_packets.proofs.Watching.{Watching, watching-first, watching-last, watching-on, frames-long}
-use borrow.Author.Needs.{needs}
 use Rattle.checked_packets.proofs.check_packets.Statement.{statement}
 use Rattle.checked_packets.proofs.check_packets.Tie as tie
 

@@ -1,6 +1,4 @@
 -- `checked_packets::watch` meets its contract. Assumes nothing.
-use Prim.Native.Nat.{ℕ, _≤_}
-use mathlib.Core.Path.{_≡_, refl, sym, ap, _∙_}
 use Rattle.y4m.specs.Stream.{numbersOf}
 use Rattle.checked_packets.proofs.Steps.{watched-stays, watched-refused, watched-accepted}
 use borrow.Author.Needs.{needs}

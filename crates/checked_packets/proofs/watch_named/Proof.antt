@@ -1,10 +1,8 @@
 -- `checked_packets::watch_named` meets its contract. Assumes nothing.
-use Prim.Native.Nat.{ℕ, _≤_}
-use mathlib.Core.Path.{_≡_, refl, sym, ap, _∙_}
+use mathlib.Core.Path.{ap, _∙_}
 use Rattle.y4m.specs.Stream.{numbersOf}
 use Rattle.checked_packets.specs.Watch.{watched}
 use Rattle.checked_packets.proofs.Steps.{buffer-first, buffer-second, buffer-third}
-use borrow.Author.Needs.{needs}
 use Rattle.checked_packets.proofs.watch_named.Statement.{statement}
 use Rattle.checked_packets.proofs.watch_named.Tie as tie
 

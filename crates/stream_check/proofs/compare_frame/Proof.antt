@@ -1,6 +1,6 @@
 -- `stream_check::compare_frame` meets its contract. Assumes nothing.
 use Prim.Native.Nat.{ℕ}
-use mathlib.Core.Path.{_≡_, refl, sym, ap, _∙_}
+use mathlib.Core.Path.{ap, _∙_}
 use mathlib.Core.List.{List}
 use Rattle.y4m.specs.Stream.{frameLine, frameRows}
 use Rattle.stream_check.specs.declared.Compared.{Compared}

@@ -1,9 +1,9 @@
 -- `stream_check::compare_header` meets its contract. Assumes nothing.
-use Prim.Native.Nat.{ℕ, _≤_}
+use Prim.Native.Nat.{ℕ}
 use native.Mathlib.Omega.{arith}
-use mathlib.Core.Path.{_≡_, refl, sym, ap, _∙_}
+use mathlib.Core.Path.{refl, ap, _∙_}
 use mathlib.Core.List.{List}
-use lib.ListN.{length, replicate}
+use lib.ListN.{replicate}
 use Rattle.stream_check.specs.Compared.{onward, beginning}
 use Rattle.stream_check.proofs.Header.{header-line, header-written}
 use borrow.Author.Needs.{needs}

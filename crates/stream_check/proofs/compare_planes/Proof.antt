@@ -1,15 +1,14 @@
 -- `stream_check::compare_planes` meets its contract. The loop's invariant: the planes before p are compared. Assumes nothing.
-use Prim.Native.Nat.{ℕ, _+_, _-_, _≤_}
+use Prim.Native.Nat.{ℕ, _-_, _≤_}
 use native.Mathlib.Omega.{arith}
-use mathlib.Core.Path.{_≡_, refl, sym, ap, _∙_}
-use mathlib.Core.List.{List, _++_}
+use mathlib.Core.Path.{_≡_, sym, ap, _∙_}
+use mathlib.Core.List.{List}
 use lib.ListN.{length}
 use Rattle.geometry.specs.Order.{inTurn}
 use Rattle.geometry.proofs.SizeLaws.{plane-of-small}
 use Rattle.rows.proofs.Facts.{in-turn-more}
-use Rattle.y4m.specs.Stream.{planeRows, frameRows}
+use Rattle.y4m.specs.Stream.{planeRows}
 use Rattle.y4m.proofs.FrameLaws.{plane-end, plane-sized}
-use Rattle.stream_check.specs.declared.Compared.{Compared}
 use Rattle.stream_check.specs.Compared.{onward}
 use Rattle.stream_check.proofs.Onward.{onward-none, onward-parts}
 use Rattle.stream_check.proofs.Planes.{plane-turned, planes-three}

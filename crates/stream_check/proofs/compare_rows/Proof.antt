@@ -3,13 +3,12 @@ use Prim.Native.Nat.{ℕ, _+_, _-_, _*_, _≤_, _<_}
 use native.Mathlib.Omega.{arith}
 use native.Mathlib.Nat.{suc-mul}
 use mathlib.Core.Path.{_≡_, refl, sym, ap, _∙_}
-use mathlib.Core.List.{List, _++_}
+use mathlib.Core.List.{List}
 use lib.ListN.{length, take, drop}
 use Rattle.geometry.specs.Order.{inTurn}
 use Rattle.output.specs.Output.{part}
 use Rattle.rows.specs.Rows.{turned}
 use Rattle.rows.proofs.Facts.{row-left, row-some, row-fits, row-begin, in-turn-more, all-rows}
-use Rattle.stream_check.specs.declared.Compared.{Compared}
 use Rattle.stream_check.specs.Compared.{onward}
 use Rattle.stream_check.proofs.Onward.{onward-none, onward-parts}
 use borrow.Author.Needs.{needs}

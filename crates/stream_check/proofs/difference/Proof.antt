@@ -1,11 +1,10 @@
 -- `stream_check::difference` meets its contract. The loop's invariant: the first i bytes are the same. Assumes nothing.
-use Prim.Native.Nat.{ℕ, _-_, _≤_, _<_, min}
+use Prim.Native.Nat.{_-_, _≤_}
 use native.Mathlib.Omega.{arith}
-use mathlib.Core.Path.{_≡_, refl, sym, ap, _∙_}
-use lib.ListN.{length, getD}
+use mathlib.Core.Path.{sym, _∙_}
 use borrow.Author.Tests.{leb-true}
 use Rattle.stream_check.specs.Compared.{difference}
-use Rattle.stream_check.proofs.Differences.{agree, disagree, within-want, within-file, shorter}
+use Rattle.stream_check.proofs.Differences.{agree, disagree, shorter}
 use borrow.Author.Needs.{needs}
 use Rattle.stream_check.proofs.difference.Statement.{statement}
 use Rattle.stream_check.proofs.difference.Tie as tie

@@ -1,8 +1,7 @@
 -- `vendor_check::begin` meets its contract. Assumes nothing.
-use mathlib.Core.Path.{_≡_, refl, sym, ap, _∙_}
+use mathlib.Core.Path.{ap}
 use mathlib.Core.Bool.{false}
 use Rattle.stream_check.specs.declared.Compared.{Compared}
-use borrow.Author.Needs.{needs}
 use Rattle.vendor_check.proofs.begin.Statement.{statement}
 use Rattle.vendor_check.proofs.begin.Tie as tie
 

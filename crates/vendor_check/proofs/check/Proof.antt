@@ -1,5 +1,4 @@
 -- `vendor_check::check` meets its contract. Assumes nothing.
-use mathlib.Core.Path.{_≡_, refl, sym, ap, _∙_}
 use Rattle.work_memory.specs.Memory.{memory}
 use Rattle.vendor_check.specs.Check.{lent}
 use Rattle.vendor_check.proofs.Calls.{header-refused, setup-refused, both-accepted}

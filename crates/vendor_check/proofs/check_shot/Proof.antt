@@ -1,5 +1,5 @@
 -- `vendor_check::check_shot` meets its contract. Assumes nothing.
-use mathlib.Core.Path.{_≡_, refl, sym, ap, _∙_, subst}
+use mathlib.Core.Path.{refl, sym, _∙_}
 use native.Mathlib.Omega.{arith}
 use Rattle.work_memory.specs.Memory.{memory}
 use Rattle.setup.proofs.Held.{genuine-setup, genuine-held, genuine-holds}

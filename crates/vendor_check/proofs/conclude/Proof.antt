@@ -1,7 +1,5 @@
 -- `vendor_check::conclude` meets its contract. Assumes nothing.
-use mathlib.Core.Path.{_≡_, refl, sym, ap, _∙_}
 use Rattle.vendor_check.proofs.Sayings.{says-refused, says-differs, says-longer, says-passes}
-use borrow.Author.Needs.{needs}
 use Rattle.vendor_check.proofs.conclude.Statement.{statement}
 use Rattle.vendor_check.proofs.conclude.Tie as tie
 
