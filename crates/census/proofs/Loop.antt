@@ -3,14 +3,13 @@ use Prim.Native.Nat.{ℕ, _+_, _≤_, _<_}
 use native.Mathlib.Omega.{arith}
 use mathlib.Core.Path.{_≡_, refl, sym, ap, _∙_, subst}
 use mathlib.Core.Bool.{true}
-use mathlib.Core.List.{List, [], _∷_}
+use mathlib.Core.List.{List}
 use lib.ListN.{length, getD, take, drop, replicate}
-use Rattle.bitstream.specs.Reading.{Outcome, got, after}
+use Rattle.bitstream.specs.Reading.{Outcome, after}
 use Rattle.bitstream.specs.Answer.{readable}
 use Rattle.headers.specs.declared.Session.{Session}
 use Rattle.headers.specs.Fits.{sessionFits}
 use Rattle.setup.specs.Header.{Setup}
-use Rattle.setup.specs.Table.{heldSetup}
 use Rattle.setup.specs.declared.LoadedSetup.{LoadedSetup}
 use Rattle.setup.specs.Loaded.{Holds}
 use Rattle.setup.proofs.Held.{held-reads}

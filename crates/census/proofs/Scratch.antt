@@ -1,16 +1,15 @@
 -- Scratch that becomes zero, and what the whole call leaves. Assumes nothing.
 use Prim.Native.Nat.{ℕ}
-use mathlib.Core.Path.{_≡_, refl, sym, ap, _∙_}
+use mathlib.Core.Path.{_≡_, sym, ap, _∙_}
 use mathlib.Core.Bool.{true, false}
-use mathlib.Core.List.{List, [], _∷_, _++_, append-nil}
-use lib.Dec.{eqb}
+use mathlib.Core.List.{List, _++_, append-nil}
 use lib.IntN.{ℤ, pos}
 use lib.ListN.{length, drop, replicate}
 use lib.Seq.{drop-length}
 use borrow.Author.Tests.{eq-eqb, ne-eqb}
 use Rattle.work_memory.specs.Memory.{Memory, memory}
 use Rattle.packet_list.specs.Packets.{packetsIn}
-use Rattle.census_packets.specs.Recording.{Lent, lent}
+use Rattle.census_packets.specs.Recording.{lent}
 use Rattle.census.specs.declared.CensusAnswer.{CensusAnswer}
 use Rattle.census.specs.Call.{countNumber, countReport, zeroed, allZero, CensusCall, censusDone, answerBy, reaches, byCensus}
 

@@ -1,35 +1,32 @@
 -- The headers, the lengths, the report and the scratch of a census. Assumes nothing.
-use Prim.Native.Nat.{ℕ, _+_, _-_, _≤_, _<_}
+use Prim.Native.Nat.{ℕ, _+_, _-_, _≤_}
 use native.Mathlib.Omega.{arith}
 use mathlib.Core.Path.{_≡_, refl, sym, ap, _∙_, subst}
-use mathlib.Core.Bool.{Bool, true, false, not, _&&_}
-use mathlib.Core.List.{List, [], _∷_, _++_}
-use lib.Dec.{eqb, leb}
-use lib.IntN.{ℤ, pos}
-use lib.ListN.{length, getD, take, drop, replicate, length-drop}
-use lib.Seq.{drop-drop, drop-length}
+use mathlib.Core.Bool.{true, false}
+use mathlib.Core.List.{List, [], _∷_}
+use lib.ListN.{length, getD, take, drop, length-drop}
+use lib.Seq.{drop-drop}
 use borrow.Author.Tests.{eq-eqb, ne-eqb}
-use Rattle.bitstream.specs.Reading.{Outcome, got, refused, choose}
+use Rattle.bitstream.specs.Reading.{Outcome, got, refused}
 use Rattle.headers.specs.declared.Session.{Session}
 use Rattle.headers.specs.Fits.{sessionFits}
 use Rattle.setup.specs.Table.{heldSetup, tableAfter}
 use Rattle.setup.specs.declared.SetupRead.{SetupRead}
 use Rattle.setup.specs.Loaded.{asSetupRead}
 use Rattle.reading.specs.Answer.{read}
-use Rattle.work_memory.specs.Memory.{Memory, Work, memory}
+use Rattle.work_memory.specs.Memory.{Memory}
 use Rattle.packet_list.specs.Packets.{packetsIn, total}
-use Rattle.packet_list.proofs.Cut.{packets-many, packets-cut}
+use Rattle.packet_list.proofs.Cut.{packets-many}
 use Rattle.report.specs.declared.Running.{Running}
-use Rattle.report.specs.Report.{reportSize, plus, refusalAdds}
+use Rattle.report.specs.Report.{plus, refusalAdds}
 use Rattle.report.specs.Running.{Runs, sumNumber, reportAfter}
 use Rattle.census_packets.specs.declared.HeadersAnswer.{HeadersAnswer}
 use Rattle.census_packets.specs.Recording.{Lent, lent, said, packetsAdd, headersOf, addsBy, recordingAdds}
 use Rattle.census_packets.specs.Inner.{asHeaders, IfSound}
 use Rattle.census_packets.proofs.Headers.{total-three}
-use Rattle.census_packets.proofs.Numbers.{Sounds, headers-number, headers-sound, setup-held}
+use Rattle.census_packets.proofs.Numbers.{Sounds, headers-sound, setup-held}
 use Rattle.census_packets.proofs.Rules.{hold, adds-read, adds-wrong}
-use Rattle.census.specs.declared.CensusAnswer.{CensusAnswer}
-use Rattle.census.specs.Call.{Loads, Loaded, countNumber, countReport, zeroed, allZero, CensusCall, censusCall, CensusDone, censusDone, answerBy, reaches, byCensus}
+use Rattle.census.specs.Call.{Loads, Loaded, countNumber, countReport}
 
 -- ---- a table memory that holds a setup is loaded
 pub loads : (table : List ℕ) {r : SetupRead} → Loads table → r ≡ asSetupRead (heldSetup table) → Loaded table (r .setup)

@@ -1,19 +1,18 @@
 -- A recording adds what frame calls of its packets add. Assumes nothing.
 use Prim.Native.Nat.{ℕ}
-use mathlib.Core.Path.{_≡_, refl, sym, ap, _∙_}
-use mathlib.Core.Bool.{Bool}
+use mathlib.Core.Path.{_≡_, refl, ap, _∙_}
 use mathlib.Core.List.{List, [], _∷_}
-use Rattle.bitstream.specs.Reading.{Outcome, refused, choose}
+use Rattle.bitstream.specs.Reading.{refused, choose}
 use Rattle.headers.specs.declared.Session.{Session}
 use Rattle.headers.specs.Fits.{sessionFits}
 use Rattle.frame_header.specs.declared.Kind.{Kind}
 use Rattle.frame_header.specs.declared.Kind.the-variants.{Intra, Inter, Repeat}
 use Rattle.reading.specs.declared.Verdict.{Verdict}
 use Rattle.reading.specs.declared.Verdict.the-variants.{Accepted, Refused}
-use Rattle.reading.specs.Answer.{Asked, read, answerFor}
+use Rattle.reading.specs.Answer.{read, answerFor}
 use Rattle.decoding.specs.Answer.{State, Way, state}
 use Rattle.theora.specs.Call.{Call, call, lengthsHold, outcomeOf, byRules}
-use Rattle.theora.specs.Demand.{Turn, turn, turns, handedOn}
+use Rattle.theora.specs.Demand.{turn, turns, handedOn}
 use Rattle.report.specs.Report.{plus}
 use Rattle.census_packets.specs.Recording.{Lent, said, packetAdds, packetsAdd}
 use Rattle.census_claims.specs.Calls.{turnsAdd, Alike, AsCalls}

@@ -2,15 +2,13 @@
 use Prim.Native.Nat.{ℕ, zero, suc, _+_, _*_, _≤_, _<_}
 use native.Mathlib.Omega.{arith}
 use native.Mathlib.Nat.{mul-add, mul-zero, mul-one}
-use mathlib.Core.Path.{_≡_, refl, sym, ap, _∙_, subst}
-use mathlib.Core.Bool.{Bool, true, false, _||_}
+use mathlib.Core.Path.{_≡_, refl, sym, ap, _∙_}
+use mathlib.Core.Bool.{true}
 use mathlib.Core.List.{List, [], _∷_, _++_}
 use mathlib.Core.Logic.{inl, inr}
-use lib.Dec.{eqb}
 use lib.ListN.{length, getD, replicate}
 use lib.Seq.{getD-set-other}
-use borrow.Author.Tests.{eqb-true}
-use Rattle.bitstream.specs.Lists.{among, tabulated}
+use Rattle.bitstream.specs.Lists.{among}
 use Rattle.geometry.specs.Sizes.{planeBlocks}
 use Rattle.headers.specs.declared.Session.{Session}
 use Rattle.headers.specs.Sizes.{format}
@@ -22,27 +20,15 @@ use Rattle.counting.specs.declared.Counts.{Counts}
 use Rattle.counting.specs.Counts.{sum}
 use Rattle.tally.specs.Sums.{AddsUp}
 use Rattle.report.specs.Report.{plus, only, refusalAdds}
-use Rattle.report.proofs.Sums.{plus-at, plus-long}
+use Rattle.report.proofs.Sums.{plus-at}
 use Rattle.census_packets.specs.Recording.{countsAdd}
-use Rattle.census_claims.specs.Sums.{part, accepted, inters, coding, refusals, allBlocks, allModes, Balanced}
+use Rattle.census_packets.proofs.Numbers.{Every, every}
+use Rattle.census_claims.specs.Sums.{part, accepted, inters, coding, refusals, Balanced}
 use Rattle.census_claims.proofs.Parts.{part-plus, Listed, listed}
 
 -- the numbers by which a frame call of a recording may be refused
 abbrev pub frameNumbers : List ℕ
 frameNumbers = 1 ∷ 4 ∷ 9 ∷ 10 ∷ 11 ∷ 12 ∷ 13 ∷ 17 ∷ []
-
-unfoldable pub Every : (ℕ → Type 0) → List ℕ → Type 0
-Every P [] = Unit {0}
-Every P (x ∷ l) = P x × Every P l
-
-pub every : (P : ℕ → Type 0) (l : List ℕ) → Every P l → (k : ℕ) → among l k ≡ true → P k
-unfolding among Every
-every P [] h k a = let y : _≡_ {A = ℕ} 0 1 = cc in absurd (omega arith)
-every P (x ∷ l) h k a = go (every P l (h .1) k) (eqb x k) refl a
-  where
-    go : (among l k ≡ true → P k) → (b : Bool) → eqb x k ≡ b → (b || among l k) ≡ true → P k
-    go rest true e a = subst P (eqb-true x k e) (h .0)
-    go rest false e a = rest a
 
 -- ---- a refused packet: one at its number, nothing else
 pub record Quiet (l : List ℕ) : Type 0 where

@@ -3,7 +3,7 @@ use Prim.Native.Nat.{ℕ, zero, suc, _+_, _-_, _<_}
 use native.Mathlib.Omega.{arith}
 use native.Mathlib.Nat.{mul-zero}
 use mathlib.Core.Path.{_≡_, refl, sym, ap, _∙_, subst}
-use mathlib.Core.Bool.{Bool, true, false, _||_}
+use mathlib.Core.Bool.{Bool, true, false}
 use mathlib.Core.List.{List, [], _∷_}
 use lib.ListN.{length, getD, drop, length-set, length-drop}
 use Rattle.bitstream.specs.Reading.{Outcome, got, refused, after, choose}
@@ -28,14 +28,14 @@ use Rattle.theora.proofs.Tokens.{outcome-got}
 use Rattle.counting.specs.Counts.{sum, frameCounts}
 use Rattle.tally.specs.Counted.{countsOf}
 use Rattle.tally.proofs.Sums.{adds-up}
-use Rattle.report.specs.Report.{plus, nothing, only, refusalAdds}
+use Rattle.report.specs.Report.{plus, nothing, only}
 use Rattle.report.proofs.Sums.{plus-long}
-use Rattle.census_packets.specs.Recording.{Lent, said, countsAdd, packetAdds, packetsAdd, headersOf, addsBy, recordingAdds}
-use Rattle.census_packets.proofs.Numbers.{headers-number, headers-sound, setup-held}
+use Rattle.census_packets.specs.Recording.{Lent, said, packetAdds, packetsAdd, headersOf, addsBy, recordingAdds}
+use Rattle.census_packets.proofs.Numbers.{Every, every, headers-number, headers-sound, setup-held}
 use Rattle.census_packets.proofs.Rules.{session-kept}
-use Rattle.census_claims.specs.Sums.{part, Balanced, RecordingsBalanced}
+use Rattle.census_claims.specs.Sums.{Balanced, RecordingsBalanced}
 use Rattle.census_claims.proofs.Parts.{listed}
-use Rattle.census_claims.proofs.Packet.{frameNumbers, Every, every, refused-balanced, balanced-plus, kind-balanced}
+use Rattle.census_claims.proofs.Packet.{frameNumbers, refused-balanced, balanced-plus, kind-balanced}
 
 -- ---- lengths
 frame-long : (f : PixelFormat) (w h : ℕ) (kind : Kind) (coded modes : List ℕ)

@@ -1,5 +1,5 @@
 -- What a packet adds to a report that is being added to. Assumes nothing.
-use Prim.Native.Nat.{ℕ, zero, suc}
+use Prim.Native.Nat.{ℕ}
 use native.Mathlib.Omega.{arith}
 use mathlib.Core.Path.{_≡_, refl, sym, ap, _∙_, subst}
 use mathlib.Core.List.{List, [], _∷_, _++_}
@@ -11,7 +11,7 @@ use Rattle.reading.specs.declared.Verdict.the-variants.{Accepted, Refused}
 use Rattle.reading.specs.Answer.{kindNumber}
 use Rattle.counting.specs.declared.Counts.{Counts}
 use Rattle.report.specs.declared.Running.{Running}
-use Rattle.report.specs.Report.{plus, only, refusalAdds, frameAdds}
+use Rattle.report.specs.Report.{plus, only, refusalAdds}
 use Rattle.report.specs.Running.{Runs}
 use Rattle.report.proofs.Sums.{plus-assoc}
 use Rattle.census_packets.specs.Recording.{countsAdd, verdictAdds, answerAdds}

@@ -1,14 +1,12 @@
 -- The headers of a recording: its first and its third packet. Assumes nothing.
 use Prim.Native.Nat.{ℕ, zero, suc, _+_, _-_, _≤_, _<_}
 use native.Mathlib.Omega.{arith}
-use mathlib.Core.Path.{_≡_, refl, sym, ap, _∙_, subst}
-use mathlib.Core.Bool.{Bool, true, false}
+use mathlib.Core.Path.{_≡_, refl, sym, ap, _∙_}
 use mathlib.Core.List.{List, [], _∷_}
-use lib.Dec.{eqb, ltb}
 use lib.ListN.{length, getD, take, drop}
 use lib.Seq.{drop-drop}
 use borrow.Author.Tests.{lt-ltb, le-ltb, eq-eqb, ne-eqb}
-use Rattle.bitstream.specs.Reading.{Outcome, got, refused, after, choose}
+use Rattle.bitstream.specs.Reading.{Outcome, got, refused, after}
 use Rattle.headers.specs.declared.Session.{Session}
 use Rattle.headers.specs.declared.IdentificationAnswer.{IdentificationAnswer}
 use Rattle.headers.specs.Identification.{identification, asIdentification}

@@ -1,12 +1,12 @@
 -- The numbers by which headers and frame packets are refused all have a place in the report; what sound headers say. Assumes nothing.
-use Prim.Native.Nat.{ℕ, suc, _≤_}
+use Prim.Native.Nat.{ℕ, _≤_}
 use native.Mathlib.Omega.{arith}
-use mathlib.Core.Path.{_≡_, refl, sym, ap, _∙_, subst}
+use mathlib.Core.Path.{_≡_, refl, sym, subst}
 use mathlib.Core.Bool.{Bool, true, false, _||_}
 use mathlib.Core.List.{List, [], _∷_}
 use lib.Dec.{eqb, ltb}
 use lib.ListN.{length, getD}
-use borrow.Author.Tests.{eq-eqb, eqb-true, ltb-false}
+use borrow.Author.Tests.{eqb-true, ltb-false}
 use Rattle.bitstream.specs.Reading.{Outcome, got, refused, after, choose}
 use Rattle.bitstream.specs.Lists.{among}
 use Rattle.bitstream.proofs.Fields.{no-mix}
@@ -25,29 +25,29 @@ use Rattle.reading.proofs.Places.{read-refused}
 use Rattle.census_packets.specs.Recording.{setupOf, headersOf}
 use Rattle.census_packets.specs.Inner.{Numbered, AllNumbered}
 
--- a number among some that have a place has a place
-unfoldable Each : List ℕ → Type 0
-Each [] = Unit {0}
-Each (x ∷ l) = Numbered x × Each l
+-- what holds of each number of a list holds of a number among them
+unfoldable pub Every : (ℕ → Type 0) → List ℕ → Type 0
+Every P [] = Unit {0}
+Every P (x ∷ l) = P x × Every P l
 
-each : (l : List ℕ) → Each l → (k : ℕ) → among l k ≡ true → Numbered k
-unfolding among Each
-each [] h k a = let y : _≡_ {A = ℕ} 0 1 = cc in absurd (omega arith)
-each (x ∷ l) h k a = go (each l (h .1) k) (eqb x k) refl a
+pub every : (P : ℕ → Type 0) (l : List ℕ) → Every P l → (k : ℕ) → among l k ≡ true → P k
+unfolding among Every
+every P [] h k a = let y : _≡_ {A = ℕ} 0 1 = cc in absurd (omega arith)
+every P (x ∷ l) h k a = go (every P l (h .1) k) (eqb x k) refl a
   where
-    go : (among l k ≡ true → Numbered k) → (b : Bool) → eqb x k ≡ b → (b || among l k) ≡ true → Numbered k
-    go rest true e a = subst Numbered (eqb-true x k e) (h .0)
+    go : (among l k ≡ true → P k) → (b : Bool) → eqb x k ≡ b → (b || among l k) ≡ true → P k
+    go rest true e a = subst P (eqb-true x k e) (h .0)
     go rest false e a = rest a
 
 -- ---- a frame packet
 module _ (s : Session) (table packet : List ℕ) where
   pub read-numbered : {k e : ℕ} → read s table packet ≡ refused k e → Numbered k
-  unfolding Each
+  unfolding Every
   read-numbered {k} {e} r =
       read-refused s packet table (λ a _. subst Numbered a (omega arith, omega arith)) (λ a _ _. subst Numbered a (omega arith, omega arith))
-      (λ setup q. each packetNumbers all-numbered k (packet-refuses (format s) (s .fields .fmbw) (s .fields .fmbh) (setup .trees) (s .references) packet k e q)) r
+      (λ setup q. every Numbered packetNumbers all-numbered k (packet-refuses (format s) (s .fields .fmbw) (s .fields .fmbh) (setup .trees) (s .references) packet k e q)) r
     where
-      all-numbered : Each packetNumbers
+      all-numbered : Every Numbered packetNumbers
       all-numbered = ((omega arith, omega arith), ((omega arith, omega arith), ((omega arith, omega arith), ((omega arith, omega arith), ((omega arith, omega arith), ((omega arith, omega arith), tt))))))
 
   pub answer-numbered : (o : Outcome Asked) → read s table packet ≡ o → AllNumbered (answerFor s o .verdict)
@@ -72,11 +72,11 @@ module _ (room : ℕ) (packets : List (List ℕ)) where
   setup-number (refused k d) h s {k = j} r = let z : k ≡ j = cc in subst Numbered z (h k d refl)
 
   outcome-number : {k e : ℕ} → setupOutcome room (getD packets 2 []) ≡ refused k e → Numbered k
-  unfolding setupOutcome Each
+  unfolding setupOutcome Every
   outcome-number {k} {e} r = go (eqb room tableBytes) r
     where
       go : (b : Bool) → choose b (setupHeader (getD packets 2 []) 0) (refused 1 0) ≡ refused k e → Numbered k
-      go true r = each (2 ∷ 4 ∷ 7 ∷ []) ((omega arith, omega arith), ((omega arith, omega arith), ((omega arith, omega arith), tt))) k (setup-refuses .by (getD packets 2 []) 0 k e r)
+      go true r = every Numbered (2 ∷ 4 ∷ 7 ∷ []) ((omega arith, omega arith), ((omega arith, omega arith), ((omega arith, omega arith), tt))) k (setup-refuses .by (getD packets 2 []) 0 k e r)
       go false r = let z : 1 ≡ k = cc in subst Numbered z (omega arith, omega arith)
 
   setup-of-number : (s : Session) {k e : ℕ} → setupOf room packets s ≡ refused k e → Numbered k
@@ -88,14 +88,14 @@ module _ (room : ℕ) (packets : List (List ℕ)) where
       go false r = setup-number (setupOutcome room (getD packets 2 [])) (λ k e q. outcome-number q) s r
 
   pub headers-number : {k e : ℕ} → headersOf room packets ≡ refused k e → Numbered k
-  unfolding headersOf Each
+  unfolding headersOf Every
   headers-number {k} {e} r = go (eqb (length packets) 0) r
     where
       by : (o : Outcome Session) → identification (getD packets 0 []) 0 ≡ o → after o (λ s _. setupOf room packets s) ≡ refused k e → Numbered k
       by (got s d) q r = setup-of-number s r
       by (refused j d) q r =
           let z : j ≡ k = cc in
-          subst Numbered z (each (2 ∷ 3 ∷ 4 ∷ 5 ∷ 6 ∷ []) ((omega arith, omega arith), ((omega arith, omega arith), ((omega arith, omega arith), ((omega arith, omega arith), ((omega arith, omega arith), tt))))) j (identification-refuses .by (getD packets 0 []) 0 j d q))
+          subst Numbered z (every Numbered (2 ∷ 3 ∷ 4 ∷ 5 ∷ 6 ∷ []) ((omega arith, omega arith), ((omega arith, omega arith), ((omega arith, omega arith), ((omega arith, omega arith), ((omega arith, omega arith), tt))))) j (identification-refuses .by (getD packets 0 []) 0 j d q))
 
       go : (b : Bool) → choose b (refused 4 0) (after (identification (getD packets 0 []) 0) (λ s _. setupOf room packets s)) ≡ refused k e → Numbered k
       go true r = four r

@@ -1,11 +1,11 @@
 -- A report that is being added to, number by number. Assumes nothing.
-use Prim.Native.Nat.{ℕ, zero, suc, _+_, _^_, _≤_, _<_}
+use Prim.Native.Nat.{ℕ, _+_, _^_, _≤_, _<_}
 use native.Mathlib.Omega.{arith}
 use mathlib.Core.Path.{_≡_, refl, sym, ap, _∙_, subst}
 use mathlib.Core.Bool.{Bool, true, false, _||_}
-use mathlib.Core.List.{List, [], _∷_}
+use mathlib.Core.List.{List}
 use lib.Dec.{ltb, eqb}
-use lib.ListN.{length, getD, set, length-set, List·getD-eq-default}
+use lib.ListN.{length, getD, set, List·getD-eq-default}
 use lib.Seq.{getD-set-same, getD-set-other}
 use borrow.Author.Tests.{ltb-true, ltb-false, eqb-true, eqb-false}
 use Rattle.bitstream.specs.Reading.{choose}
@@ -13,7 +13,7 @@ use Rattle.report.specs.declared.Running.{Running}
 use Rattle.report.specs.declared.Sum.{Sum}
 use Rattle.report.specs.Report.{reportSize, plus, fits}
 use Rattle.report.specs.Running.{sumOf, Runs, sumNumber, reportAfter}
-use Rattle.report.proofs.Sums.{by-elements, plus-long, plus-at, fits-all, fits-not, fits-at, past-stays}
+use Rattle.report.proofs.Sums.{by-elements, plus-long, plus-at, fits-all, fits-not, past-stays}
 
 below-not : (j i : ℕ) → (j ≡ i → ⊥) → j < i + 1 → j < i
 below-not j i d z = go (ltb j i) refl

@@ -1,7 +1,6 @@
 -- `census::census` meets its contract. Assumes nothing.
 use borrow.Author.Needs.{needs}
-use native.Mathlib.Omega.{arith}
-use mathlib.Core.Path.{_≡_, refl, sym, ap, _∙_}
+use mathlib.Core.Path.{sym, _∙_}
 use borrow.Author.Tests.{leb-true, not-true, not-false}
 use Rattle.work_memory.specs.Memory.{memory}
 use Rattle.census_packets.specs.Recording.{lent}

@@ -1,9 +1,7 @@
 -- `census::count` meets its contract. Assumes nothing.
 use borrow.Author.Needs.{needs}
-use native.Mathlib.Omega.{arith}
-use mathlib.Core.Path.{_≡_, refl, sym, ap, _∙_}
-use mathlib.Core.List.{[]}
-use lib.ListN.{length, getD, take}
+use mathlib.Core.Path.{sym, _∙_}
+use lib.ListN.{length, take}
 use Rattle.work_memory.specs.Memory.{memory}
 use Rattle.packet_list.specs.Packets.{packetsIn, total}
 use Rattle.census_packets.specs.Recording.{lent, headersOf}

@@ -1,7 +1,7 @@
 -- `census::count_frames` meets its contract. Assumes nothing.
 use borrow.Author.Needs.{needs}
 use native.Mathlib.Omega.{arith}
-use mathlib.Core.Path.{_≡_, refl, sym, ap, _∙_}
+use mathlib.Core.Path.{refl, ap, _∙_}
 use Rattle.work_memory.specs.Memory.{Memory, memory}
 use Rattle.work_memory.specs.Lengths.{lengthsOf}
 use Rattle.theora.proofs.Lengths.{blocks-few, tests-are, ranks-fit, memory-fits}

@@ -1,6 +1,5 @@
 -- `report::store` meets its contract. Assumes nothing.
 use borrow.Author.Needs.{needs}
-use Prim.Native.Nat.{ℕ}
 use mathlib.Core.Path.{_≡_, sym, _∙_}
 use lib.ListN.{length}
 use Rattle.report.proofs.Steps.{stored, not-stored}
