@@ -158,7 +158,7 @@ def test_a_run_that_is_killed_goes_on(shots, tmp_path):
         pids = workers(run.pid)
         run.kill()
         run.wait()
-        deadline = time.monotonic() + 10
+        deadline = time.monotonic() + 60
         while any(Path(f"/proc/{pid}").exists() and "Z" not in Path(f"/proc/{pid}/stat").read_text().split()[2] for pid in pids):
             assert time.monotonic() < deadline
             time.sleep(0.01)

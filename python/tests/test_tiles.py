@@ -40,7 +40,8 @@ def test_maps_are_what_the_planes_say(name, side, plane):
     assert list(tiles.packets) == packets_ and tiles.kinds == kinds
     assert [(refusal.number, refusal.place, refusal.packet) for refusal in tiles.refused] == refused
     np.testing.assert_allclose(tiles.share, np.mean(wanted, axis=(1, 2)))
-    np.testing.assert_array_equal(tiles.count, np.sum(wanted, axis=0))
+    np.testing.assert_array_equal(tiles.count, np.sum(wanted[1:], axis=0))
+    assert list(tiles.compared) == [False] + [True] * (len(wanted) - 1)
 
 
 def test_many_packets_and_gaps(monkeypatch):
@@ -57,6 +58,7 @@ def test_many_packets_and_gaps(monkeypatch):
         assert [(gap.packet, gap.lost, gap.left_out) for gap in tiles.gaps] == [(20, 2, 9)]
         assert tiles.maps[17].all() and tiles.kinds[17] == "intra" and len(tiles) == 17 + 28
         assert list(tiles.times[16:18]) == [0.64, 1.12]
+        assert list(np.flatnonzero(~tiles.compared)) == [0, 17]
         wanted = tiles if wanted is None else wanted
         np.testing.assert_array_equal(tiles, wanted)
     with pytest.raises(wedgepetal.Gap):

@@ -79,14 +79,16 @@ def _one_by_one(job: Job, shots: Iterable[str]) -> Iterator[Line]:
 
 
 def _pool(jobs: int) -> ProcessPoolExecutor:
-    return ProcessPoolExecutor(jobs, multiprocessing.get_context("spawn"), _end_with_parent)
+    return ProcessPoolExecutor(jobs, multiprocessing.get_context("spawn"), _end_with, (os.getpid(),))
 
 
-def _end_with_parent() -> None:
+def _end_with(run: int) -> None:
     """A worker ends when the run is killed, and leaves an interruption to it."""
     signal.signal(signal.SIGINT, signal.SIG_IGN)
     if sys.platform == "linux":
         ctypes.CDLL(None).prctl(1, signal.SIGKILL)  # PR_SET_PDEATHSIG
+    if os.getppid() != run:  # which was killed before
+        os._exit(1)
 
 
 def on_dask(job: Job, shots: Iterable[str], client: Client) -> Iterator[Line]:

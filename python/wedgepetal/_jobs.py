@@ -84,10 +84,10 @@ def _tiles(job: Job, shot: str, path: Path) -> Line:
     found = tiles(path, job.settings, on_refusal="skip", on_gap="key-frame", max_memory=job.max_memory)
     with whole_file(_cleared(job.place(shot, ".npz"))) as file:
         kinds = np.array([("intra", "inter", "repeat").index(kind) for kind in found.kinds], np.uint8)
-        np.savez_compressed(file, maps=found.maps, packets=found.packets, times=found.times, kinds=kinds,
+        np.savez_compressed(file, maps=found.maps, compared=found.compared, packets=found.packets, times=found.times, kinds=kinds,
                             tokens=found.tokens)
-    return {"frames": len(found), **_kinds(found.kinds), "changed_tiles": int(found.maps.sum()),
-            "tiles": int(found.maps.size), **_faults(found.refused, found.gaps, found.notes)}
+    return {"frames": len(found), **_kinds(found.kinds), "changed_tiles": int(found.count.sum()),
+            "tiles": found.count.size * int(found.compared.sum()), **_faults(found.refused, found.gaps, found.notes)}
 
 
 def _y4m(job: Job, shot: str, path: Path) -> Line:
@@ -114,7 +114,7 @@ def _report(job: Job, shot: str, path: Path) -> Line:
     sheet = report(path, place, settings=job.settings, colour_space=job.colour_space, max_memory=job.max_memory)
     lines = sheet.lines
     return {"frames": len(lines), **_kinds([line.kind for line in lines]), "tokens": sum(line.tokens for line in lines),
-            "changed_tiles": int(sheet.count.sum()), "tiles": sheet.tiles * len(lines),
+            "changed_tiles": int(sheet.count.sum()), "tiles": sheet.tiles * sheet.compared,
             "page": str(place.relative_to(job.out)), "report": sheet.census.fields(),
             **_faults(sheet.refused, sheet.gaps, sheet.notes)}
 

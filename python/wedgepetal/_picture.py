@@ -14,7 +14,7 @@ if TYPE_CHECKING:
 
 def picture(tiles: Tiles, out: Optional[Union[str, "os.PathLike[str]"]] = None) -> Figure:
     """Draws how often each tile changed, beside the share of changed tiles over time, and writes it if a file is named
-    (.png, .svg, .pdf).
+    (.png, .svg, .pdf). Frames that have none before them are left out.
 
     >>> tiles = wedgepetal.tiles(recording)
     >>> figure = wedgepetal.picture(tiles, recording.with_suffix(".png"))
@@ -29,11 +29,12 @@ def picture(tiles: Tiles, out: Optional[Union[str, "os.PathLike[str]"]] = None) 
     where, when = figure.subplots(1, 2)
     side = tiles.settings.tile
     rows, columns = tiles.count.shape
-    shown = where.imshow(tiles.count, cmap="cividis", vmin=0, vmax=max(len(tiles), 1), interpolation="nearest",
+    shown = where.imshow(tiles.count, cmap="cividis", vmin=0, vmax=max(int(tiles.count.max(initial=0)), 1), interpolation="nearest",
                          extent=(0, columns * side, 0, rows * side))
     where.set(title="frames in which a tile changed", xlabel="samples from the left", ylabel="samples from the bottom")
     figure.colorbar(shown, ax=where)
-    when.step(tiles.times, 100 * tiles.share, where="post", color="#0072b2", linewidth=1)
+    shares = np.where(tiles.compared, 100 * tiles.share, np.nan)
+    when.step(tiles.times, shares, where="post", color="#0072b2", linewidth=1)
     repeats = np.array([kind == "repeat" for kind in tiles.kinds], bool)
     keys = np.array([kind == "intra" for kind in tiles.kinds], bool)
     when.plot(tiles.times[repeats], np.full(repeats.sum(), -4.0), "|", color="#999999", label="repeats")

@@ -130,8 +130,8 @@ def _time(sheet: Sheet) -> str:
             html.chart("tokens", (f"{most:,}", f"{most / 4:,.0f}"), *tokens, max(most, 1), "var(--orange)"),
             html.axis(f"{end * part / 4:.1f} s" for part in range(5)),
         ),
-        html.soft(f"Share of the {sheet.tiles:,} tiles in which some sample differs from the frame before, and coefficient "
-                  f"tokens of each packet; heights are square roots.{each}"),
+        html.soft(f"Share of the {sheet.tiles:,} tiles in which some sample differs from the frame before (none is said of the first "
+                  f"frame, and of the first behind a gap), and coefficient tokens of each packet; heights are square roots.{each}"),
     )
 
 
@@ -145,8 +145,8 @@ def _binned(where: "np.typing.NDArray[np.int64]", values: List[float], bins: int
 
 def _heat(sheet: Sheet) -> str:
     side, plane = sheet.settings.tile, _PLANES[sheet.settings.plane]
-    words = (f"In how many of the {len(sheet.lines):,} frames each tile changed: {side} × {side} samples of {plane}, over the whole coded frame. The first "
-             "frame, and the first behind a gap, count for every tile.")
+    words = (f"In how many of {sheet.compared:,} frames each tile changed: {side} × {side} samples of {plane}, over the whole coded "
+             "frame.")
     return html.section("Where it changes", html.heat_map(sheet.count, words), html.soft(words))
 
 

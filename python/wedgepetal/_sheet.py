@@ -27,7 +27,8 @@ class Line(NamedTuple):
     kind: Kind
     tokens: int
     changed: int
-    """How many tiles changed."""
+    """How many tiles changed; none if there is no frame before it."""
+    is_compared: bool
 
 
 class Thumbnail(NamedTuple):
@@ -60,7 +61,7 @@ class Sheet:
             self.colour_space = cs if cs in (1, 2) else None
             """By which thumbnails are in colour; else they are luma alone."""
             self.count = np.zeros(shot._decoder.tile_rows_and_columns, np.int64)
-            """In how many frames each tile changed, the top row first."""
+            """In how many frames each tile changed, of those that have a frame before them; the top row first."""
             for batch in shot._batches(self._until_next):
                 self._take(batch)
                 if batch and (len(self.lines) - 1) % self._every == 0:
@@ -73,10 +74,12 @@ class Sheet:
         return min(BATCH, -len(self.lines) % self._every + 1)
 
     def _take(self, batch: List[Answered]) -> None:
-        for packet, time, kind, tokens, changed in batch:
+        for packet, time, kind, tokens, changed, is_compared in batch:
             assert changed is not None
-            self.count += changed
-            self.lines.append(Line(packet.number, packet.position, time, kind, tokens, int(np.count_nonzero(changed))))
+            if is_compared:
+                self.count += changed
+            count = int(np.count_nonzero(changed)) if is_compared else 0
+            self.lines.append(Line(packet.number, packet.position, time, kind, tokens, count, is_compared))
 
     def _show(self, frame: Frame) -> None:
         """Shows the last frame."""
@@ -95,6 +98,11 @@ class Sheet:
     def tiles(self) -> int:
         """How many tiles a frame has."""
         return int(self.count.size)
+
+    @property
+    def compared(self) -> int:
+        """How many frames have a frame before them."""
+        return sum(line.is_compared for line in self.lines)
 
     def of_kind(self, kind: Kind) -> int:
         """How many frames are of a kind."""

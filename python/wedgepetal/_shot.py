@@ -67,6 +67,8 @@ class Answered(NamedTuple):
     kind: Kind
     tokens: int
     changed: Optional[Map]
+    is_compared: bool
+    """Whether there is a frame before it; if not all its tiles are changed."""
 
 
 class Shot(Iterator[Frame]):
@@ -211,6 +213,7 @@ class Shot(Iterator[Frame]):
         if not batch:
             return []
         found: List[Answered] = []
+        is_compared = bool(self._decoder.session[lib.REFERENCES])
         answers, maps = self._decoder.shot([packet.bytes for packet in batch])
         for i, packet in enumerate(batch):
             answer = answers[i]
@@ -220,7 +223,8 @@ class Shot(Iterator[Frame]):
                 self._gap = None
                 kind, tokens = KINDS[int(answer[lib.KIND])], int(answer[lib.TOKENS])
                 time = self._clock.time(packet.position)
-                found.append(Answered(packet, time, kind, tokens, None if maps is None else maps[i]))
+                found.append(Answered(packet, time, kind, tokens, None if maps is None else maps[i], is_compared))
+                is_compared = True
         return found
 
     def _shown(self) -> Frame:

@@ -27,6 +27,8 @@ class Tiles:
     """Frames, rows, columns: whether some sample of the tile differs from the frame before, the top row first. Tiles cut
     the whole coded frame, from its lower left corner on; those at the right and at the top may be partial. Where there is
     no frame before (the first frame, and the first behind a gap) all are changed."""
+    compared: npt.NDArray[np.bool_]
+    """Whether there is a frame before each frame."""
     kinds: List[Kind]
     """The kind of each frame."""
     packets: npt.NDArray[np.int64]
@@ -44,19 +46,20 @@ class Tiles:
 
     def __init__(self, shot: Shot, settings: Settings) -> None:
         self.settings, self.session = settings, shot.session
-        maps, packets, times, tokens = [], [], [], []
+        maps, packets, times, tokens, compared = [], [], [], [], []
         self.kinds = []
         for batch in shot._batches(lambda: BATCH):
-            for packet, time, kind, count, changed in batch:
+            for packet, time, kind, count, changed, is_compared in batch:
                 assert changed is not None
                 maps.append(changed)
                 packets.append(packet.number)
                 times.append(time)
                 self.kinds.append(kind)
                 tokens.append(count)
+                compared.append(is_compared)
         self.maps = np.stack(maps) if maps else np.zeros((0, *shot._decoder.tile_rows_and_columns), np.bool_)
         self.packets, self.tokens = np.array(packets, np.int64), np.array(tokens, np.int64)
-        self.times = np.array(times, np.float64)
+        self.times, self.compared = np.array(times, np.float64), np.array(compared, np.bool_)
         self.refused, self.gaps, self.notes = shot.refused, shot.gaps, shot.notes
 
     def __array__(self, dtype: Any = None) -> npt.NDArray[Any]:
@@ -77,8 +80,8 @@ class Tiles:
 
     @property
     def count(self) -> npt.NDArray[np.int64]:
-        """Rows, columns: in how many frames each tile changed."""
-        count: npt.NDArray[np.int64] = self.maps.sum(axis=0, dtype=np.int64)
+        """Rows, columns: in how many frames each tile changed, of those that have a frame before them."""
+        count: npt.NDArray[np.int64] = self.maps[self.compared].sum(axis=0, dtype=np.int64)
         return count
 
 
