@@ -18,6 +18,7 @@ use crate::reference::session::{Fields, SESSION_NUMBERS, Session};
 use crate::reference::setup::setup;
 use crate::said;
 use crate::shots::{self, ByFrames};
+use crate::tiles;
 use std::collections::BTreeMap;
 use std::fmt;
 use std::fs::{self, File};
@@ -88,6 +89,7 @@ pub fn compare(files: &[String]) -> Result<(), String> {
         lists: call_lists::Report::default(),
         shots: shots::Report::default(),
         census: census::Counts::default(),
+        tiles: tiles::Counts::default(),
         headers: padding::Counts::default(),
     };
     for file in files {
@@ -110,6 +112,7 @@ pub fn compare(files: &[String]) -> Result<(), String> {
         run.shots.recordings
     );
     println!("{}", run.census);
+    println!("{}", run.tiles);
     let padded = run.damaged.padded.missed_of_frames(padding::OF_FRAME);
     let missed = [run.four.missed(), padded, run.headers.missed(&[])].concat();
     crate::all_tried(&missed, files.len() >= ENOUGH_RECORDINGS)
@@ -128,6 +131,8 @@ struct Run {
     shots: shots::Report,
     /// What they hold, counted.
     census: census::Counts,
+    /// Which tiles changed.
+    tiles: tiles::Counts,
     /// The headers, with bytes behind them.
     headers: padding::Counts,
 }
@@ -173,6 +178,7 @@ impl Run {
         self.shots
             .of_recording(random, &caller, frames, &by_frames)?;
         self.census.of_recording(random, &packets)?;
+        self.tiles.of_recording(&decoder, &fields, &packets)?;
         Ok(counts)
     }
 

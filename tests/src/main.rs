@@ -30,6 +30,7 @@ mod shot_calls;
 mod shots;
 mod streams;
 mod tables;
+mod tiles;
 mod wild;
 mod worst;
 mod written;
