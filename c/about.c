@@ -42,6 +42,8 @@ const char *wedgepetal_refusal_text(uint32_t number)
         return "a token moves its block past position 64";
     case WEDGEPETAL_SHORT_OUTPUT:
         return "the lent output is too short";
+    case WEDGEPETAL_PAST_COUNT:
+        return "a sum of the census would pass 64 bits";
     case WEDGEPETAL_PAST_PACKETS:
         return "the lengths of the packets reach past their end";
     case WEDGEPETAL_UNCOUNTED:

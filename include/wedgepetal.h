@@ -34,14 +34,14 @@
  * list of another call that runs meanwhile; sessions, table memory and planes
  * that are only read may be shared. A call may be interrupted by a signal, and
  * made in its handler. It needs at most 48 KiB of stack, which a small thread
- * must have (measured, not proved: 33 kB for a matrix, 29 kB for a frame).
+ * must have (measured, not proved: 45 kB for a shot with maps, 33 kB for a frame).
  *
  * Each call returns 0 if it is accepted, else the number of its refusal. Where
  * several numbers apply, they are found in this order: 1 for the session's list,
  * 8 for its numbers, 1 for any other list, 8 for the table memory, then a fault
  * of the packet, then 17 (for a picture: 18, then 14; for a shot: 16), or 255 if
- * there is no such thing as is asked for. The calls on streams of frames and on
- * settings say their own order; none of their refusals writes anything.
+ * there is no such thing as is asked for. The calls on streams of frames, on
+ * settings, on tiles, of a check and of a census say their own order.
  *
  * A refusal found inside a packet (2 to 7, 9 to 13) has a place: the bit of the
  * packet, counted from 0 and from the highest bit of byte 0 on, at which the
@@ -63,6 +63,12 @@
  *                   all zero (**)
  *   rgb, y4m_write, y4m_header, y4m_frame, settings_write
  *                   out, written          nothing        nothing
+ *   tiles_frame     as frame, and map     as frame       as frame
+ *   tiles_shot      as shot, and maps     nothing        nothing
+ *   check           as setup and shot,    found, and what its own text names
+ *                   and found
+ *   census          report; scratch: all  scratch: all   scratch: all zero
+ *                   zero                  zero           (16: nothing)
  *   y4m_read        planes, film          nothing        nothing
  *   settings_read   settings              nothing        nothing
  *   all others      their list            nothing        nothing
@@ -116,7 +122,8 @@ enum {
     WEDGEPETAL_LONG_RUN = 12,       /* a run exceeds the bits still wanted */
     WEDGEPETAL_PAST_BLOCK = 13,     /* a token moves its block past position 64 */
     WEDGEPETAL_SHORT_OUTPUT = 14,   /* the lent output is too short; reading a stream: planes are */
-    WEDGEPETAL_PAST_PACKETS = 16,   /* the lengths of a shot's packets reach past their end */
+    WEDGEPETAL_PAST_COUNT = 15,     /* a sum of a census would pass 64 bits */
+    WEDGEPETAL_PAST_PACKETS = 16,   /* the lengths of packets reach past their end */
     WEDGEPETAL_UNCOUNTED = 17,      /* key frames would pass 64 bits, or others would not stay
                                        below 2 to the power KFGSHIFT; found after all else */
     WEDGEPETAL_UNKNOWN_COLOUR = 18, /* CS is neither 1 nor 2 */
@@ -678,6 +685,215 @@ static inline uint32_t wedgepetal_tiles_frame_in(const struct wedgepetal_work *w
                                   work->active, n[WEDGEPETAL_ACTIVE], golden, buffer_length, previous,
                                   buffer_length, new_frame, buffer_length, answer,
                                   WEDGEPETAL_ANSWER_NUMBERS, map, map_length);
+}
+
+/* wedgepetal_shot, and for each packet the map of the tiles that changed.
+ *
+ * settings  (4 numbers)
+ * maps      (wedgepetal_tiles_length bytes for each packet) receives one map for
+ *           each packet, one behind the other in the order of the packets, as
+ *           wedgepetal_tiles_frame would give it. A refused packet leaves its own
+ *           map as it was
+ *
+ * All else is as in wedgepetal_shot. Returns 0, whatever the packets answer, or
+ * refuses the whole shot, in this order: 1 for the list of settings, 20, 1 for the
+ * lists of the session and the names, 8 for the session's fields and its others, 1
+ * for any other list, maps among them, 8 for a name and for the table memory, 16. A
+ * refused shot writes nothing. */
+uint32_t wedgepetal_tiles_shot(const uint64_t *settings, size_t settings_length,
+                               uint64_t *session, size_t session_length,
+                               uint64_t *names, size_t names_length,
+                               const uint64_t *lengths, size_t lengths_length,
+                               const uint8_t *packets, size_t packets_length,
+                               const uint8_t *table, size_t table_length,
+                               uint32_t *records, size_t records_length,
+                               uint64_t *coded, size_t coded_length,
+                               int16_t *coefs, size_t coefs_length,
+                               int16_t *dc, size_t dc_length,
+                               uint8_t *lasts, size_t lasts_length,
+                               uint8_t *flags, size_t flags_length,
+                               uint8_t *bits, size_t bits_length,
+                               uint8_t *supers, size_t supers_length,
+                               uint8_t *modes, size_t modes_length,
+                               uint64_t *active, size_t active_length,
+                               uint8_t *first, size_t first_length,
+                               uint8_t *second, size_t second_length,
+                               uint8_t *third, size_t third_length,
+                               uint64_t *answers, size_t answers_length,
+                               uint8_t *maps, size_t maps_length);
+
+/* wedgepetal_tiles_shot with the slices of work memory in one struct and three
+ * buffers one behind the other, as wedgepetal_shot_in. maps has map_length bytes,
+ * wedgepetal_tiles_length, for each packet. */
+static inline uint32_t wedgepetal_tiles_shot_in(const struct wedgepetal_work *work, const uint64_t *settings,
+                                                uint64_t *session, uint64_t *names,
+                                                const uint64_t *lengths, size_t count,
+                                                const uint8_t *packets, size_t packets_length,
+                                                const uint8_t *table, uint8_t *buffers,
+                                                size_t buffer_length, uint64_t *answers,
+                                                uint8_t *maps, size_t map_length)
+{
+    const uint64_t *n = work->lengths;
+    return wedgepetal_tiles_shot(settings, WEDGEPETAL_SETTINGS_NUMBERS, session, WEDGEPETAL_SESSION_NUMBERS,
+                                 names, WEDGEPETAL_NAME_NUMBERS, lengths, count, packets, packets_length,
+                                 table, WEDGEPETAL_TABLE_BYTES, work->records, n[WEDGEPETAL_RECORDS],
+                                 work->coded, n[WEDGEPETAL_CODED], work->coefs, n[WEDGEPETAL_COEFS],
+                                 work->dc, n[WEDGEPETAL_DC], work->lasts, n[WEDGEPETAL_LASTS],
+                                 work->flags, n[WEDGEPETAL_FLAGS], work->bits, n[WEDGEPETAL_BITS],
+                                 work->supers, n[WEDGEPETAL_SUPERS], work->modes, n[WEDGEPETAL_MODES],
+                                 work->active, n[WEDGEPETAL_ACTIVE], buffers, buffer_length,
+                                 buffers + buffer_length, buffer_length, buffers + 2 * buffer_length,
+                                 buffer_length, answers, WEDGEPETAL_ANSWER_NUMBERS * count, maps,
+                                 map_length * count);
+}
+
+/* ---- Checking a stream of frames that somebody else made. */
+
+/* What a check finds is a list of 2 numbers. */
+enum {
+    WEDGEPETAL_DIFFERS, /* 1 if the file differs from what wedgepetal_y4m_write writes, else 0 */
+    WEDGEPETAL_AT,      /* at which byte of the file, from 0; of a refusal its place */
+    WEDGEPETAL_FOUND_NUMBERS
+};
+
+/* Holds a file to the stream that wedgepetal_y4m_write writes for a recording:
+ * one frame for each packet, all of which must be accepted. Nothing of the stream
+ * is stored, so that the file may be as long as it likes, and may be mapped.
+ *
+ * identification, setup
+ *          the two headers; the session is a fresh one
+ * lengths, packets
+ *          the frame packets, as for wedgepetal_shot
+ * file     only read
+ * table    (WEDGEPETAL_TABLE_BYTES bytes) receives what wedgepetal_setup leaves
+ * records to third
+ *          work memory and buffers 0 to 2, as for wedgepetal_shot
+ * answers  (8 numbers for each packet) receives the answer of each packet: the
+ *          first refused one is the one that a refusal is about
+ * found    (2 numbers) receives what is found
+ *
+ * Returns 0 and found {0, 0} if the file is that stream, to the byte; 0 and
+ * found {1, n} if byte n is the first that differs, or the shorter one of the two
+ * ends there; else the number of the first refusal and found {0, its place}. All
+ * packets are applied whatever the file holds, and a refusal wins over any
+ * difference. In the order in which refusals are found: 1 for found, and nothing
+ * is written; 2 to 6 for the identification header, and only found is written; then
+ * those of wedgepetal_setup, and table and found are written as that call leaves
+ * them; then 1 and 16 of wedgepetal_shot, which write nothing more; then 4 and 9
+ * to 13 and 17 of the packets, in their order. Buffers, answers and work memory
+ * are then as wedgepetal_shot leaves them. */
+uint32_t wedgepetal_check(const uint8_t *identification, size_t identification_length,
+                          const uint8_t *setup, size_t setup_length,
+                          const uint64_t *lengths, size_t lengths_length,
+                          const uint8_t *packets, size_t packets_length,
+                          const uint8_t *file, size_t file_length,
+                          uint8_t *table, size_t table_length,
+                          uint32_t *records, size_t records_length,
+                          uint64_t *coded, size_t coded_length,
+                          int16_t *coefs, size_t coefs_length,
+                          int16_t *dc, size_t dc_length,
+                          uint8_t *lasts, size_t lasts_length,
+                          uint8_t *flags, size_t flags_length,
+                          uint8_t *bits, size_t bits_length,
+                          uint8_t *supers, size_t supers_length,
+                          uint8_t *modes, size_t modes_length,
+                          uint64_t *active, size_t active_length,
+                          uint8_t *first, size_t first_length,
+                          uint8_t *second, size_t second_length,
+                          uint8_t *third, size_t third_length,
+                          uint64_t *answers, size_t answers_length,
+                          uint64_t *found, size_t found_length);
+
+/* wedgepetal_check with the slices of work memory in one struct and three buffers
+ * one behind the other, as wedgepetal_shot_in. */
+static inline uint32_t wedgepetal_check_in(const struct wedgepetal_work *work,
+                                           const uint8_t *identification, size_t identification_length,
+                                           const uint8_t *setup, size_t setup_length,
+                                           const uint64_t *lengths, size_t count,
+                                           const uint8_t *packets, size_t packets_length,
+                                           const uint8_t *file, size_t file_length,
+                                           uint8_t *table, uint8_t *buffers, size_t buffer_length,
+                                           uint64_t *answers, uint64_t *found)
+{
+    const uint64_t *n = work->lengths;
+    return wedgepetal_check(identification, identification_length, setup, setup_length, lengths, count,
+                            packets, packets_length, file, file_length, table, WEDGEPETAL_TABLE_BYTES,
+                            work->records, n[WEDGEPETAL_RECORDS], work->coded, n[WEDGEPETAL_CODED],
+                            work->coefs, n[WEDGEPETAL_COEFS], work->dc, n[WEDGEPETAL_DC],
+                            work->lasts, n[WEDGEPETAL_LASTS], work->flags, n[WEDGEPETAL_FLAGS],
+                            work->bits, n[WEDGEPETAL_BITS], work->supers, n[WEDGEPETAL_SUPERS],
+                            work->modes, n[WEDGEPETAL_MODES], work->active, n[WEDGEPETAL_ACTIVE],
+                            buffers, buffer_length, buffers + buffer_length, buffer_length,
+                            buffers + 2 * buffer_length, buffer_length, answers,
+                            WEDGEPETAL_ANSWER_NUMBERS * count, found, WEDGEPETAL_FOUND_NUMBERS);
+}
+
+/* ---- A census of recordings. */
+
+/* The report of a census is a list of 34 numbers. A census adds to it. */
+enum {
+    WEDGEPETAL_COUNTED_KINDS,         /* the first of three: accepted packets that are intra, inter, repeats */
+    WEDGEPETAL_COUNTED_REFUSALS = 3,  /* the first of 17: what was refused by 1, by 2 and so on to 17 */
+    WEDGEPETAL_COUNTED_CODED = 20,    /* the first of three: coded blocks of Y', Cb, Cr in intra and inter frames */
+    WEDGEPETAL_COUNTED_UNCODED = 23,  /* the first of three: their blocks that are not coded */
+    WEDGEPETAL_COUNTED_MODES = 26,    /* the first of eight: macro blocks of inter frames by their mode, 0 to 7 */
+    WEDGEPETAL_REPORT_NUMBERS = 34
+};
+
+/* Counts what the packets of a recording are and hold, without making frames, and
+ * adds it to a report.
+ *
+ * lengths  the lengths of all packets in bytes: the identification header, the
+ *          comment header, which is not looked at, the setup header, then frame packets
+ * packets  the packets, joined together; bytes behind the last are ignored
+ * report   (34 numbers) what was counted so far
+ * table    (WEDGEPETAL_TABLE_BYTES bytes) scratch
+ * records to new_frame
+ *          scratch: work memory and three plane buffers, of the lengths that the
+ *          recording's session asks for. If one of them has another length, each
+ *          frame packet is refused by 1
+ *
+ * The first refused header is counted by its number, a missing one as 4, and the
+ * rest of the recording is not read. Refusals of the call: 16, found first, and
+ * nothing changes; 1 for report; 15 if a sum would pass 64 bits. Each leaves the
+ * report as it was. After everything but 16 all scratch is zero, whatever its
+ * lengths. */
+uint32_t wedgepetal_census(const uint64_t *lengths, size_t lengths_length,
+                           const uint8_t *packets, size_t packets_length,
+                           uint64_t *report, size_t report_length,
+                           uint8_t *table, size_t table_length,
+                           uint32_t *records, size_t records_length,
+                           uint64_t *coded, size_t coded_length,
+                           int16_t *coefs, size_t coefs_length,
+                           int16_t *dc, size_t dc_length,
+                           uint8_t *lasts, size_t lasts_length,
+                           uint8_t *flags, size_t flags_length,
+                           uint8_t *bits, size_t bits_length,
+                           uint8_t *supers, size_t supers_length,
+                           uint8_t *modes, size_t modes_length,
+                           uint64_t *active, size_t active_length,
+                           uint8_t *golden, size_t golden_length,
+                           uint8_t *previous, size_t previous_length,
+                           uint8_t *new_frame, size_t new_frame_length);
+
+/* wedgepetal_census with the slices of work memory in one struct and three buffers
+ * one behind the other, as wedgepetal_shot_in. */
+static inline uint32_t wedgepetal_census_in(const struct wedgepetal_work *work,
+                                            const uint64_t *lengths, size_t count,
+                                            const uint8_t *packets, size_t packets_length,
+                                            uint64_t *report, uint8_t *table, uint8_t *buffers,
+                                            size_t buffer_length)
+{
+    const uint64_t *n = work->lengths;
+    return wedgepetal_census(lengths, count, packets, packets_length, report, WEDGEPETAL_REPORT_NUMBERS,
+                             table, WEDGEPETAL_TABLE_BYTES, work->records, n[WEDGEPETAL_RECORDS],
+                             work->coded, n[WEDGEPETAL_CODED], work->coefs, n[WEDGEPETAL_COEFS],
+                             work->dc, n[WEDGEPETAL_DC], work->lasts, n[WEDGEPETAL_LASTS],
+                             work->flags, n[WEDGEPETAL_FLAGS], work->bits, n[WEDGEPETAL_BITS],
+                             work->supers, n[WEDGEPETAL_SUPERS], work->modes, n[WEDGEPETAL_MODES],
+                             work->active, n[WEDGEPETAL_ACTIVE], buffers, buffer_length,
+                             buffers + buffer_length, buffer_length, buffers + 2 * buffer_length,
+                             buffer_length);
 }
 
 #ifdef __cplusplus

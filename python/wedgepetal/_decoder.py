@@ -2,26 +2,20 @@
 from __future__ import annotations
 
 import weakref
-from typing import Any, Callable, List, NamedTuple, Optional, Tuple
+from typing import Callable, List, NamedTuple, Optional, Sequence, Tuple
 
 import numpy as np
-import numpy.typing as npt
 
 from . import _library as lib
 from ._faults import Held, Refused
-from ._frame import Kind, Lease
-from ._library import library
-from ._memory import free
+from ._frame import Kind, Lease, Map
+from ._lent import Work, need
+from ._library import Lent, call
 from ._session import Bytes, Numbers, Sizes, sizes
+from ._settings import Settings, map_length, numbers
 
-# The element types of the ten slices of work memory.
-_SLICES = (np.uint32, np.uint64, np.int16, np.int16, np.uint8, np.uint8, np.uint8, np.uint8, np.uint8, np.uint64)
-_KINDS = (Kind.INTRA, Kind.INTER, Kind.REPEAT)
-
-
-def _lists(*arrays: npt.NDArray[Any]) -> List[int]:
-    """Arrays as the library takes them: a pointer and a length each."""
-    return [number for array in arrays for number in (array.ctypes.data, array.size)]
+KINDS = (Kind.INTRA, Kind.INTER, Kind.REPEAT)
+"""The kinds, as answers number them."""
 
 
 class Buffer:
@@ -49,6 +43,7 @@ class Answer(NamedTuple):
     kind: Kind
     qi: Tuple[int, ...]
     tokens: int
+    changed: Optional[Map]
 
 
 class Decoder:
@@ -59,34 +54,33 @@ class Decoder:
     place (``keep``), or there is no room for a frame (`Held`).
     """
 
-    def __init__(self, session: Numbers, setup: bytes, keep: bool, max_memory: Optional[int]) -> None:
+    def __init__(self, session: Numbers, setup: bytes, keep: bool, max_memory: Optional[int],
+                 settings: Optional[Settings]) -> None:
         self.session = session
         self.sizes: Sizes = sizes(session)
-        lengths = np.zeros(lib.LENGTH_NUMBERS, np.uint64)
-        number = library.wedgepetal_work_lengths(*_lists(session, lengths))
-        if number:
-            raise Refused(number)
-        self.memory = 3 * self.sizes.buffer + int(lengths[lib.WORK_BYTES]) + lib.TABLE_BYTES
-        limit = free() if max_memory is None else max_memory
-        if limit is not None and self.memory > limit:
-            by = "are free here (max_memory sets another limit)" if max_memory is None else "max_memory allows"
-            raise MemoryError(f"decoding needs {self.memory} bytes, more than the {limit} that {by}")
+        work = Work(session)
+        self.memory = 3 * self.sizes.buffer + work.bytes + lib.TABLE_BYTES
+        need(self.memory, max_memory)
+        self._tiles = None if settings is None else Tiling(settings, session, self.sizes)
         self._table = self._read_setup(setup)
-        self._work = [np.empty(int(n), dtype) for n, dtype in zip(lengths, _SLICES)]
+        self._work = work.lend()
         self._keep = keep
         self._buffers: List[Buffer] = [Buffer(self.sizes.buffer) for _ in range(3)]
         self._names = np.zeros(2, np.uint64)
-        self._length = np.zeros(1, np.uint64)
-        self._answer = np.zeros(lib.ANSWER_NUMBERS, np.uint64)
 
     @staticmethod
     def _read_setup(setup: bytes) -> Bytes:
         table = np.zeros(lib.TABLE_BYTES, np.uint8)
         place = np.zeros(1, np.uint64)
-        number = library.wedgepetal_setup(setup, len(setup), *_lists(table, place))
+        number = call("setup", setup, table, place)
         if number:
             raise Refused(number, int(place[0]))
         return table
+
+    @property
+    def tile_rows_and_columns(self) -> Tuple[int, int]:
+        """Rows and columns of a map; none without settings."""
+        return (0, 0) if self._tiles is None else self._tiles.shape
 
     def restart(self) -> None:
         """Packets are missing here: only an intra frame is accepted next."""
@@ -104,14 +98,52 @@ class Decoder:
     def decode(self, packet: bytes) -> Answer:
         """Decodes a packet. A refusal changes nothing."""
         self.make_room()
-        self._length[0] = len(packet)
-        number = library.wedgepetal_shot(
-            *_lists(self.session, self._names, self._length), packet, len(packet), *_lists(self._table, *self._work),
-            *_lists(*(buffer.memory for buffer in self._buffers), self._answer),
-        )
-        answer = [int(n) for n in self._answer]
-        if number or answer[lib.NUMBER]:
-            raise Refused(number or answer[lib.NUMBER], 0 if number else answer[lib.PLACE])
-        lease = self._buffers[int(self._names[lib.PREVIOUS])].lease()
+        answers, maps = self.shot([packet])
+        answer = [int(n) for n in answers[0]]
+        if answer[lib.NUMBER]:
+            raise Refused(answer[lib.NUMBER], answer[lib.PLACE])
         qi = tuple(answer[lib.QIS : lib.QIS + answer[lib.QI_COUNT]])
-        return Answer(lease, _KINDS[answer[lib.KIND]], qi, answer[lib.TOKENS])
+        return Answer(self.previous(), KINDS[answer[lib.KIND]], qi, answer[lib.TOKENS], None if maps is None else maps[0])
+
+    def previous(self) -> Lease:
+        """The frame that was decoded last."""
+        return self._buffers[int(self._names[lib.PREVIOUS])].lease()
+
+    def shot(self, packets: Sequence[bytes]) -> Tuple[Numbers, Optional[Map]]:
+        """Decodes packets in one call: the answer of each, 8 numbers, and its map of tiles if there are settings. The
+        map of a refused packet is all zero."""
+        lengths = np.array([len(packet) for packet in packets], np.uint64)
+        joined = packets[0] if len(packets) == 1 else b"".join(packets)
+        answers = np.zeros((len(packets), lib.ANSWER_NUMBERS), np.uint64)
+        buffers = (buffer.memory for buffer in self._buffers)
+        given: Tuple[Lent, ...] = (self.session, self._names, lengths, joined, self._table, *self._work, *buffers, answers)
+        if self._tiles is None:
+            maps, number = None, call("shot", *given)
+        else:
+            maps = np.zeros((len(packets), *self._tiles.shape), np.uint8)
+            number = call("tiles_shot", self._tiles.settings, *given, maps)
+        if number:
+            raise Refused(number)
+        return answers, None if maps is None else maps[:, ::-1].view(np.bool_)
+
+    def check(self, first: bytes, setup: bytes, packets: Sequence[bytes], film: Bytes) -> Tuple[int, int, bool, Numbers]:
+        """Compares a film with what the packets give: the number of the refusal, its place or the first byte that differs,
+        whether one does, and the answer of each packet. No frame may be viewed meanwhile."""
+        lengths = np.array([len(packet) for packet in packets], np.uint64)
+        answers = np.zeros((len(packets), lib.ANSWER_NUMBERS), np.uint64)
+        found = np.zeros(2, np.uint64)
+        buffers = (buffer.memory for buffer in self._buffers)
+        number = call("check", first, setup, lengths, b"".join(packets), film, self._table, *self._work, *buffers, answers,
+                      found)
+        return number, int(found[1]), bool(found[0]), answers
+
+
+class Tiling:
+    """How a plane is cut into tiles."""
+
+    def __init__(self, settings: Settings, session: Numbers, sizes: Sizes) -> None:
+        self.settings = numbers(settings)
+        length = map_length(self.settings, session)
+        columns = -(-sizes.planes[settings.plane][1] // settings.tile)
+        self.shape = length // columns, columns
+        """Rows and columns of tiles."""

@@ -84,6 +84,7 @@ class Gap(Fault):
         self.time = time
         self.lost = lost
         self.left_out = 0
+        self._loses_packets = False
         super().__init__(what, packet, time, lost)
 
     def __str__(self) -> str:

@@ -5,10 +5,14 @@ import enum
 from typing import Any, Dict, Optional, Tuple
 
 import numpy as np
+import numpy.typing as npt
 
 from ._faults import Refused
 from ._library import CS, SESSION_NUMBERS, library
 from ._session import Bytes, Numbers, Session, Sizes
+
+Map = npt.NDArray[np.bool_]
+"""Which tiles changed: rows and columns of tiles, the top row first."""
 
 
 class Kind(str, enum.Enum):
@@ -62,7 +66,7 @@ class Frame:
     """
 
     __slots__ = ("number", "packet", "kind", "position", "time", "qi", "tokens", "key_frame", "since", "region",
-                 "session", "_sizes", "_numbers", "_bytes")
+                 "session", "changed", "_sizes", "_numbers", "_bytes")
 
     number: int
     """Which frame of the shot it is, from 0. Repeats count."""
@@ -87,6 +91,9 @@ class Frame:
     """What its planes show: the "picture" or the whole "coded" frame."""
     session: Session
     """The session of its stream."""
+    changed: Optional[Map]
+    """In which tiles of the coded frame some sample differs from the frame before, if the shot was opened with `Settings`;
+    all, where there is no frame before."""
 
     def __init__(self, lease: Lease, sizes: Sizes, numbers: Numbers, **fields: Any) -> None:
         self._bytes: Bytes = np.asarray(lease)

@@ -4,7 +4,10 @@ from __future__ import annotations
 import ctypes
 import os
 from pathlib import Path
-from typing import Dict, Iterator, List, Tuple
+from typing import Any, Dict, Iterator, List, Tuple, Union
+
+import numpy as np
+import numpy.typing as npt
 
 VERSION = "0.1.0"
 FILE = "libwedgepetal.so.0"
@@ -33,6 +36,10 @@ _LISTS: Dict[str, int] = {
     "wedgepetal_rgb": 4,
     "wedgepetal_y4m_header": 3,
     "wedgepetal_y4m_frame": 4,
+    "wedgepetal_tiles_length": 3,
+    "wedgepetal_tiles_shot": 21,
+    "wedgepetal_check": 21,
+    "wedgepetal_census": 17,
 }
 
 
@@ -67,14 +74,26 @@ def _load() -> ctypes.CDLL:
     found = library.wedgepetal_version().decode()
     if found.split(".")[:2] != VERSION.split(".")[:2]:
         raise ImportError(f"{library._name} is version {found}, and this module is for version {VERSION}")
-    for name, lists in _LISTS.items():
+    for name, count in _LISTS.items():
         function = getattr(library, name)
         function.restype = ctypes.c_uint32
-        function.argtypes = [ctypes.c_void_p, ctypes.c_size_t] * lists
+        function.argtypes = [ctypes.c_void_p, ctypes.c_size_t] * count
+    library.wedgepetal_settings_read.restype = ctypes.c_uint32
+    library.wedgepetal_settings_read.argtypes = [ctypes.c_uint64] + [ctypes.c_void_p, ctypes.c_size_t] * 2
     return library
 
 
 library = _load()
+
+
+Lent = Union[npt.NDArray[Any], bytes]
+"""What the library takes as a list."""
+
+
+def call(name: str, *lists: Lent) -> int:
+    """Calls the library with lists, each as a pointer and a length; they are held on to meanwhile."""
+    arrays = [np.frombuffer(given, np.uint8) if isinstance(given, bytes) else given for given in lists]
+    return int(getattr(library, f"wedgepetal_{name}")(*(n for array in arrays for n in (array.ctypes.data, array.size))))
 
 
 def text(number: int) -> str:

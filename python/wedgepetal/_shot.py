@@ -5,16 +5,17 @@ import os
 from fractions import Fraction
 from pathlib import Path
 from types import TracebackType
-from typing import BinaryIO, Callable, Iterator, List, Optional, Tuple, Type, TypeVar, Union
+from typing import BinaryIO, Callable, Iterator, List, NamedTuple, Optional, Tuple, Type, TypeVar, Union
 
 import numpy as np
 
 from . import _library as lib
-from ._decoder import Answer, Decoder
+from ._decoder import KINDS, Answer, Decoder
 from ._faults import Gap, NoRecording, Refused, SeveralStreams
-from ._frame import Frame
+from ._frame import Frame, Kind, Map
 from ._parts import Begin, End, Foreign, Hole, Packet, Part, Source, parts
-from ._session import Bytes, Session, identification
+from ._session import Bytes, Numbers, Session, identification
+from ._settings import Settings
 
 Recording = Union[str, "os.PathLike[str]", BinaryIO]
 T = TypeVar("T")
@@ -48,6 +49,28 @@ class Clock:
         return float(position / self._rate)
 
 
+class Coded(NamedTuple):
+    """A frame packet of a stream."""
+
+    bytes: bytes
+    number: int
+    """Its number in the stream, from 0."""
+    position: int
+    """Its place in time, counted in frames from 0."""
+
+
+class Answered(NamedTuple):
+    """A packet that was accepted, where its planes are not wanted."""
+
+    packet: Coded
+    time: float
+    kind: Kind
+    tokens: int
+    changed: Optional[Map]
+    is_compared: bool
+    """Whether there is a frame before it; if not all its tiles are changed."""
+
+
 class Shot(Iterator[Frame]):
     """A recording that is being decoded: an iterator over its frames, and a context manager. `open` gives one.
 
@@ -69,7 +92,7 @@ class Shot(Iterator[Frame]):
     """What else was met that belongs to no stream: foreign or damaged bytes, stray pages."""
 
     def __init__(self, recording: Recording, region: str, held: str, on_refusal: str, on_gap: str,
-                 stream: Optional[int], max_memory: Optional[int]) -> None:
+                 stream: Optional[int], max_memory: Optional[int], tiles: Optional[Settings]) -> None:
         _choose("region", region, "picture", "coded")
         _choose("held", held, "keep", "refuse")
         _choose("on_refusal", on_refusal, "raise", "skip")
@@ -77,20 +100,20 @@ class Shot(Iterator[Frame]):
         self.region, self._on_refusal, self._on_gap, self._stream = region, on_refusal, on_gap, stream
         self.refused, self.gaps, self.notes = [], [], []
         self._packets = self._frames = 0
-        # A packet that was read and not yet decoded; the gap before the next packet, and the one behind which packets
-        # are left out.
-        self._waiting: Optional[Packet] = None
-        self._open_gap: Optional[Gap] = None
+        # A packet that was read and not yet decoded; the gap behind which packets are left out.
+        self._waiting: Optional[Coded] = None
         self._gap: Optional[Gap] = None
         self._closed = False
-        self._file, source = _opened(recording)
+        self._file, source = opened(recording)
         try:
             self._parts = parts(source, stream)
             first, _, setup = [self._header() for _ in range(3)]
             self.session, numbers = _of_packet(0, lambda: identification(first))
             self._clock = Clock(self.session)
-            self._decoder = _of_packet(2, lambda: Decoder(numbers, setup, held == "keep", max_memory))
+            self._decoder = _of_packet(2, lambda: Decoder(numbers, setup, held == "keep", max_memory, tiles))
             self.memory = self._decoder.memory
+            self._headers = first, setup
+            self._coming = self._items()
         except BaseException:
             self.close()
             raise
@@ -127,9 +150,11 @@ class Shot(Iterator[Frame]):
             raise ValueError("the shot is closed")
         while True:
             if self._waiting is None:
-                self._waiting = self._packet()
-            if self._waiting is None:
-                raise StopIteration
+                item = next(self._coming)
+                if isinstance(item, Gap):
+                    self._meet(item)
+                    continue
+                self._waiting = item
             # If there is none the packet waits.
             self._decoder.make_room()
             packet, self._waiting = self._waiting, None
@@ -137,35 +162,75 @@ class Shot(Iterator[Frame]):
             if frame is not None:
                 return frame
 
-    def _decode(self, packet: Packet) -> Optional[Frame]:
+    def _decode(self, packet: Coded) -> Optional[Frame]:
         """The frame of a packet, if it is accepted."""
-        number, self._packets = self._packets, self._packets + 1
-        position = self._clock.position(packet)
-        self._clock.next = position + 1
         try:
             answer = self._decoder.decode(packet.bytes)
         except Refused as error:
-            refused = Refused(error.number, error.place, number)
+            refused = Refused(error.number, error.place, packet.number)
         else:
             self._gap = None
-            return self._frame(answer, number, position)
+            return self._frame(answer, packet)
+        self._refuse(refused)
+        return None
+
+    def _refuse(self, refused: Refused) -> None:
+        """A packet is refused; behind a gap those that need what is missing are left out."""
         if self._gap is not None and refused.number == lib.NO_REFERENCES:
             self._gap.left_out += 1
-            return None
+            return
         self.refused.append(refused)
         if self._on_refusal == "raise":
             raise refused
-        return None
 
-    def _frame(self, answer: Answer, packet: int, position: int) -> Frame:
+    def _frame(self, answer: Answer, packet: Coded) -> Frame:
         number, self._frames = self._frames, self._frames + 1
         numbers = self._decoder.session
         return Frame(
-            answer.lease, self._decoder.sizes, numbers.copy(), number=number, packet=packet, kind=answer.kind,
-            position=position, time=self._clock.time(position), qi=answer.qi, tokens=answer.tokens,
+            answer.lease, self._decoder.sizes, numbers.copy(), number=number, packet=packet.number, kind=answer.kind,
+            position=packet.position, time=self._clock.time(packet.position), qi=answer.qi, tokens=answer.tokens,
             key_frame=int(numbers[lib.KEY_FRAMES]), since=int(numbers[lib.OTHERS]), region=self.region,
-            session=self.session,
+            session=self.session, changed=answer.changed,
         )
+
+    def _batches(self, most: Callable[[], int]) -> Iterator[List[Answered]]:
+        """Decodes what is left, at each call as many packets as are wanted then; no frame may be viewed meanwhile. Gives
+        what was accepted of them."""
+        batch: List[Coded] = []
+        wanted = most()
+        for item in self._coming:
+            if isinstance(item, Coded):
+                batch.append(item)
+            if isinstance(item, Gap) or len(batch) >= wanted:
+                yield self._accepted(batch)
+                batch, wanted = [], most()
+            if isinstance(item, Gap):
+                self._meet(item)
+        yield self._accepted(batch)
+
+    def _accepted(self, batch: List[Coded]) -> List[Answered]:
+        """Decodes packets in one call."""
+        if not batch:
+            return []
+        found: List[Answered] = []
+        is_compared = bool(self._decoder.session[lib.REFERENCES])
+        answers, maps = self._decoder.shot([packet.bytes for packet in batch])
+        for i, packet in enumerate(batch):
+            answer = answers[i]
+            if answer[lib.NUMBER]:
+                self._refuse(Refused(int(answer[lib.NUMBER]), int(answer[lib.PLACE]), packet.number))
+            else:
+                self._gap = None
+                kind, tokens = KINDS[int(answer[lib.KIND])], int(answer[lib.TOKENS])
+                time = self._clock.time(packet.position)
+                found.append(Answered(packet, time, kind, tokens, None if maps is None else maps[i], is_compared))
+                is_compared = True
+        return found
+
+    def _shown(self) -> Frame:
+        """The planes of the frame that was decoded last."""
+        decoder = self._decoder
+        return Frame(decoder.previous(), decoder.sizes, decoder.session.copy(), region=self.region, session=self.session)
 
     def _part(self) -> Optional[Part]:
         """The next part of the stream; none at the end of the file."""
@@ -190,44 +255,49 @@ class Shot(Iterator[Frame]):
             raise NoRecording(f"there is no Theora stream{'' if self._stream is None else f' {self._stream}'}")
         raise NoRecording("it ends before its first frame")
 
-    def _packet(self) -> Optional[Packet]:
-        """The next frame packet; none at the end. A gap before it is said first."""
+    def _items(self) -> Iterator[Union[Gap, Coded]]:
+        """The frame packets, and before them the gaps, of which is known by then what they lost."""
+        gap: Optional[Gap] = None
         while True:
             part = self._part()
             if isinstance(part, Hole):
-                self._hole(part)
+                gap = self._hole(gap, part)
             elif isinstance(part, Packet):
-                if self._open_gap is not None:
-                    lost = self._clock.position(part) - self._clock.next
-                    self._open_gap.lost = lost if lost >= 0 else None
-                    self._waiting = part
-                self._say_gap()
-                return part
-            elif isinstance(part, End):
-                if part.what is not None:
-                    self._hole(Hole(part.what, False))
-                self._say_gap()
+                position = self._clock.position(part)
+                if gap is not None:
+                    lost = position - self._clock.next
+                    gap.lost = lost if lost >= 0 else None
+                    yield gap
+                    gap = None
+                self._clock.next = position + 1
+                self._packets += 1
+                yield Coded(part.bytes, self._packets - 1, position)
             else:
-                self._say_gap()
-                return None
+                if isinstance(part, End) and part.what is not None:
+                    gap = self._hole(gap, Hole(part.what, False))
+                if gap is not None:
+                    yield gap
+                    gap = None
+                if part is None:
+                    return
 
-    def _hole(self, hole: Hole) -> None:
-        """The stream does not go on as it should."""
-        if hole.loses_packets:
-            self._decoder.restart()
-        if self._open_gap is None:
-            self._open_gap = Gap(hole.what, self._packets, self._clock.time(self._clock.next))
+    def _hole(self, gap: Optional[Gap], hole: Hole) -> Gap:
+        """The stream does not go on as it should: a gap begins, or the last one goes on."""
+        if gap is None:
+            gap = Gap(hole.what, self._packets, self._clock.time(self._clock.next))
         else:
-            self._open_gap.what += f"; {hole.what}"
+            gap.what += f"; {hole.what}"
+        gap._loses_packets = gap._loses_packets or hole.loses_packets
+        return gap
 
-    def _say_gap(self) -> None:
-        """What is behind a gap is known now."""
-        gap, self._open_gap = self._open_gap, None
-        if gap is not None:
-            self._gap = gap
-            self.gaps.append(gap)
-            if self._on_gap == "raise":
-                raise gap
+    def _meet(self, gap: Gap) -> None:
+        """Behind a gap in which packets are lost only a key frame is accepted."""
+        if gap._loses_packets:
+            self._decoder.restart()
+        self._gap = gap
+        self.gaps.append(gap)
+        if self._on_gap == "raise":
+            raise gap
 
 
 def _choose(name: str, value: str, *choices: str) -> None:
@@ -235,7 +305,7 @@ def _choose(name: str, value: str, *choices: str) -> None:
         raise ValueError(f"{name} is one of {', '.join(map(repr, choices))}, not {value!r}")
 
 
-def _opened(recording: Recording) -> Tuple[Optional[BinaryIO], Source]:
+def opened(recording: Recording) -> Tuple[Optional[BinaryIO], Source]:
     """The file that is to be closed afterwards, if there is one, and what is read."""
     if isinstance(recording, (str, os.PathLike)):
         file = Path(recording).open("rb")
@@ -248,12 +318,13 @@ def _of_packet(number: int, read: Callable[[], T]) -> T:
     try:
         return read()
     except Refused as error:
-        refused = Refused(error.number, error.place, number)
+        refused = Refused(error.number, error.place, number if error.has_place else None)
     raise refused
 
 
 def open(recording: Recording, *, region: str = "picture", held: str = "keep", on_refusal: str = "raise",
-         on_gap: str = "raise", stream: Optional[int] = None, max_memory: Optional[int] = None) -> Shot:
+         on_gap: str = "raise", stream: Optional[int] = None, max_memory: Optional[int] = None,
+         tiles: Optional[Settings] = None) -> Shot:
     """Opens a recording: an Ogg file (through Debian's libogg0) or a packet file, by its path or as a binary file.
 
     >>> with wedgepetal.open(recording) as shot:
@@ -283,8 +354,11 @@ def open(recording: Recording, *, region: str = "picture", held: str = "keep", o
     max_memory
         The most bytes that decoding may take; without it, what is free on the machine and in its control group. If it
         needs more, `MemoryError` is raised before any are asked for.
+    tiles
+        `Settings` with which each frame has its map of changed tiles, ``frame.changed``. `wedgepetal.tiles` gives those of
+        a whole shot at once.
     """
-    return Shot(recording, region, held, on_refusal, on_gap, stream, max_memory)
+    return Shot(recording, region, held, on_refusal, on_gap, stream, max_memory, tiles)
 
 
 def load(recording: Recording, plane: str = "y", frames: Union[range, slice, None] = None, *, region: str = "picture",

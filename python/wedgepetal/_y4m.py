@@ -2,16 +2,16 @@
 from __future__ import annotations
 
 import os
-from pathlib import Path
 from typing import BinaryIO, Callable, Optional, Union
 
 import numpy as np
 
 from ._faults import Refused
+from ._files import whole_file
 from ._frame import Frame
 from ._library import SESSION_NUMBERS, Y4M_HEADER_BYTES, library
 from ._session import Bytes, Numbers
-from ._shot import Recording, open
+from ._shot import Recording, Shot, open
 
 Output = Union[str, "os.PathLike[str]", BinaryIO]
 
@@ -25,7 +25,8 @@ def _written(call: Callable[..., int], room: int, *lists: Union[int, Bytes]) -> 
     return out[: int(written[0])]
 
 
-def _header(session: Numbers) -> Bytes:
+def header(session: Numbers) -> Bytes:
+    """The first line of a session's film."""
     return _written(library.wedgepetal_y4m_header, Y4M_HEADER_BYTES, session.ctypes.data, SESSION_NUMBERS)
 
 
@@ -49,24 +50,22 @@ def write_y4m(recording: Recording, out: Output, *, on_refusal: str = "raise", o
     """
     if not isinstance(out, (str, os.PathLike)):
         return _write(recording, out, on_refusal, on_gap, stream, max_memory)
-    place = Path(out)
-    part = place.with_name(f"{place.name}.{os.getpid()}.part")
-    try:
-        with part.open("wb") as file:
-            count = _write(recording, file, on_refusal, on_gap, stream, max_memory)
-        part.replace(place)
-    finally:
-        part.unlink(missing_ok=True)
-    return count
+    with whole_file(out) as file:
+        return _write(recording, file, on_refusal, on_gap, stream, max_memory)
 
 
 def _write(recording: Recording, out: BinaryIO, on_refusal: str, on_gap: str, stream: Optional[int],
            max_memory: Optional[int]) -> int:
-    count = 0
-    with open(recording, held="refuse", on_refusal=on_refusal, on_gap=on_gap, stream=stream,
+    with open(recording, on_refusal=on_refusal, on_gap=on_gap, stream=stream,
               max_memory=max_memory) as shot:
-        out.write(_header(shot._decoder.session).data)
-        for frame in shot:
-            out.write(_frame(frame).data)
-            count += 1
+        return write_frames(shot, out)
+
+
+def write_frames(shot: Shot, out: BinaryIO) -> int:
+    """Writes a film of the frames of a shot that is open. Gives their number."""
+    count = 0
+    out.write(header(shot._decoder.session).data)
+    for frame in shot:
+        out.write(_frame(frame).data)
+        count += 1
     return count

@@ -79,7 +79,7 @@ impl FilmWriter {
     pub fn new(session: &Session) -> Result<FilmWriter, Unplayable> {
         let mut header = vec![0; FILM_HEADER_BYTES];
         let bytes = session.film_header(&mut header);
-        let bytes = bytes.map_err(Unplayable::Refused)?;
+        let bytes = bytes?;
         // At most 82.
         header.truncate(bytes as usize);
         let sizes = session.sizes().map_err(Unplayable::Refused)?;

@@ -111,7 +111,7 @@ impl<'a> Frame<'a> {
         self.bytes
     }
 
-    /// The planes Y', Cb, Cr.
+    /// The planes Y', Cb, Cr as they are coded.
     ///
     /// # Panics
     ///
@@ -149,5 +149,74 @@ impl<'a> Samples<'a> {
     /// If there is no such row.
     pub fn row(&self, y: usize) -> &'a [u8] {
         &self.bytes[y * self.width..(y + 1) * self.width]
+    }
+}
+
+/// What a plane shows of the picture: rows from the top, of which each is cut out
+/// of the coded plane. Nothing is copied.
+#[derive(Clone, Copy, Debug, PartialEq, Eq)]
+pub struct View<'a> {
+    /// How many samples a row has.
+    pub width: usize,
+    /// How many rows there are.
+    pub height: usize,
+    plane: Samples<'a>,
+    left: usize,
+    top: usize,
+}
+
+impl<'a> View<'a> {
+    /// A row, counted from the top.
+    ///
+    /// # Panics
+    ///
+    /// If there is no such row.
+    pub fn row(&self, y: usize) -> &'a [u8] {
+        assert!(y < self.height, "row {y} of {}", self.height);
+        let row = self.plane.row(self.plane.height - 1 - self.top - y);
+        &row[self.left..self.left + self.width]
+    }
+
+    /// The rows, the highest first.
+    pub fn rows(&self) -> impl Iterator<Item = &'a [u8]> + use<'a> {
+        let view = *self;
+        (0..view.height).map(move |y| view.row(y))
+    }
+
+    /// A copy of the rows, the highest first.
+    pub fn to_vec(&self) -> Vec<u8> {
+        self.rows().flatten().copied().collect()
+    }
+}
+
+impl Session {
+    /// The picture of a frame of this session: of each plane Y', Cb, Cr what
+    /// should be shown, the top row first. Where the picture begins inside a
+    /// chroma sample, it begins with that sample.
+    ///
+    /// # Panics
+    ///
+    /// If the frame is none of a session with these fields.
+    pub fn picture<'a>(&self, frame: Frame<'a>) -> [View<'a>; 3] {
+        let step = match self.pf {
+            0 => (2, 2),
+            2 => (2, 1),
+            _ => (1, 1),
+        };
+        let [luma, cb, cr] = frame.planes();
+        [(luma, (1, 1)), (cb, step), (cr, step)].map(|(plane, step)| self.view(plane, step))
+    }
+
+    /// The picture in a plane that has one sample for so many of luma.
+    fn view<'a>(&self, plane: Samples<'a>, (across, up): (u64, u64)) -> View<'a> {
+        let above = 16 * self.fmbh - self.picy - self.pich;
+        // The plane lies in memory, so that these numbers fit.
+        View {
+            width: self.picw.div_ceil(across) as usize,
+            height: self.pich.div_ceil(up) as usize,
+            plane,
+            left: (self.picx / across) as usize,
+            top: (above / up) as usize,
+        }
     }
 }

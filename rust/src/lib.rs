@@ -3,13 +3,18 @@
 //! A recording's first packet is its identification header ([`identification`]
 //! gives the [`Session`]), the third its setup header ([`setup`] gives the
 //! [`Table`]). A [`Player`] of both decodes the packets that follow, one by one
-//! or many in one call, into planes. Whatever a packet holds, each call ends with an answer, and a
-//! refusal ([`Refusal`]) changes nothing and says where in the packet it was
-//! found.
+//! or many in one call, into planes. Whatever a packet holds, each call ends with
+//! an answer, and a refusal ([`Refusal`]) changes nothing and says where in the
+//! packet it was found.
+//!
+//! Packets of Ogg files come from [`recording`]. [`Player::frames`] is an iterator
+//! over frames, [`Player::picture`] what should be shown of one, the top row first.
 //!
 //! Of decoded frames [`Session::rgb`] makes colours, and a [`FilmWriter`] a
 //! YUV4MPEG2 stream, which [`Film::read`] reads back. [`Settings`] are those of
-//! the scoring scripts, as texts.
+//! the scoring scripts, as texts; [`Player::tiles`] says which tiles changed.
+//! [`check`] holds another decoder's stream to a recording, [`Report::count`]
+//! counts what recordings hold.
 //!
 //! ```
 //! use wedgepetal::{Refusal, identification};
@@ -41,26 +46,39 @@
 //! }
 //! ```
 
+mod census;
+mod check;
 mod film;
 mod frame;
+mod frames;
 pub mod lists;
+mod memory;
 mod player;
+pub mod recording;
 mod refusal;
 mod session;
 mod settings;
 mod shot;
 mod table;
+mod tiles;
+mod unplayable;
 mod work;
 
+pub use census::Report;
+pub use check::{Checked, check, check_within};
 pub use film::{FILM_HEADER_BYTES, Film, FilmWriter};
-pub use frame::{Frame, FrameAnswer, Kind, Samples};
+pub use frame::{Frame, FrameAnswer, Kind, Samples, View};
+pub use frames::{Decoded, Frames};
 pub use lists::Buffers;
-pub use player::{Player, Unplayable};
-pub use refusal::Refusal;
+pub use memory::free_memory;
+pub use player::Player;
+pub use refusal::{Refusal, Refused, grouped};
 pub use session::{Session, identification};
 pub use settings::{SETTINGS_BYTES, Settings};
 pub use shot::{Names, Packets};
 pub use table::{MatrixType, Table, setup};
+pub use tiles::{TileMap, TileMaps};
+pub use unplayable::Unplayable;
 pub use work::{Work, WorkLengths};
 
 /// The version of this package.
@@ -116,3 +134,8 @@ pub struct MacroBlock {
     /// The macro block's row, counted from the bottom.
     pub y: u64,
 }
+
+/// The lines of README.md, which the tests compile.
+#[doc = include_str!("../README.md")]
+#[cfg(doctest)]
+struct Readme;

@@ -1,10 +1,10 @@
 //! A recording's packets decoded one after the other.
 
-use crate::lists::TABLE_BYTES;
-use crate::work::zeros;
-use crate::{Frame, FrameAnswer, Names, Packets, Refusal, Session, Sizes, Table, Work};
-use std::error::Error;
-use std::fmt;
+use crate::work::Lent;
+use crate::{
+    Frame, FrameAnswer, Frames, Names, Packets, Refusal, Session, Settings, Sizes, Table, TileMaps,
+    Unplayable, View, free_memory,
+};
 
 /// Decodes the frame packets of a recording, by [`Session::shot`]: the proved
 /// call takes golden and previous from its three plane buffers, puts the new
@@ -34,18 +34,8 @@ pub struct Player {
     session: Session,
     sizes: Sizes,
     table: Table,
-    work: Work,
-    buffers: [Vec<u8>; 3],
+    lent: Lent,
     names: Names,
-}
-
-/// Why a recording cannot be played.
-#[derive(Clone, Debug, PartialEq, Eq)]
-pub enum Unplayable {
-    /// The session is refused, by number 8.
-    Refused(Refusal),
-    /// So many bytes of memory cannot be had.
-    Memory(u64),
 }
 
 impl Player {
@@ -53,27 +43,36 @@ impl Player {
     /// It begins without references, so that the first frame is an intra frame,
     /// and counts key frames from 0.
     ///
+    /// The memory that it takes ([`Player::memory`]) is held to what is free
+    /// ([`free_memory`]) before a byte of it is asked for.
+    ///
     /// # Errors
     ///
     /// The session's fields could not come from an identification header, or
     /// there is not enough memory.
     pub fn new(session: Session, table: Table) -> Result<Player, Unplayable> {
-        let sizes = session.sizes().map_err(Unplayable::Refused)?;
-        let lengths = session.work_lengths().map_err(Unplayable::Refused)?;
-        let bytes = Player::memory(&session).map_err(Unplayable::Refused)?;
-        let no_memory = |_| Unplayable::Memory(bytes);
-        let buffer = || zeros(sizes.buffer).map_err(no_memory);
+        match Player::within(session, table, free_memory()) {
+            Err(Unplayable::Limit { bytes, .. }) => Err(Unplayable::Memory(bytes)),
+            player => player,
+        }
+    }
+
+    /// A player that takes at most so many bytes of memory.
+    ///
+    /// # Errors
+    ///
+    /// As for [`Player::new`], or it would take more.
+    pub fn within(session: Session, table: Table, limit: u64) -> Result<Player, Unplayable> {
         Ok(Player {
-            work: Work::new(&lengths).map_err(no_memory)?,
-            buffers: [buffer()?, buffer()?, buffer()?],
+            lent: Lent::new(&session, limit)?,
             names: Names::NONE,
+            sizes: session.sizes()?,
             session: Session {
                 references: false,
                 key_frames: 0,
                 others: 0,
                 ..session
             },
-            sizes,
             table,
         })
     }
@@ -85,8 +84,7 @@ impl Player {
     ///
     /// Number 8, as for every call on a session.
     pub fn memory(session: &Session) -> Result<u64, Refusal> {
-        let (sizes, lengths) = (session.sizes()?, session.work_lengths()?);
-        Ok(3 * sizes.buffer + lengths.bytes + TABLE_BYTES as u64)
+        Lent::bytes(session)
     }
 
     /// Forgets all frames: packets are missing here. As at the beginning, only
@@ -120,33 +118,88 @@ impl Player {
         &mut self,
         packets: &[impl AsRef<[u8]>],
     ) -> Vec<Result<FrameAnswer, Refusal>> {
-        let packets: Vec<&[u8]> = packets.iter().map(AsRef::as_ref).collect();
-        let lengths: Vec<u64> = packets.iter().map(|packet| packet.len() as u64).collect();
+        let (lengths, bytes) = joined(packets);
         self.shot(Packets {
             lengths: &lengths,
-            bytes: &packets.concat(),
+            bytes: &bytes,
         })
     }
 
     /// Decodes packets whose lengths are those of their bytes.
     fn shot(&mut self, packets: Packets<'_>) -> Vec<Result<FrameAnswer, Refusal>> {
-        let buffers = self.buffers.each_mut().map(Vec::as_mut_slice);
+        let (work, buffers) = self.lent.parts();
         self.session
-            .shot(
-                &mut self.names,
-                packets,
-                &self.table,
-                &mut self.work,
-                buffers,
-            )
+            .shot(&mut self.names, packets, &self.table, work, buffers)
             .expect("all that a player lends is sound")
+    }
+
+    /// Decodes the next packets in one call and says of each which tiles of a
+    /// plane changed, by settings.
+    ///
+    /// # Errors
+    ///
+    /// Number 20 for settings out of range. Nothing has changed.
+    ///
+    /// # Panics
+    ///
+    /// If memory for the maps cannot be had.
+    pub fn tiles(
+        &mut self,
+        settings: &Settings,
+        packets: &[impl AsRef<[u8]>],
+    ) -> Result<TileMaps, Refusal> {
+        let (lengths, bytes) = joined(packets);
+        let packets = Packets {
+            lengths: &lengths,
+            bytes: &bytes,
+        };
+        let (work, buffers) = self.lent.parts();
+        self.session.tiles(
+            settings,
+            &mut self.names,
+            packets,
+            &self.table,
+            work,
+            buffers,
+        )
+    }
+
+    /// The frames of the next packets, one by one, each with a copy of its planes;
+    /// [`Player::decode`] and [`Player::frame`] copy nothing. Packets are counted
+    /// on from 3, behind the headers.
+    ///
+    /// ```no_run
+    /// # fn main() -> Result<(), Box<dyn std::error::Error>> {
+    /// # let packets: Vec<Vec<u8>> = Vec::new();
+    /// # let mut player = wedgepetal::Player::new(
+    /// #     wedgepetal::identification(&packets[0])?, wedgepetal::setup(&packets[2])?)?;
+    /// for frame in player.frames(&packets[3..]) {
+    ///     match frame {
+    ///         Ok(frame) => println!("{}: {:?}", frame.number(), frame.kind()),
+    ///         Err(refused) => println!("{refused}"),
+    ///     }
+    /// }
+    /// # Ok(())
+    /// # }
+    /// ```
+    pub fn frames<P: IntoIterator<Item: AsRef<[u8]>>>(
+        &mut self,
+        packets: P,
+    ) -> Frames<'_, P::IntoIter> {
+        Frames::new(self, packets.into_iter())
     }
 
     /// The last accepted frame, if there was one.
     pub fn frame(&self) -> Option<Frame<'_>> {
         // Without references it names none of the three.
-        let bytes = self.buffers.get(self.names.previous as usize)?;
+        let bytes = self.lent.buffers.get(self.names.previous as usize)?;
         Some(Frame::new(&self.sizes, bytes).expect("the buffers have the session's length"))
+    }
+
+    /// What should be shown of the last accepted frame, if there was one: the
+    /// picture in Y', Cb, Cr, the top row first.
+    pub fn picture(&self) -> Option<[View<'_>; 3]> {
+        Some(self.session.picture(self.frame()?))
     }
 
     /// The session: its fields, whether there is a frame yet, and the place of
@@ -161,18 +214,9 @@ impl Player {
     }
 }
 
-impl fmt::Display for Unplayable {
-    fn fmt(&self, f: &mut fmt::Formatter<'_>) -> fmt::Result {
-        match self {
-            Unplayable::Refused(refusal) => write!(f, "{refusal}"),
-            Unplayable::Memory(bytes) => {
-                write!(
-                    f,
-                    "its frames need {bytes} bytes of memory, which are not to be had"
-                )
-            }
-        }
-    }
+/// The lengths of packets, and their bytes joined together.
+pub(crate) fn joined(packets: &[impl AsRef<[u8]>]) -> (Vec<u64>, Vec<u8>) {
+    let packets: Vec<&[u8]> = packets.iter().map(AsRef::as_ref).collect();
+    let lengths = packets.iter().map(|packet| packet.len() as u64).collect();
+    (lengths, packets.concat())
 }
-
-impl Error for Unplayable {}

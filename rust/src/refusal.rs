@@ -10,7 +10,7 @@ pub struct Refusal {
     /// The number.
     pub number: u32,
     /// The bit place in the packet of the first bit of the field at fault, from
-    /// 0; 0 where no field of a packet is (1, 8, 14, 16 to 21, 255).
+    /// 0; 0 where no field of a packet is (1, 8, 14 to 21, 255).
     pub place: u64,
 }
 
@@ -47,7 +47,9 @@ impl Refusal {
     pub const PAST_BLOCK: Refusal = Refusal::by(13);
     /// The lent output, or the plane buffer for a stream's frames, is too short.
     pub const SHORT_OUTPUT: Refusal = Refusal::by(14);
-    /// The lengths of a shot's packets reach past their end.
+    /// A sum of a census would pass 64 bits.
+    pub const PAST_COUNT: Refusal = Refusal::by(15);
+    /// The lengths of packets reach past their end.
     pub const PAST_PACKETS: Refusal = Refusal::by(16);
     /// A key frame more than 64 bits count, or so many other packets since the
     /// last one that they would not stay below 2 to the power KFGSHIFT.
@@ -103,6 +105,7 @@ impl Refusal {
             12 => "a run exceeds the bits still wanted",
             13 => "a token moves its block past position 64",
             14 => "the lent output is too short",
+            15 => "a sum of the census would pass 64 bits",
             16 => "the lengths of the packets reach past their end",
             17 => {
                 "the key frames would pass 64 bits, \
@@ -145,8 +148,8 @@ impl Refusal {
     }
 }
 
-/// A number with a comma before each three digits.
-fn grouped(number: u128) -> String {
+/// A number as refusals have it in words: with a comma before each three digits.
+pub fn grouped(number: u128) -> String {
     let digits = number.to_string();
     let mut text = String::new();
     for (i, digit) in digits.chars().enumerate() {
@@ -169,6 +172,54 @@ impl fmt::Display for Refusal {
 }
 
 impl Error for Refusal {}
+
+/// A packet of a recording that is refused: which one, and by what.
+///
+/// ```
+/// use wedgepetal::{Refusal, Refused};
+///
+/// let refused = Refused::new(17, 1113, Refusal::LONG_RUN.at(5311));
+/// assert_eq!(
+///     refused.to_string(),
+///     "packet 17: refused by 12, a run exceeds the bits still wanted, at bit 5,311 of 8,904"
+/// );
+/// assert_eq!((refused.packet, refused.refusal.number), (17, 12));
+/// ```
+#[derive(Clone, Copy, Debug, PartialEq, Eq, Hash)]
+#[non_exhaustive]
+pub struct Refused {
+    /// The number of the packet in its stream, from 0; the first three are
+    /// headers.
+    pub packet: u64,
+    /// How many bytes it has.
+    pub bytes: usize,
+    /// The number, and the bit place in the packet.
+    pub refusal: Refusal,
+}
+
+impl Refused {
+    /// The refusal of the packet with this number and so many bytes.
+    pub fn new(packet: u64, bytes: usize, refusal: Refusal) -> Refused {
+        Refused {
+            packet,
+            bytes,
+            refusal,
+        }
+    }
+}
+
+impl fmt::Display for Refused {
+    fn fmt(&self, f: &mut fmt::Formatter<'_>) -> fmt::Result {
+        let refusal = self.refusal.in_packet(self.bytes);
+        write!(f, "packet {}: {refusal}", self.packet)
+    }
+}
+
+impl Error for Refused {
+    fn source(&self) -> Option<&(dyn Error + 'static)> {
+        Some(&self.refusal)
+    }
+}
 
 #[cfg(test)]
 mod tests {

@@ -83,7 +83,7 @@ impl Settings {
     }
 
     /// The settings as a list of numbers.
-    fn to_list(self) -> [u64; SETTINGS_NUMBERS] {
+    pub fn to_list(self) -> [u64; SETTINGS_NUMBERS] {
         [self.tile, self.shot_first, self.shot_last, self.plane]
     }
 

@@ -80,7 +80,7 @@ impl Session {
 }
 
 /// The answer of a packet that its list stands for.
-fn answer_of(list: &[u64; ANSWER_NUMBERS]) -> Result<FrameAnswer, Refusal> {
+pub(crate) fn answer_of(list: &[u64; ANSWER_NUMBERS]) -> Result<FrameAnswer, Refusal> {
     let [number, place, ..] = *list;
     // A packet is refused by 17 at most.
     Refusal::check_at(number as u32, place)?;

@@ -1,11 +1,12 @@
 //! Work memory: its published lengths, and slices of these lengths.
 
-use crate::lists::{self, LENGTH_NUMBERS, WorkSlices};
-use crate::{Refusal, Session};
+use crate::lists::{self, LENGTH_NUMBERS, TABLE_BYTES, WorkSlices};
+use crate::{Refusal, Session, Unplayable};
 use std::collections::TryReserveError;
 
 /// The lengths of the slices of work memory, in elements.
 #[derive(Clone, Debug, PartialEq, Eq)]
+#[non_exhaustive]
 pub struct WorkLengths {
     /// Block records: NBS.
     pub records: u64,
@@ -70,7 +71,7 @@ impl Session {
 }
 
 /// Work memory, lent to frame calls. It keeps nothing from call to call.
-#[derive(Debug)]
+#[derive(Debug, Default)]
 pub struct Work {
     records: Vec<u32>,
     coded: Vec<u64>,
@@ -119,6 +120,51 @@ impl Work {
             modes: &mut self.modes,
             active: &mut self.active,
         }
+    }
+}
+
+/// Work memory and three plane buffers.
+#[derive(Debug)]
+pub(crate) struct Lent {
+    pub work: Work,
+    pub buffers: [Vec<u8>; 3],
+}
+
+impl Lent {
+    /// How many bytes a session needs: three plane buffers, work memory and table
+    /// memory.
+    pub fn bytes(session: &Session) -> Result<u64, Refusal> {
+        let (sizes, lengths) = (session.sizes()?, session.work_lengths()?);
+        Ok(3 * sizes.buffer + lengths.bytes + TABLE_BYTES as u64)
+    }
+
+    /// What a session needs, all zero, if that is not more than the limit.
+    pub fn new(session: &Session, limit: u64) -> Result<Lent, Unplayable> {
+        let bytes = Lent::bytes(session)?;
+        if bytes > limit {
+            return Err(Unplayable::Limit { bytes, limit });
+        }
+        let (sizes, lengths) = (session.sizes()?, session.work_lengths()?);
+        let no_memory = |_| Unplayable::Memory(bytes);
+        let buffer = || zeros(sizes.buffer).map_err(no_memory);
+        Ok(Lent {
+            work: Work::new(&lengths).map_err(no_memory)?,
+            buffers: [buffer()?, buffer()?, buffer()?],
+        })
+    }
+
+    /// Memory without a byte, for a recording that has no session.
+    pub fn none() -> Lent {
+        Lent {
+            work: Work::default(),
+            buffers: Default::default(),
+        }
+    }
+
+    /// Both, to be lent to a call.
+    pub fn parts(&mut self) -> (&mut Work, [&mut [u8]; 3]) {
+        let buffers = self.buffers.each_mut().map(Vec::as_mut_slice);
+        (&mut self.work, buffers)
     }
 }
 

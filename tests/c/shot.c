@@ -1,60 +1,13 @@
 /*
- * wedgepetal_shot beside one wedgepetal_frame for each packet. The streams are those of
- * crates/play/data: a packet's length in 4 bytes, the least significant first, and its bytes.
+ * wedgepetal_shot beside one wedgepetal_frame for each packet, on the streams of crates/play/data.
  * Packets are damaged, emptied and left out at random; buffers, work memory and answers hold
  * random bytes; each recording is cut into shots at random. At last come the refusals.
  */
-#include <stdio.h>
-#include <stdlib.h>
-#include <string.h>
+#include "stream.h"
 
-#include "wedgepetal.h"
+enum { ROUNDS = 200 };
 
-enum { LONGEST = 1 << 20, PACKETS = 64, ROUNDS = 200 };
-
-static uint8_t bytes[LONGEST], table[WEDGEPETAL_TABLE_BYTES];
-static uint64_t fresh[WEDGEPETAL_SESSION_NUMBERS], place[1];
-static const uint8_t *packets[PACKETS];
-static size_t packet_lengths[PACKETS];
-static size_t count;
-static size_t buffer, shots, played, refused;
-
-/* The same numbers in every run. */
-static uint64_t state = 0x9E3779B97F4A7C15u;
-static uint64_t any(uint64_t below)
-{
-    state ^= state << 13;
-    state ^= state >> 7;
-    state ^= state << 17;
-    return state % below;
-}
-
-static void fill(void *memory, size_t length)
-{
-    uint8_t *to = memory;
-    size_t i;
-    for (i = 0; i < length; i++) {
-        to[i] = (uint8_t)any(256);
-    }
-}
-
-static void *lend(size_t length)
-{
-    void *memory = malloc(length == 0 ? 1 : length);
-    if (memory == NULL) {
-        abort();
-    }
-    fill(memory, length);
-    return memory;
-}
-
-static void expect(const char *what, int holds)
-{
-    if (!holds) {
-        fprintf(stderr, "%s: not so (shot %zu)\n", what, shots);
-        exit(1);
-    }
-}
+static size_t played, refused;
 
 /* ---- a shot call with all that it is lent */
 
@@ -141,14 +94,6 @@ static void join(struct lent *l, size_t number)
 
 /* ---- the same by frame calls */
 
-static int is_zero(const uint8_t *memory, size_t length)
-{
-    while (length > 0 && memory[length - 1] == 0) {
-        length--;
-    }
-    return length == 0;
-}
-
 static void compare_shot(struct lent *l)
 {
     uint64_t session[WEDGEPETAL_SESSION_NUMBERS], names[2] = {l->names[0], l->names[1]}, answer[8];
@@ -198,7 +143,7 @@ static void compare_shot(struct lent *l)
                                          : is_zero(l->memory, l->memory_length));
     free(memory);
     free(before);
-    shots++;
+    calls++;
     played += l->number;
 }
 
@@ -299,49 +244,16 @@ static void compare_recording(void)
     }
 }
 
-/* A stream; one whose headers are refused is left out. */
-static void play(const char *name)
-{
-    uint64_t sizes[WEDGEPETAL_SIZE_NUMBERS];
-    size_t length, at, read = 0;
-    FILE *file = fopen(name, "rb");
-    if (file == NULL) {
-        perror(name);
-        exit(2);
-    }
-    length = fread(bytes, 1, LONGEST, file);
-    fclose(file);
-    count = 0;
-    for (at = 0; at + 4 <= length && count < PACKETS; read++) {
-        size_t n = bytes[at] + 256u * bytes[at + 1] + 65536u * bytes[at + 2];
-        const uint8_t *packet = bytes + at + 4;
-        if ((read == 0 && wedgepetal_identification(packet, n, fresh, WEDGEPETAL_SESSION_NUMBERS, place, 1) != 0) ||
-            (read == 2 && wedgepetal_setup(packet, n, table, sizeof table, place, 1) != 0)) {
-            return;
-        }
-        if (read > 2) {
-            packets[count] = packet;
-            packet_lengths[count++] = n;
-        }
-        at += 4 + n;
-    }
-    if (count == 0 || wedgepetal_sizes(fresh, WEDGEPETAL_SESSION_NUMBERS, sizes, WEDGEPETAL_SIZE_NUMBERS) != 0) {
-        return;
-    }
-    buffer = sizes[WEDGEPETAL_BUFFER];
-    if (buffer < LONGEST) {
-        compare_recording();
-        refusals();
-    }
-}
-
 int main(int arguments, char **names)
 {
     int i;
     for (i = 1; i < arguments; i++) {
-        play(names[i]);
+        if (read_stream(names[i])) {
+            compare_recording();
+            refusals();
+        }
     }
-    expect("some shots are compared", shots > 0 && refused > 0);
-    printf("%zu shots, %zu packets (%zu refused), each as by one call a packet\n", shots, played, refused);
+    expect("some shots are compared", calls > 0 && refused > 0);
+    printf("%zu shots, %zu packets (%zu refused), each as by one call a packet\n", calls, played, refused);
     return 0;
 }

@@ -11,7 +11,7 @@
 
 #include "wedgepetal.h"
 
-enum { STACK = 256 * 1024, MOST = 48 * 1024, PAINT = 0xA5, LONGEST = 1 << 20 };
+enum { STACK = 256 * 1024, MOST = 48 * 1024, PAINT = 0xA5, LONGEST = 1 << 20, PACKETS = 64 };
 
 /* What the calls are given. */
 static uint8_t bytes[LONGEST], table[WEDGEPETAL_TABLE_BYTES];
@@ -25,6 +25,11 @@ static uint8_t *golden, *previous, *new_frame, *picture, *stream, *shot_planes;
 static size_t buffer, picture_length;
 static struct wedgepetal_work work;
 static uint32_t answered;
+
+/* A whole recording: its packets joined together, where those of frames begin, and what is lent beside. */
+static uint8_t joined[LONGEST], scratch[WEDGEPETAL_TABLE_BYTES], maps[LONGEST];
+static uint64_t lengths_of[PACKETS], answers[WEDGEPETAL_ANSWER_NUMBERS * PACKETS], report[WEDGEPETAL_REPORT_NUMBERS];
+static size_t packets, joined_length;
 
 static void identification(void)
 {
@@ -118,6 +123,37 @@ static void settings_read(void)
     answered = wedgepetal_settings_read(2, stream, number[0], settings, WEDGEPETAL_SETTINGS_NUMBERS);
 }
 
+static size_t front(void)
+{
+    return lengths_of[0] + lengths_of[1] + lengths_of[2];
+}
+
+static void tiles_shot(void)
+{
+    uint64_t fresh[WEDGEPETAL_SESSION_NUMBERS], names[2], map[1];
+    static const uint64_t side_8[WEDGEPETAL_SETTINGS_NUMBERS] = {8, 0, 0, 0};
+    memcpy(fresh, session, sizeof fresh);
+    fresh[WEDGEPETAL_REFERENCES] = fresh[WEDGEPETAL_KEY_FRAMES] = fresh[WEDGEPETAL_OTHERS] = 0;
+    wedgepetal_tiles_length(side_8, WEDGEPETAL_SETTINGS_NUMBERS, fresh, WEDGEPETAL_SESSION_NUMBERS, map, 1);
+    answered = wedgepetal_tiles_shot_in(&work, side_8, fresh, names, lengths_of + 3, packets - 3, joined + front(),
+                                        joined_length - front(), table, shot_planes, buffer, answers, maps, map[0]);
+}
+
+/* A stream cut short: it differs, and all packets are applied. */
+static void check(void)
+{
+    uint64_t found[WEDGEPETAL_FOUND_NUMBERS];
+    wedgepetal_check_in(&work, joined, lengths_of[0], joined + lengths_of[0] + lengths_of[1], lengths_of[2], lengths_of + 3,
+                        packets - 3, joined + front(), joined_length - front(), stream, 1, scratch, shot_planes, buffer, answers,
+                        found);
+    answered = 0;
+}
+
+static void census(void)
+{
+    answered = wedgepetal_census_in(&work, lengths_of, packets, joined, joined_length, report, scratch, shot_planes, buffer);
+}
+
 static struct {
     const char *name;
     void (*run)(void);
@@ -127,12 +163,13 @@ static struct {
     {"loop_limit", loop_limit, 0},         {"matrix", one_matrix, 0},     {"shot", shot, 0},
     {"frame", frame, 0},                   {"rgb", rgb, 0},               {"y4m_frame", y4m_frame, 0},
     {"y4m_header", y4m_header, 0},         {"y4m_write", y4m_write, 0},   {"y4m_read", y4m_read, 0},
-    {"settings_write", settings_write, 0}, {"settings_read", settings_read, 0},
+    {"settings_write", settings_write, 0}, {"settings_read", settings_read, 0}, {"tiles_shot", tiles_shot, 0},
+    {"check", check, 0},                   {"census", census, 0},
 };
 
 enum {
     IDENTIFICATION, SETUP, TABLE, LOOP_LIMIT, MATRIX, SHOT, FRAME, RGB, Y4M_FRAME, Y4M_HEADER,
-    Y4M_WRITE, Y4M_READ, SETTINGS_WRITE, SETTINGS_READ, CALLS
+    Y4M_WRITE, Y4M_READ, SETTINGS_WRITE, SETTINGS_READ, TILES_SHOT, CHECK, CENSUS, CALLS
 };
 
 /* ---- the painted stack */
@@ -223,7 +260,7 @@ static void next_frame(void)
         if (answer[WEDGEPETAL_KIND] == WEDGEPETAL_INTRA) {
             memcpy(golden, new_frame, buffer);
         }
-        for (which = RGB; which < CALLS; which++) {
+        for (which = RGB; which < TILES_SHOT; which++) {
             accepted(which);
         }
     }
@@ -232,7 +269,7 @@ static void next_frame(void)
 /* Plays a stream; one whose headers are refused is left out. */
 static void play(const char *name)
 {
-    size_t length, at = 0, count = 0;
+    size_t length, at = 0, count = 0, which;
     FILE *file = fopen(name, "rb");
     if (file == NULL) {
         perror(name);
@@ -240,9 +277,13 @@ static void play(const char *name)
     }
     length = fread(bytes, 1, LONGEST, file);
     fclose(file);
-    for (; at + 4 <= length; at += 4 + packet_length, count++) {
+    joined_length = 0;
+    for (; at + 4 <= length && count < PACKETS; at += 4 + packet_length, count++) {
         packet = bytes + at + 4;
         packet_length = bytes[at] + 256u * bytes[at + 1] + 65536u * bytes[at + 2];
+        memcpy(joined + joined_length, packet, packet_length);
+        lengths_of[count] = packet_length;
+        joined_length += packet_length;
         if (count == 0 || count == 2) {
             call(count == 0 ? IDENTIFICATION : SETUP);
             if (answered != 0) {
@@ -256,6 +297,10 @@ static void play(const char *name)
         if (count > 2) {
             next_frame();
         }
+    }
+    packets = count;
+    for (which = TILES_SHOT; which < CALLS && packets > 3; which++) {
+        accepted((int)which);
     }
 }
 

@@ -4,10 +4,11 @@
     judges.py LIBRARY.so COMMAND DECODE STREAM.. [--full]
 
 COMMAND is the wedgepetal command, DECODE the program of tests/streams with libtheora. For each recording the command's
-stream must be, to the byte, what DECODE makes of libtheora's own planes, and be accepted by `y4m check`. With --full FFmpeg
-then reads each of these streams, and others with rates and aspects up to their widths, and must give the planes back to the
+stream must be, to the byte, what DECODE makes of libtheora's own planes, and be accepted by `y4m check` and `check`, which must
+name a byte that is changed anywhere, and with --full the first line of FFmpeg's own stream. With --full FFmpeg then reads each of these streams, and others with rates and aspects up to their widths, and must give the planes back to the
 byte; and y4mtopnm of mjpegtools, where no number is above 2^31 - 1, which it does not take.
 """
+import os
 import random
 import re
 import subprocess
@@ -68,6 +69,27 @@ def hold_mjpegtools(stream):
     return True
 
 
+def hold_check(command, path, film, stream, full):
+    """The check passes libtheora's stream, and names a byte that is changed anywhere; FFmpeg's own differs in its first line."""
+    run(command, "check", path, film)
+    at = random.Random(len(stream)).randrange(len(stream))
+    other = film + ".other.y4m"
+    with open(other, "wb") as file:
+        file.write(stream[:at] + bytes([stream[at] ^ 1]) + stream[at + 1 :])
+    says(command, path, other, f"differs at byte {at:,}: ")
+    if full and os.path.exists(os.path.splitext(path)[0] + ".ffmpeg.txt"):
+        run("ffmpeg", "-v", "error", "-y", "-i", path, "-strict", "-1", "-f", "yuv4mpegpipe", other)
+        says(command, path, other, "(FFmpeg writes its first line so)")
+    os.remove(other)
+
+
+def says(command, path, film, words):
+    """The check of a film says these words, with status 1."""
+    done = subprocess.run((command, "check", path, film), capture_output=True, text=True)
+    if done.returncode != 1 or words not in done.stdout:
+        fail(f"{path}: the check says {done.stdout}{done.stderr}, not {words}")
+
+
 def recordings(command, decode, paths, full):
     """The command's streams of recordings are libtheora's planes."""
     frames = small = 0
@@ -79,6 +101,7 @@ def recordings(command, decode, paths, full):
                 ours = file.read()
             if ours != run(decode, "--y4m", path):
                 fail(f"{path}: libtheora's planes give another stream")
+            hold_check(command, path, film.name, ours, full)
             frames += int(said.split(": ")[1].split()[0])
             if full:
                 hold_ffmpeg(film.name, planes_of(ours))

@@ -2,6 +2,7 @@
 //! the library: every frame must be what libtheora and FFmpeg make of it.
 
 use crate::call_lists::{self, Brought, State};
+use crate::census;
 use crate::four_cases::FourCases;
 use crate::frame_calls::{Caller, answer};
 use crate::frames::{self, Frame};
@@ -17,6 +18,7 @@ use crate::reference::session::{Fields, SESSION_NUMBERS, Session};
 use crate::reference::setup::setup;
 use crate::said;
 use crate::shots::{self, ByFrames};
+use crate::tiles;
 use std::collections::BTreeMap;
 use std::fmt;
 use std::fs::{self, File};
@@ -86,6 +88,8 @@ pub fn compare(files: &[String]) -> Result<(), String> {
         damaged: frames::Report::default(),
         lists: call_lists::Report::default(),
         shots: shots::Report::default(),
+        census: census::Counts::default(),
+        tiles: tiles::Counts::default(),
         headers: padding::Counts::default(),
     };
     for file in files {
@@ -107,6 +111,8 @@ pub fn compare(files: &[String]) -> Result<(), String> {
         "whole in one call, as by one call a packet: {}",
         run.shots.recordings
     );
+    println!("{}", run.census);
+    println!("{}", run.tiles);
     let padded = run.damaged.padded.missed_of_frames(padding::OF_FRAME);
     let missed = [run.four.missed(), padded, run.headers.missed(&[])].concat();
     crate::all_tried(&missed, files.len() >= ENOUGH_RECORDINGS)
@@ -123,6 +129,10 @@ struct Run {
     lists: call_lists::Report,
     /// Whole recordings as shots.
     shots: shots::Report,
+    /// What they hold, counted.
+    census: census::Counts,
+    /// Which tiles changed.
+    tiles: tiles::Counts,
     /// The headers, with bytes behind them.
     headers: padding::Counts,
 }
@@ -167,6 +177,8 @@ impl Run {
         let random = &mut Random::new(1);
         self.shots
             .of_recording(random, &caller, frames, &by_frames)?;
+        self.census.of_recording(random, &packets)?;
+        self.tiles.of_recording(&decoder, &fields, &packets)?;
         Ok(counts)
     }
 

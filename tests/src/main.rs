@@ -4,6 +4,7 @@
 //! shows it, and with status 2 if it is used wrongly.
 
 mod call_lists;
+mod census;
 mod check;
 mod damage;
 mod decoded;
@@ -29,6 +30,7 @@ mod shot_calls;
 mod shots;
 mod streams;
 mod tables;
+mod tiles;
 mod wild;
 mod worst;
 mod written;

@@ -1,6 +1,7 @@
 //! The words of the command line: the table of verbs and options, from which
 //! parsing, help and hints are made.
 
+use crate::python;
 use std::collections::BTreeMap;
 use std::ffi::{OsStr, OsString};
 use std::fmt::Write;
@@ -9,7 +10,8 @@ use std::fmt::Write;
 pub struct Verb {
     /// Its name.
     pub name: &'static str,
-    /// The words that follow it, and what they are.
+    /// The words that follow it, and what they are. Where the last one's name
+    /// ends in two dots, there may be more of it.
     words: &'static [(&'static str, &'static str)],
     /// What it does, in a line.
     about: &'static str,
@@ -30,7 +32,7 @@ const fn flag(name: &'static str, value: Option<&'static str>, about: &'static s
     Flag { name, value, about }
 }
 
-const FLAGS: [Flag; 18] = [
+const FLAGS: [Flag; 25] = [
     flag(
         "--stream",
         Some("N"),
@@ -75,6 +77,41 @@ const FLAGS: [Flag; 18] = [
         "the version of the text, or of its reader: 1, or 2 (as without this word)",
     ),
     flag(
+        "--settings",
+        Some("SETTINGS.txt"),
+        "the settings: side of a tile, and plane; of the texts that `settings write` writes",
+    ),
+    flag(
+        "-o",
+        Some("MAP.npy"),
+        "writes the maps as an array for numpy: frames, rows, columns of bytes; row 0 is the lowest, as in the planes, so that map[:, ::-1] has the top row first",
+    ),
+    flag(
+        "--csv",
+        Some("FILE.csv"),
+        "writes a table, or - for the standard output",
+    ),
+    flag(
+        "--picture",
+        Some("FILE.svg|png"),
+        "draws how often each tile changed, beside the share of changed tiles over time (Debian package python3-matplotlib)",
+    ),
+    flag(
+        "--add",
+        None,
+        "adds up reports of other runs (--csv) instead of reading recordings",
+    ),
+    flag(
+        "--jobs",
+        Some("N"),
+        "so many recordings at a time, each in a process of its own",
+    ),
+    flag(
+        "--progress",
+        None,
+        "says how far it is, and how much time is left, also where the standard error is no terminal",
+    ),
+    flag(
         "--fields",
         None,
         "the fields of the headers by their names in the specification, and all sizes",
@@ -101,7 +138,7 @@ const RECORDING: (&str, &str) = (
 );
 
 /// All verbs.
-pub const VERBS: [Verb; 12] = [
+pub const VERBS: [Verb; 15] = [
     Verb {
         name: "info",
         words: &[RECORDING],
@@ -190,6 +227,64 @@ pub const VERBS: [Verb; 12] = [
             "--grey",
             "--stream",
             "--after-gap",
+            "--max-memory",
+            "--force",
+            "--json",
+            "--quiet",
+        ],
+    },
+    Verb {
+        name: "tiles",
+        words: &[RECORDING],
+        about: "says which tiles changed from frame to frame",
+        more: "For each frame one byte for each tile of the settings' plane, by the library's proved call: 1 if some\n\
+               sample differs from the frame before it, else 0; all 1 where there is none before it. Tiles at the\n\
+               right and at the top may be partial. A refused packet gives no frame, and so no map; --csv has a\n\
+               line for it. The whole coded frame is compared, not the picture alone.",
+        options: &[
+            "--settings",
+            "-o",
+            "--csv",
+            "--picture",
+            "--stream",
+            "--after-gap",
+            "--index",
+            "--max-memory",
+            "--force",
+            "--json",
+            "--quiet",
+        ],
+    },
+    Verb {
+        name: "check",
+        words: &[
+            RECORDING,
+            (
+                "FILM.y4m",
+                "a stream that somebody else made of it; it is mapped, and may have any length",
+            ),
+        ],
+        about: "checks another decoder's stream of frames, to the byte",
+        more: "It passes if every packet is accepted and the file is what `y4m` writes, by the library's proved call.\n\
+               Else the first byte that differs is named, by frame, plane, column and row, or the first refused\n\
+               packet, which wins over any difference. The recording must be whole.",
+        options: &["--stream", "--max-memory", "--json", "--quiet"],
+    },
+    Verb {
+        name: "census",
+        words: &[(
+            "RECORDING..",
+            "Ogg files, packet files, folders with such files; with --add reports",
+        )],
+        about: "counts what recordings hold: packets, refusals, coded blocks, modes",
+        more: "The packets are read by the library's proved call, and no frame is made. --csv writes a report, with a\n\
+               line for each stream and one for all; --add adds up reports of several runs. Files in a folder that\n\
+               are no recordings are passed over and counted. A damaged stream is counted up to the damage, and named.",
+        options: &[
+            "--csv",
+            "--add",
+            "--jobs",
+            "--progress",
             "--max-memory",
             "--force",
             "--json",
@@ -400,10 +495,18 @@ fn parse_verb(verb: &'static Verb, rest: &[OsString]) -> Result<Wanted, String> 
             _ => job.words.push(word.clone()),
         }
     }
-    match job.words.len() == verb.words.len() {
+    let enough = job.words.len() == verb.words.len();
+    match enough || takes_more(verb) && job.words.len() > verb.words.len() {
         true => Ok(Wanted::Job(job)),
         false => Err(wrong_words(verb, &job.words)),
     }
+}
+
+/// Whether the last word of a verb may come again.
+fn takes_more(verb: &Verb) -> bool {
+    verb.words
+        .last()
+        .is_some_and(|(name, _)| name.ends_with(".."))
 }
 
 /// Reads an option: `--name`, `--name VALUE` or `--name=VALUE`.
@@ -527,6 +630,9 @@ fn overview() -> String {
         // Writing to a string does not fail.
         let _ = writeln!(text, "  {call:30} {}", verb.about);
     }
+    for (call, about) in &python::VERBS {
+        let _ = writeln!(text, "  {call:30} {about} (by the Python module)");
+    }
     text.push_str(
         "\n  wedgepetal VERB --help           its words and options\n  \
            wedgepetal --version             the version, and which proved sources are in it\n\n\
@@ -613,6 +719,11 @@ mod tests {
             ("y4m check", &["f".into()][..])
         );
         assert_eq!(self::job("y4m ./check f").verb, "y4m");
+        assert_eq!(self::job("census a b c --jobs 2").words.len(), 3);
+        assert_eq!(
+            self::job("tiles a -o m.npy").value("-o"),
+            Some(OsStr::new("m.npy"))
+        );
     }
 
     #[test]
@@ -633,6 +744,9 @@ mod tests {
         assert!(wrong("settings chek a").contains("(did you mean settings check?)"));
         assert!(wrong("help settings").starts_with("settings: no such verb"));
         assert!(wrong("settings check").contains("SETTINGS.txt is missing"));
+        assert!(wrong("census").contains("RECORDING.. is missing"));
+        assert!(wrong("check a").contains("FILM.y4m is missing"));
+        assert!(wrong("tiles a -o").contains("MAP.npy is missing"));
         let job = job("picture a b --frame x");
         let frame = job.parsed("--frame", |text| text.parse::<u64>().ok());
         assert_eq!(frame, Err("--frame x: expected --frame N".to_string()));

@@ -229,7 +229,7 @@ impl Decoder<'_> {
             let lost = position.checked_sub(from).map(|lost| (lost, time));
             playing.summary.gaps[gap].lost = lost;
         }
-        let answer = player.decode(&packet.bytes);
+        let answer = self.request.output.decode(player, &packet.bytes);
         playing.gap = playing.gap.filter(|_| answer.is_err());
         let no_references = |refusal: Refusal| refusal.number == Refusal::NO_REFERENCES.number;
         let left_out = playing.gap.is_some() && answer.is_err_and(no_references);
@@ -238,6 +238,7 @@ impl Decoder<'_> {
             number: self.frames,
             answer,
             player,
+            time,
         };
         let output = &mut self.request.output;
         output.take(&answer).map_err(Failure::of_trouble)?;
@@ -356,12 +357,13 @@ impl Decoder<'_> {
             return Err(Failure::Refused(text));
         }
         // Neither takes its name unless both are whole.
-        output.flush().map_err(Failure::File)?;
+        output.flush(self.name).map_err(Failure::File)?;
         if let Some(index) = index {
             index.flush().map_err(Failure::File)?;
             index.finish().map_err(Failure::File)?;
         }
         output.finish().map_err(Failure::File)?;
+        self.summary.said = output.said();
         match output.is_unread() {
             true if index.is_none() => Err(Failure::Unread),
             _ => Ok(self.summary),
@@ -392,7 +394,10 @@ fn player(headers: &[Vec<u8>], request: &Request) -> Result<Player, String> {
         .memory(&session)
         .and_then(|beside| request.limit.excess(&session, beside));
     match excess {
-        Ok(None) => Player::new(session, table).map_err(|why| why.to_string()),
+        Ok(None) => {
+            let player = Player::within(session, table, request.limit.bytes());
+            player.map_err(|why| why.to_string())
+        }
         Ok(Some(text)) => Err(text),
         Err(refusal) => Err(refusal.to_string()),
     }

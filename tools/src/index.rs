@@ -76,7 +76,7 @@ impl Index {
 }
 
 /// A text as CSV has it.
-fn quoted(text: &str) -> String {
+pub fn quoted(text: &str) -> String {
     format!("\"{}\"", text.replace('"', "\"\""))
 }
 

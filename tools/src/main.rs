@@ -1,6 +1,8 @@
 //! The `wedgepetal` command.
 
 mod arguments;
+mod census;
+mod check;
 mod clock;
 mod cut;
 mod decode;
@@ -21,10 +23,13 @@ mod packets;
 mod places;
 mod png;
 mod progress;
+mod python;
 mod sample;
 mod settings;
 mod summary;
 mod target;
+mod tiles;
+mod whole;
 mod work;
 
 use arguments::{Job, Wanted};
@@ -37,11 +42,12 @@ use memory::Limit;
 use output::{Folder, Output, Trouble};
 use recording::{Choice, Fault, packet_file};
 use std::ffi::OsString;
-use std::fmt::Display;
+use std::fmt::{self, Display};
 use std::io::{self, ErrorKind, Write};
 use std::path::Path;
 use std::process::ExitCode;
 use target::{Target, is_standard};
+use tiles::Tiles;
 use wedgepetal::Settings;
 
 /// Why the command fails.
@@ -54,6 +60,17 @@ enum Failure {
     Usage(String),
     /// No one reads what is written any more. This is the reader's choice.
     Unread,
+}
+
+impl Display for Failure {
+    fn fmt(&self, f: &mut fmt::Formatter<'_>) -> fmt::Result {
+        match self {
+            Failure::Refused(text) | Failure::File(text) | Failure::Usage(text) => {
+                write!(f, "{text}")
+            }
+            Failure::Unread => Ok(()),
+        }
+    }
 }
 
 impl Failure {
@@ -101,8 +118,11 @@ impl From<String> for Said {
 }
 
 fn main() -> ExitCode {
-    interrupt::watch();
     let words: Vec<OsString> = std::env::args_os().skip(1).collect();
+    if python::takes(&words) {
+        return fail(&python::run(&words), 2);
+    }
+    interrupt::watch();
     let done = arguments::parse(&words)
         .map_err(Failure::Usage)
         .and_then(|wanted| match wanted {
@@ -150,6 +170,8 @@ fn perform(job: &Job) -> Result<Said, Failure> {
         "work" => measure(job),
         "sample" => write_sample(job),
         "y4m check" => check_film(job),
+        "check" => check_recording(job),
+        "census" => census::run(job),
         "settings check" => check_settings(job),
         "settings write" => write_settings(job),
         _ => decode_recording(job),
@@ -208,10 +230,13 @@ fn measure(job: &Job) -> Result<Said, Failure> {
 
 /// Decodes a recording into what the verb makes.
 fn decode_recording(job: &Job) -> Result<Said, Failure> {
-    let (path, out) = (Path::new(&job.words[0]), Path::new(&job.words[1]));
+    let path = Path::new(&job.words[0]);
+    // What a verb makes has no name of its own if several things may be made.
+    let out = job.words.get(1).map_or(Path::new(""), Path::new);
+    check_paths(job)?;
     let request = request(job, out)?;
-    check_paths(job, path, out)?;
-    let index_taken = job.value("--index").is_some_and(|path| path == "-");
+    let taken = |name: &&str| job.value(name).is_some_and(|path| path == "-");
+    let index_taken = OUTPUTS.iter().any(taken);
     let output_taken = request.output.is_standard() || index_taken || job.has("--quiet");
     let input = Input::open(path, job.has("--quiet"))?;
     let name = input.name.clone();
@@ -238,6 +263,7 @@ fn request(job: &Job, out: &Path) -> Result<Request, Failure> {
     let force = job.has("--force");
     let output = match job.verb {
         "frames" => Output::Frames(Folder::plan(out).map_err(Failure::File)?),
+        "tiles" => Output::Tiles(Box::new(tiles(job)?)),
         verb => {
             let target = Target::plan(out, force).map_err(Failure::File)?;
             match verb {
@@ -281,28 +307,72 @@ fn parsed<T>(
     job.parsed(name, parse).map_err(Failure::Usage)
 }
 
-/// Recording, output and index are three different files.
-fn check_paths(job: &Job, path: &Path, out: &Path) -> Result<(), Failure> {
-    let index = job.value("--index").map(Path::new);
-    let same = |one: &Path, other: &Path| one == other || is_same_file(one, other);
-    let clash = match index {
-        _ if is_same_file(path, out) => Some(out),
-        Some(index) if same(index, out) || is_same_file(path, index) => Some(index),
-        _ => None,
-    };
-    match clash {
-        Some(path) => Err(Failure::Usage(format!(
-            "{}: named twice, as two different files",
-            path.display()
-        ))),
-        None => Ok(()),
+/// The options that name files which are written.
+const OUTPUTS: [&str; 4] = ["--index", "-o", "--csv", "--picture"];
+
+/// All files that a job names are different ones.
+fn check_paths(job: &Job) -> Result<(), Failure> {
+    let options = OUTPUTS.iter().filter_map(|name| job.value(name));
+    let words = job.words.iter().map(OsString::as_os_str);
+    let paths: Vec<&Path> = words.chain(options).map(Path::new).collect();
+    let read = |path: &Path| path == Path::new(&job.words[0]);
+    for (i, path) in paths.iter().enumerate().skip(1) {
+        // The recording and an output may both be "-", which is not one file.
+        let same = |other: &&&Path| {
+            is_same_file(other, path) || **other == *path && !(is_standard(path) && read(other))
+        };
+        if paths[..i].iter().find(same).is_some() {
+            let text = format!("{}: named twice, as two different files", path.display());
+            return Err(Failure::Usage(text));
+        }
     }
+    Ok(())
+}
+
+/// The maps that a job wants.
+fn tiles(job: &Job) -> Result<Tiles, Failure> {
+    let missing = || Failure::Usage("tiles: --settings SETTINGS.txt is missing".to_string());
+    let path = Path::new(job.value("--settings").ok_or_else(missing)?);
+    let text = Mapped::open(path, &Limit::new(None))?;
+    let checked = settings::check(2, &text);
+    let settings = checked
+        .settings()
+        .map_err(|_| Failure::Refused(checked.faults(&name(path))))?;
+    let file = |name: &str| job.value(name).map(Path::new);
+    Tiles::plan(
+        settings,
+        file("-o"),
+        file("--csv"),
+        file("--picture"),
+        job.has("--force"),
+    )
+    .map_err(Failure::File)
+}
+
+/// Checks another decoder's stream of a recording's frames.
+fn check_recording(job: &Job) -> Result<Said, Failure> {
+    let (path, film) = (Path::new(&job.words[0]), Path::new(&job.words[1]));
+    check_paths(job)?;
+    let limit = Limit::new(parsed(job, "--max-memory", memory::parse)?);
+    let file = Mapped::open(film, &limit)?;
+    let input = Input::open(path, job.has("--quiet"))?;
+    let checked = check::check(input, choice(job)?, &file, &limit)?;
+    let name = name(film);
+    Ok(Said {
+        text: match form(job) {
+            Form::Json => format!("{}\n", checked.json(&name)),
+            Form::Faults => checked.faults(&name),
+            Form::Text => checked.text(&name),
+        },
+        output_taken: job.has("--quiet"),
+        clean: checked.is_clean(),
+    })
 }
 
 /// Writes the packets of a recording's Theora stream as a packet file.
 fn write_packets(job: &Job) -> Result<Said, Failure> {
     let (path, out) = (Path::new(&job.words[0]), Path::new(&job.words[1]));
-    check_paths(job, path, out)?;
+    check_paths(job)?;
     let target = Target::plan(out, job.has("--force")).map_err(Failure::File)?;
     let input = Input::open(path, job.has("--quiet"))?;
     let name = input.name.clone();

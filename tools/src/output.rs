@@ -1,10 +1,13 @@
 //! What is made of decoded frames: films, planes, a picture, hashes.
 
+use crate::clock::Time;
 use crate::cut::Cut;
 use crate::interrupt::begun;
+use crate::json::Json;
 use crate::layout;
 use crate::look::Look;
 use crate::target::{Target, Temporary, is_standard, resolved, said};
+use crate::tiles::Tiles;
 use recording::hash::hash;
 use std::fs::{self, File};
 use std::io::{ErrorKind, Write};
@@ -36,6 +39,8 @@ pub struct Answer<'a> {
     pub answer: Result<FrameAnswer, Refusal>,
     /// Who has decoded it.
     pub player: &'a Player,
+    /// When it is shown.
+    pub time: Time,
 }
 
 impl<'a> Answer<'a> {
@@ -58,6 +63,8 @@ pub enum Output {
     Hashes(Target),
     /// The frame with this number, until it is there, and how it is shown.
     Picture(Target, Option<u64>, Look),
+    /// Which tiles changed.
+    Tiles(Box<Tiles>),
 }
 
 impl Output {
@@ -72,6 +79,19 @@ impl Output {
                 Ok(target.write(|out| writeln!(out, "stream {stream}"))?)
             }
             Output::Picture(..) => Ok(()),
+            Output::Tiles(tiles) => tiles.begin(stream, player),
+        }
+    }
+
+    /// Decodes a packet.
+    ///
+    /// # Errors
+    ///
+    /// As [`Player::decode`].
+    pub fn decode(&mut self, player: &mut Player, packet: &[u8]) -> Result<FrameAnswer, Refusal> {
+        match self {
+            Output::Tiles(tiles) => tiles.decode(player, packet),
+            _ => player.decode(packet),
         }
     }
 
@@ -83,6 +103,7 @@ impl Output {
                 let line = hash_line(answer);
                 target.write(|out| out.write_all(line.as_bytes()))?;
             }
+            (Output::Tiles(tiles), _) => tiles.take(answer)?,
             (Output::Frames(folder), Some(frame)) => folder.write(answer.number, frame)?,
             (Output::Film(target, Some(film)), Some(frame)) => {
                 let refused = |refusal: Refusal| Trouble::Unfit(refusal.to_string());
@@ -139,12 +160,21 @@ impl Output {
         }
     }
 
+    /// What it has to say of the frames, in words and as JSON.
+    pub fn said(&self) -> Option<(String, Json)> {
+        match self {
+            Output::Tiles(tiles) => Some(tiles.said()),
+            _ => None,
+        }
+    }
+
     fn target(&self) -> Option<&Target> {
         match self {
             Output::Film(target, _)
             | Output::Cut(target, _)
             | Output::Hashes(target)
             | Output::Picture(target, ..) => Some(target),
+            Output::Tiles(tiles) => tiles.table(),
             Output::Frames(_) => None,
         }
     }
@@ -155,19 +185,23 @@ impl Output {
             | Output::Cut(target, _)
             | Output::Hashes(target)
             | Output::Picture(target, ..) => Some(target),
-            Output::Frames(_) => None,
+            Output::Frames(_) | Output::Tiles(_) => None,
         }
     }
 
-    /// Writes what is still held back.
-    pub fn flush(&mut self) -> Result<(), String> {
-        self.target_mut().map_or(Ok(()), Target::flush)
+    /// Writes what is still held back of a recording of this name.
+    pub fn flush(&mut self, name: &str) -> Result<(), String> {
+        match self {
+            Output::Tiles(tiles) => tiles.flush(name),
+            _ => self.target_mut().map_or(Ok(()), Target::flush),
+        }
     }
 
     /// All is written: it takes its own name.
     pub fn finish(&mut self) -> Result<(), String> {
         match self {
             Output::Frames(folder) => folder.finish(),
+            Output::Tiles(tiles) => tiles.finish(),
             _ => self.target_mut().map_or(Ok(()), Target::finish),
         }
     }

@@ -95,7 +95,7 @@ fn line(number: u64, time: Duration, read: u64, total: Option<u64>) -> String {
 }
 
 /// A time as minutes and seconds, or hours and minutes.
-fn clock(time: Duration) -> String {
+pub fn clock(time: Duration) -> String {
     let seconds = time.as_secs();
     match seconds {
         0..3600 => format!("{} min {:02} s", seconds / 60, seconds % 60),

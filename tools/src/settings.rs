@@ -49,6 +49,15 @@ impl Checked {
         self.answer.is_ok()
     }
 
+    /// The settings.
+    ///
+    /// # Errors
+    ///
+    /// They are refused; [`Checked::faults`] has the words.
+    pub fn settings(&self) -> Result<Settings, Refusal> {
+        self.answer
+    }
+
     /// In words, of a file of this name.
     pub fn text(&self, name: &str) -> String {
         match self.answer {

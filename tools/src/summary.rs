@@ -16,6 +16,8 @@ pub struct Summary {
     pub left: Vec<String>,
     /// What other streams there are.
     pub others: Vec<String>,
+    /// What the output has to say of the frames, in words and as JSON.
+    pub said: Option<(String, Json)>,
 }
 
 /// What became of a stream.
@@ -243,6 +245,7 @@ impl Summary {
             };
             text += &format!("{name}: {number}{stream}");
         }
+        text += self.said.as_ref().map_or("", |(words, _)| words);
         for left in &self.left {
             text += &format!("{name}: {left}\n");
         }
@@ -251,7 +254,7 @@ impl Summary {
 
     /// The same as JSON.
     pub fn json(&self, name: &str) -> Json {
-        Json::Object(vec![
+        let mut fields = vec![
             ("recording", Json::text(name)),
             ("clean", Json::Bool(self.is_clean())),
             (
@@ -259,6 +262,10 @@ impl Summary {
                 Json::List(self.streams.iter().map(StreamSummary::json).collect()),
             ),
             ("left", Json::texts(&self.left)),
-        ])
+        ];
+        if let Some((_, json)) = &self.said {
+            fields.push(("tiles", json.clone()));
+        }
+        Json::Object(fields)
     }
 }

@@ -96,6 +96,17 @@ impl Target {
         }
     }
 
+    /// Writes the first bytes of a file anew.
+    pub fn rewrite(&mut self, front: &[u8]) -> Result<(), String> {
+        self.flush()?;
+        let State::Open(_, Some(temporary)) = &self.state else {
+            return Ok(());
+        };
+        let file = File::options().write(true).open(temporary.path());
+        file.and_then(|mut file| file.write_all(front))
+            .map_err(|error| self.said(error))
+    }
+
     /// Whether it has no reader any more.
     pub fn is_unread(&self) -> bool {
         matches!(self.state, State::Unread)

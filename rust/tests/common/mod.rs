@@ -28,6 +28,22 @@ pub fn session(fmbw: u64, fmbh: u64, pf: u64) -> Session {
     }
 }
 
+/// An identification header of one macro block, of which this much is shown.
+pub fn header(picture: [u8; 4]) -> Vec<u8> {
+    let [width, height, left, bottom] = picture;
+    let mut header = b"\x80theora\x03\x02\x01\x00\x01\x00\x01".to_vec();
+    header.extend([0, 0, width, 0, 0, height, left, bottom]);
+    header.extend([0, 0, 0, 25, 0, 0, 0, 1]); // 25 frames a second
+    header.extend([0, 0, 0, 0, 0, 0, 0]); // aspect and colours unknown
+    header.extend([0, 0, 0, 0, 0xC0]); // KFGSHIFT 6, 4:2:0
+    header
+}
+
+/// A setup header as `table` has it.
+pub fn setup_header() -> Vec<u8> {
+    setup_packet(|i| if i < 16 { i as u8 } else { 0 })
+}
+
 /// A packet of these bits, written as 0 and 1; other characters are passed over.
 pub fn packet(bits: &str) -> Vec<u8> {
     let bits: Vec<u8> = bits

@@ -8,6 +8,7 @@
 //! Both profiles of this workspace check every sum and product for overflow.
 
 pub mod bits;
+pub mod census;
 pub mod decode;
 pub mod face;
 pub mod frame;

@@ -1,5 +1,5 @@
 use super::*;
-use crate::part::Stream;
+use crate::recording::part::Stream;
 
 /// The first packet of every Theora stream here.
 const FIRST: &[u8] = b"\x80theora";

@@ -1,8 +1,8 @@
 //! Packet files: the packets of one stream, one after the other, each as its
 //! length (4 bytes, the least significant first) and its bytes. Nothing else.
 
-use crate::part::{End, Packet, Part, Stream};
-use crate::{Choice, Fault};
+use super::part::{End, Packet, Part, Stream};
+use super::{Choice, Fault};
 use std::collections::VecDeque;
 use std::io::Read;
 

@@ -1,10 +1,10 @@
 //! Ogg files: the packets of a recording's Theora streams, and recordings of
 //! one stream. The framing is libogg's.
 
-use crate::kind::{HEADER, holds};
-use crate::libogg::{Next, PacketFinder, Page, PageFinder, PageWriter};
-use crate::part::{self, End, Gap, GapKind, Granule, Packet, Part};
-use crate::{Choice, Fault};
+use super::kind::{HEADER, holds};
+use super::libogg::{Next, PacketFinder, Page, PageFinder, PageWriter};
+use super::part::{self, End, Gap, GapKind, Granule, Packet, Part};
+use super::{Choice, Fault};
 use std::collections::{BTreeMap, VecDeque};
 use std::io::{ErrorKind, Read};
 use std::ops::Range;
