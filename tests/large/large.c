@@ -91,7 +91,9 @@ static struct packet identification(uint64_t across, uint64_t up)
     put(&p, 1, 32);
     put(&p, 1, 32);
     put(&p, 0, 24 + 24 + 8); /* PARN, PARD, CS */
-    put(&p, 0, 24 + 6 + 5 + 2 + 3); /* NOMBR, QUAL, KFGSHIFT, PF 0 (4:2:0), zeros */
+    put(&p, 0, 24 + 6);             /* NOMBR, QUAL */
+    put(&p, 6, 5);                  /* KFGSHIFT: with 0 every inter frame is refused by 17 */
+    put(&p, 0, 2 + 3);              /* PF 0 (4:2:0), zeros */
     return p;
 }
 
