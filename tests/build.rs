@@ -9,7 +9,7 @@ fn main() {
     let archive = folder.join("libparts_c.a");
     println!("cargo::rerun-if-changed={}", archive.display());
     if !archive.is_file() {
-        println!("cargo::error=target/staticlib/libparts_c.a is missing: run rt staticlib parts_c");
+        println!("cargo::error=target/staticlib/libparts_c.a is missing: run tests/parts");
         return;
     }
     println!("cargo::rustc-link-search=native={}", folder.display());
