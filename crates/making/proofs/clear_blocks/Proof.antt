@@ -1,12 +1,12 @@
--- `reconstruct::clear_blocks` meets its contract.
+-- `making::clear_blocks` meets its contract.
 -- Assumes nothing.
 use mathlib.Core.Path.{_≡_, _∙_}
 use Prim.Native.Nat.{_*_}
 use lib.IntN.{pos}
 use Rattle.buffer.proofs.Laws.{cleared-all, cleared-front}
 use borrow.Author.Needs.{needs}
-use Rattle.reconstruct.proofs.clear_blocks.Statement.{statement}
-use Rattle.reconstruct.proofs.clear_blocks.Tie as tie
+use Rattle.making.proofs.clear_blocks.Statement.{statement}
+use Rattle.making.proofs.clear_blocks.Tie as tie
 
 clear-words-requires : tie.Need-clear-words-requires
 clear-words-requires c κs = search needs

@@ -1,7 +1,7 @@
--- `vectors::last_read` meets its contract. Assumes nothing.
-use Rattle.vectors.specs.Motion.{lastRead}
-use Rattle.vectors.proofs.last_read.Statement.{statement}
-use Rattle.vectors.proofs.last_read.Tie as tie
+-- `motion::last_read` meets its contract. Assumes nothing.
+use Rattle.motion.specs.Kept.{lastRead}
+use Rattle.motion.proofs.last_read.Statement.{statement}
+use Rattle.motion.proofs.last_read.Tie as tie
 
 returns : tie.Need-returns
 unfolding lastRead

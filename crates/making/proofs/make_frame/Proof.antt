@@ -1,4 +1,4 @@
--- `reconstruct::make_frame` meets its contract.
+-- `making::make_frame` meets its contract.
 -- Assumes nothing.
 use mathlib.Core.Path.{_≡_, sym, ap, _∙_}
 use mathlib.Core.List.{List}
@@ -9,11 +9,11 @@ use lib.ListN.{length, take, drop, replicate, length-map, length-replicate}
 use Rattle.buffer.proofs.Laws.{cleared, cleared-all, cleared-front}
 use Rattle.geometry.specs.Sizes.{blocksOf}
 use Rattle.block_record.specs.Packed.{unpacked}
 use Rattle.reconstruct.specs.Lent.{blocksIn, matrixIn}
 use Rattle.reconstruct.proofs.Whole.{unchanged}
 use borrow.Author.Needs.{needs}
-use Rattle.reconstruct.proofs.make_frame.Statement.{statement}
-use Rattle.reconstruct.proofs.make_frame.Tie as tie
+use Rattle.making.proofs.make_frame.Statement.{statement}
+use Rattle.making.proofs.make_frame.Tie as tie
 
 -- a list of zeros, by its length
 all-zero : {A : Type 0} (z : A) (n : ℕ) (l : List A) → l ≡ replicate n z → l ≡ replicate (length l) z

@@ -4,8 +4,8 @@ use mathlib.Core.List.{List, [], _∷_, _++_}
 use mathlib.Core.Bool.{Bool, true, false, _||_, false≢true}
 use Rattle.bitstream.specs.Reading.{choose}
 use Rattle.block_record.specs.declared.Vector.{Vector}
-use Rattle.vectors.specs.declared.Row.{Row}
-use Rattle.vectors.specs.Motion.{zeroVector, lastRead}
+use Rattle.motion.specs.declared.Row.{Row}
+use Rattle.motion.specs.Kept.{zeroVector, lastRead}
 
 -- the vector of one block more is read, if the block is coded
 abbrev pub readAlso : Bool → Vector → List Vector → List Vector

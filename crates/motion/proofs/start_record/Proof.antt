@@ -1,14 +1,13 @@
--- `vectors::start_record` meets its contract. Assumes nothing.
+-- `motion::start_record` meets its contract. Assumes nothing.
 use mathlib.Core.Path.{_≡_, sym, ap, _∙_, subst}
 use Rattle.block_record.specs.declared.Vector.{Vector}
 use Rattle.block_record.specs.declared.Prediction.the-variants.{Previous}
 use Rattle.block_record.specs.Record.{VectorInRange, withPrediction}
 use Rattle.block_record.specs.Packed.{packed, unpacked}
-use Rattle.vectors.proofs.Motions.{zero-small}
-use Rattle.vectors.proofs.Start.{started-coded, started-not}
+use Rattle.motion.proofs.Kept.{zero-small, started-coded, started-not}
 use borrow.Author.Needs.{needs}
-use Rattle.vectors.proofs.start_record.Statement.{statement}
-use Rattle.vectors.proofs.start_record.Tie as tie
+use Rattle.motion.proofs.start_record.Statement.{statement}
+use Rattle.motion.proofs.start_record.Tie as tie
 
 is-coded-requires : tie.Need-is-coded-requires
 is-coded-requires c κs = search needs

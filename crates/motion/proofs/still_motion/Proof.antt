@@ -1,13 +1,13 @@
--- `vectors::still_motion` meets its contract. Assumes nothing.
+-- `motion::still_motion` meets its contract. Assumes nothing.
 use mathlib.Core.Path.{ap, _∙_}
 use Rattle.block_record.specs.declared.Vector.{Vector}
 use Rattle.block_record.specs.declared.Prediction.the-variants.{Previous, Golden}
-use Rattle.vectors.specs.declared.Motion.the-variants.{One}
-use Rattle.vectors.specs.Motion.{behind}
-use Rattle.vectors.proofs.Motions.{still-intra, still-last, still-last2, still-golden, still-nomv}
+use Rattle.motion.specs.declared.Motion.the-variants.{One}
+use Rattle.motion.specs.Kept.{behind}
+use Rattle.motion.proofs.Kept.{still-intra, still-last, still-last2, still-golden, still-nomv}
 use borrow.Author.Needs.{needs}
-use Rattle.vectors.proofs.still_motion.Statement.{statement}
-use Rattle.vectors.proofs.still_motion.Tie as tie
+use Rattle.motion.proofs.still_motion.Statement.{statement}
+use Rattle.motion.proofs.still_motion.Tie as tie
 
 one-prediction-requires : tie.Need-one-prediction-requires
 one-prediction-requires c κs = search needs
