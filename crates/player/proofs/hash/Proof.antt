@@ -1,4 +1,4 @@
--- `play::report::hash` meets its contract. The invariant: the hash so far, continued over the rest, is the hash of all. Assumes nothing.
+-- `player::hash` meets its contract. The invariant: the hash so far, continued over the rest, is the hash of all. Assumes nothing.
 use Prim.Native.Nat.{ℕ, _≤_, _<_, _-_, _+_}
 use mathlib.Core.Path.{_≡_, refl}
 use mathlib.Core.List.{List, []}
@@ -7,9 +7,9 @@ use native.Mathlib.Omega.{arith}
 use borrow.Author.Needs.{needs}
 use lib.ListN.{length, drop, getD}
 use lib.Seq.{drop-cons, drop-length}
-use Rattle.play.specs.Hash.{hashByte, hashFrom, hashOf}
-use Rattle.play.proofs.report.hash.Statement.{statement}
-use Rattle.play.proofs.report.hash.Tie as tie
+use Rattle.player.specs.Hash.{hashByte, hashFrom, hashOf}
+use Rattle.player.proofs.hash.Statement.{statement}
+use Rattle.player.proofs.hash.Tie as tie
 
 abbrev Inv-loop : tie.InvT-loop
 Inv-loop bytes hash₀ i₀ hash i = (i ≤ length bytes) × (hashFrom hash (drop i bytes) ≡ hashOf bytes)

@@ -1,8 +1,8 @@
--- `play::hand_on` meets its contract. Assumes nothing.
+-- `player::hand_on` meets its contract. Assumes nothing.
 use borrow.Author.Needs.{needs}
-use Rattle.play.proofs.HandOn.{hands-intra, hands-inter, hands-repeat}
-use Rattle.play.proofs.hand_on.Statement.{statement}
-use Rattle.play.proofs.hand_on.Tie as tie
+use Rattle.player.proofs.HandOn.{hands-intra, hands-inter, hands-repeat}
+use Rattle.player.proofs.hand_on.Statement.{statement}
+use Rattle.player.proofs.hand_on.Tie as tie
 
 copy-requires : tie.Need-copy-requires
 copy-requires c κs = search needs

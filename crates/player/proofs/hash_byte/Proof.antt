@@ -1,13 +1,13 @@
--- `play::report::hash_byte` meets its contract: the product with 2^40 + 435 is made of three parts, each cut to 64 bits. Assumes nothing.
+-- `player::hash_byte` meets its contract: the product with 2^40 + 435 is made of three parts, each cut to 64 bits. Assumes nothing.
 use Prim.Native.Nat.{ℕ, _+_, _*_, _/_, _%_, _^_, _<_}
 use mathlib.Core.Path.{_≡_, sym, ap, _∙_}
 use native.Mathlib.Nat.{mod-eq-of-lt, add-mul-mod-self-right}
 use native.Mathlib.Omega.{arith}
 use borrow.Author.Needs.{needs}
 use lib.Bits.{bitXor, xor-lt}
-use Rattle.play.specs.Hash.{hashByte}
-use Rattle.play.proofs.report.hash_byte.Statement.{statement}
-use Rattle.play.proofs.report.hash_byte.Tie as tie
+use Rattle.player.specs.Hash.{hashByte}
+use Rattle.player.proofs.hash_byte.Statement.{statement}
+use Rattle.player.proofs.hash_byte.Tie as tie
 
 -- y is r and a multiple of 2^64
 remainder : (y r m : ℕ) → r < 2 ^ 64 → y ≡ r + m * 2 ^ 64 → r ≡ y % 2 ^ 64

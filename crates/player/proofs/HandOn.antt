@@ -4,7 +4,7 @@ use mathlib.Core.Path.{_≡_}
 use mathlib.Core.List.{List}
 use Rattle.frame_header.specs.declared.Kind.{Kind}
 use Rattle.frame_header.specs.declared.Kind.the-variants.{Intra, Inter, Repeat}
-use Rattle.play.specs.HandOn.{HandsOn}
+use Rattle.player.specs.HandOn.{HandsOn}
 
 module _ (golden previous new : List ℕ) (kind : Kind) (p : List ℕ) (b : p ≡ new) where
   pub hands-intra : (g : List ℕ) → g ≡ new → kind ≡ Intra → HandsOn kind golden previous new g p
