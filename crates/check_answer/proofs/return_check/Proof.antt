@@ -1,10 +1,10 @@
--- `check_c::return_check` meets its contract. Assumes nothing.
+-- `check_answer::return_check` meets its contract. Assumes nothing.
 use native.Mathlib.Omega.{arith}
 use lib.ListN.{length-set}
-use Rattle.check_c.proofs.Calls.{found-passes, found-differs, found-refused}
+use Rattle.check_answer.proofs.Found.{found-passes, found-differs, found-refused}
 use borrow.Author.Needs.{needs}
-use Rattle.check_c.proofs.return_check.Statement.{statement}
-use Rattle.check_c.proofs.return_check.Tie as tie
+use Rattle.check_answer.proofs.return_check.Statement.{statement}
+use Rattle.check_answer.proofs.return_check.Tie as tie
 
 enum-told : tie.Need-enum-told
 enum-told c = search needs

@@ -6,8 +6,8 @@ use mathlib.Core.List.{List}
 use lib.ListN.{length}
 use borrow.Author.Tests.{lt-ltb, le-ltb}
 use Rattle.checked_packets.specs.declared.Watched.{Watched}
-use Rattle.vendor_check.specs.declared.CheckAnswer.the-variants.{Passes, Differs, Refused}
-use Rattle.vendor_check.specs.Check.{saidBy}
+use Rattle.check_answer.specs.declared.CheckAnswer.the-variants.{Passes, Differs, Refused}
+use Rattle.check_answer.specs.Said.{saidBy}
 
 module _ (w : Watched) (file : List ℕ) where
   pub says-refused : w .refused ≡ true → Refused (w .number) (w .bit) ≡ saidBy w file

@@ -1,7 +1,7 @@
--- `vendor_check::conclude` meets its contract. Assumes nothing.
-use Rattle.vendor_check.proofs.Sayings.{says-refused, says-differs, says-longer, says-passes}
-use Rattle.vendor_check.proofs.conclude.Statement.{statement}
-use Rattle.vendor_check.proofs.conclude.Tie as tie
+-- `check_answer::conclude` meets its contract. Assumes nothing.
+use Rattle.check_answer.proofs.Sayings.{says-refused, says-differs, says-longer, says-passes}
+use Rattle.check_answer.proofs.conclude.Statement.{statement}
+use Rattle.check_answer.proofs.conclude.Tie as tie
 
 returns : tie.Need-returns
 returns c = let a = c .before .args in says-refused (a .w) (a .file .now) (c .if1 .taken)
