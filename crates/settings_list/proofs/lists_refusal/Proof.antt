@@ -1,9 +1,9 @@
--- `tiles_shot_c::lists_refusal` meets its contract. Assumes nothing.
+-- `settings_list::lists_refusal` meets its contract. Assumes nothing.
 use borrow.Author.Needs.{needs}
 use mathlib.Core.Path.{sym, _∙_}
-use Rattle.tiles_shot_c.proofs.Calls.{number-1, number-20, number-lists, number-0}
-use Rattle.tiles_shot_c.proofs.lists_refusal.Statement.{statement}
-use Rattle.tiles_shot_c.proofs.lists_refusal.Tie as tie
+use Rattle.settings_list.proofs.ShotLists.{number-1, number-20, number-lists, number-0}
+use Rattle.settings_list.proofs.lists_refusal.Statement.{statement}
+use Rattle.settings_list.proofs.lists_refusal.Tie as tie
 
 returns : tie.Need-returns
 returns c = let a = c .before .before .args in number-1 (a .settings .now) (a .session) (a .names) (c .if1 .taken)
