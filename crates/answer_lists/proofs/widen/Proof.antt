@@ -1,4 +1,4 @@
--- `theora_c::widen` meets its contract. The invariant: the first i numbers are stored. Assumes nothing.
+-- `answer_lists::widen` meets its contract. The invariant: the first i numbers are stored. Assumes nothing.
 use borrow.Author.Needs.{needs}
 use Prim.Native.Nat.{_-_, _≤_}
 use native.Mathlib.Omega.{arith}
@@ -7,8 +7,8 @@ use mathlib.Core.Path.{_≡_, refl, sym, ap, _∙_}
 use lib.ListN.{length, getD, take, length-set}
 use lib.Seq.{take-all, take-suc, take-suc-set}
 use Rattle.session_list.specs.List.{gives}
-use Rattle.theora_c.proofs.widen.Statement.{statement}
-use Rattle.theora_c.proofs.widen.Tie as tie
+use Rattle.answer_lists.proofs.widen.Statement.{statement}
+use Rattle.answer_lists.proofs.widen.Tie as tie
 
 abbrev Inv-loop : tie.InvT-loop
 Inv-loop list₀ numbers i₀ list i = (i ≤ length numbers) × (length list ≡ length numbers) × (take i list ≡ take i numbers)

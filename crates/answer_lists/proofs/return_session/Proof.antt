@@ -1,10 +1,10 @@
--- `theora_c::return_session` meets its contract. Assumes nothing.
+-- `answer_lists::return_session` meets its contract. Assumes nothing.
 use borrow.Author.Needs.{needs}
 use mathlib.Core.Path.{ap, _∙_}
 use Rattle.session_list.specs.List.{gives}
-use Rattle.theora_c.proofs.Calls.{with-flag, session-accepted, session-refused}
-use Rattle.theora_c.proofs.return_session.Statement.{statement}
-use Rattle.theora_c.proofs.return_session.Tie as tie
+use Rattle.answer_lists.proofs.Lists.{with-flag, session-accepted, session-refused}
+use Rattle.answer_lists.proofs.return_session.Statement.{statement}
+use Rattle.answer_lists.proofs.return_session.Tie as tie
 
 enum-known-answer : tie.Need-enum-known-answer
 enum-known-answer c = search needs

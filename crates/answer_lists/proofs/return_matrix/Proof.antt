@@ -1,9 +1,9 @@
--- `theora_c::return_matrix` meets its contract. Assumes nothing.
+-- `answer_lists::return_matrix` meets its contract. Assumes nothing.
 use borrow.Author.Needs.{needs}
 use mathlib.Core.Path.{sym, ap, _∙_}
-use Rattle.theora_c.specs.Face.{matrixReturned}
-use Rattle.theora_c.proofs.return_matrix.Statement.{statement}
-use Rattle.theora_c.proofs.return_matrix.Tie as tie
+use Rattle.answer_lists.specs.Lists.{matrixReturned}
+use Rattle.answer_lists.proofs.return_matrix.Statement.{statement}
+use Rattle.answer_lists.proofs.return_matrix.Tie as tie
 
 enum-told : tie.Need-enum-told
 enum-told c = search needs

@@ -1,9 +1,9 @@
--- `theora_c::return_sizes` meets its contract. Assumes nothing.
+-- `answer_lists::return_sizes` meets its contract. Assumes nothing.
 use borrow.Author.Needs.{needs}
 use mathlib.Core.Path.{sym, ap, _∙_}
-use Rattle.theora_c.specs.Face.{sizeNumbers, sizesReturned}
-use Rattle.theora_c.proofs.return_sizes.Statement.{statement}
-use Rattle.theora_c.proofs.return_sizes.Tie as tie
+use Rattle.answer_lists.specs.Lists.{sizeNumbers, sizesReturned}
+use Rattle.answer_lists.proofs.return_sizes.Statement.{statement}
+use Rattle.answer_lists.proofs.return_sizes.Tie as tie
 
 enum-known-answer : tie.Need-enum-known-answer
 enum-known-answer c = search needs

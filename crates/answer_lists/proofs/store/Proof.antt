@@ -1,9 +1,9 @@
--- `theora_c::store` meets its contract. Assumes nothing.
+-- `answer_lists::store` meets its contract. Assumes nothing.
 use mathlib.Core.Path.{ap}
 use borrow.Author.Needs.{needs}
 use Rattle.session_list.specs.List.{gives}
-use Rattle.theora_c.proofs.store.Statement.{statement}
-use Rattle.theora_c.proofs.store.Tie as tie
+use Rattle.answer_lists.proofs.store.Statement.{statement}
+use Rattle.answer_lists.proofs.store.Tie as tie
 
 copy-longs-requires : tie.Need-copy-longs-requires
 copy-longs-requires c κs = search needs

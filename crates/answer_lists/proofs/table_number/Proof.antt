@@ -1,9 +1,9 @@
--- `theora_c::wedgepetal_table` meets its contract. Assumes nothing.
+-- `answer_lists::table_number` meets its contract. Assumes nothing.
 use borrow.Author.Needs.{needs}
 use mathlib.Core.Path.{sym, _∙_}
-use Rattle.theora_c.proofs.Calls.{table-tested, table-length}
-use Rattle.theora_c.proofs.wedgepetal_table.Statement.{statement}
-use Rattle.theora_c.proofs.wedgepetal_table.Tie as tie
+use Rattle.answer_lists.proofs.Lists.{table-tested, table-length}
+use Rattle.answer_lists.proofs.table_number.Statement.{statement}
+use Rattle.answer_lists.proofs.table_number.Tie as tie
 
 table-is-genuine-requires : tie.Need-table-is-genuine-requires
 table-is-genuine-requires c κs = search needs
@@ -17,5 +17,5 @@ returns-2 c = table-tested (c .before .before .before .before .args .table .now)
 returns-3 : tie.Need-returns-3
 returns-3 c = table-length (c .before .before .args .table .now) (c .if1 .left)
 
-pub wedgepetal-table-spec : {M : Type 1} → statement M
-wedgepetal-table-spec = tie.close (tie.spec table-is-genuine-requires returns returns-2 returns-3)
+pub table-number-spec : {M : Type 1} → statement M
+table-number-spec = tie.close (tie.spec table-is-genuine-requires returns returns-2 returns-3)
