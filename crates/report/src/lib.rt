@@ -3,7 +3,7 @@ ghost use mathlib.Core.Path.{_≡_};
 ghost use Prim.Native.Nat.{ℕ, _<_};
 ghost use mathlib.Core.List.{List};
 ghost use lib.ListN.{length};
-ghost use Rattle.report.specs.Report.{reportSize, plus, only};
+ghost use Rattle.report.specs.Report.{reportSize, plus, only, Numbered, refusalAdds};
 ghost use Rattle.report.specs.Running.{sumOf, Runs, sumNumber, reportAfter};
 
 // A report that is being added to. Once a sum has passed 64 bits its numbers say nothing.
@@ -83,4 +83,13 @@ pub fn store(running: Running, report: &mut [u64]) -> u32
     let numbers = running.numbers;
     buffer::copy_longs(report, &numbers);
     0
+}
+
+// Adds so many refusals by one number.
+pub fn add_refusals(running: Running, k: u32, n: u64) -> Running
+    requires { ⌜ Numbered k ⌝ }
+    ensures { λ r. ⌜ ((l : List ℕ) → Runs running l → Runs r (plus l (refusalAdds k n))) ⌝ }
+{
+    let at = 2 + k as usize;
+    add_at(running, at, n)
 }
