@@ -1,10 +1,10 @@
--- `quantization::ilog` meets its contract. Assumes nothing.
+-- `set_fields::ilog` meets its contract. Assumes nothing.
 use Prim.Native.Nat.{_-_}
 use native.Mathlib.Omega.{arith}
-use Rattle.quantization.proofs.Steps.{Digits, digits-start, digits-fits, digits-more, digits-done}
+use Rattle.set_fields.proofs.Fields.{Digits, digits-start, digits-fits, digits-more, digits-done}
 use borrow.Author.Needs.{needs}
-use Rattle.quantization.proofs.ilog.Statement.{statement}
-use Rattle.quantization.proofs.ilog.Tie as tie
+use Rattle.set_fields.proofs.ilog.Statement.{statement}
+use Rattle.set_fields.proofs.ilog.Tie as tie
 
 abbrev Inv-loop : tie.InvT-loop
 Inv-loop n left₀ k₀ left k = Digits n left k

@@ -1,13 +1,13 @@
--- `quantization::read_origin` meets its contract. Assumes nothing.
+-- `set_fields::read_origin` meets its contract. Assumes nothing.
 use Prim.Native.Nat.{_-_}
 use mathlib.Core.Path.{_≡_, ap, sym, _∙_}
 use Rattle.bitstream.specs.Reading.{got, field}
 use Rattle.bitstream.specs.Answer.{asField}
 use Rattle.bitstream.proofs.Fields.{read-got, read-refused}
-use Rattle.quantization.proofs.Sets.{origin-first, origin-end, origin-new, origin-last, origin-end2, origin-plane, origin-before}
+use Rattle.set_fields.proofs.Fields.{origin-first, origin-end, origin-new, origin-last, origin-end2, origin-plane, origin-before}
 use borrow.Author.Needs.{needs}
-use Rattle.quantization.proofs.read_origin.Statement.{statement}
-use Rattle.quantization.proofs.read_origin.Tie as tie
+use Rattle.set_fields.proofs.read_origin.Statement.{statement}
+use Rattle.set_fields.proofs.read_origin.Tie as tie
 
 returns : tie.Need-returns
 returns c = let a = c .before .before .args in sym (ap asField (origin-first (a .k) (a .packet .now) (a .at) (c .if1 .taken)))
