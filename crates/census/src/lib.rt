@@ -151,8 +151,7 @@ fn count_frames(
             active,
         );
     }
-    let frames = lengths.len() as u64 - 3;
-    report::add_refusals(running, bitstream::WRONG_LENGTH, frames)
+    report::refuse_frames(running, lengths.len() as u64)
 }
 
 // Adds a recording whose packets lie in the buffer: 0, or the number of the refusal, which leaves the report as it was.

@@ -13,7 +13,8 @@ use Rattle.geometry.specs.declared.PixelFormat.the-variants.{Chroma420}
 use Rattle.headers.specs.declared.Session.{Session}
 use Rattle.headers.specs.Fits.{sessionFits}
 use Rattle.headers.specs.Judgement.{spelled, theora, commonHeader}
-use Rattle.headers.specs.Identification.{version, frameSize, rates, coding, identification}
+use Rattle.headers.specs.Identification.{rates, coding, identification}
+use Rattle.header_fields.specs.Frame.{version, frameSize}
 use Rattle.headers.specs.Sizes.{format}
 use Rattle.headers.proofs.Groups.{identification-lawful}
 use Rattle.table_memory.specs.Kept.{kept}

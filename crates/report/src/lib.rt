@@ -1,8 +1,9 @@
 // The report of a census: 34 numbers that packets add to, each sum tested. docs/MEMORY.md says where each number stands.
 ghost use mathlib.Core.Path.{_≡_};
-ghost use Prim.Native.Nat.{ℕ, _<_};
+ghost use Prim.Native.Nat.{ℕ, _-_, _<_, _≤_};
 ghost use mathlib.Core.List.{List};
 ghost use lib.ListN.{length};
+ghost use Rattle.bitstream.specs.Numbers.{wrongLength};
 ghost use Rattle.report.specs.Report.{reportSize, plus, only, Numbered, refusalAdds};
 ghost use Rattle.report.specs.Running.{sumOf, Runs, sumNumber, reportAfter};
 
@@ -92,4 +93,13 @@ pub fn add_refusals(running: Running, k: u32, n: u64) -> Running
 {
     let at = 2 + k as usize;
     add_at(running, at, n)
+}
+
+// Adds the frame packets of a recording of so many packets, all refused by 1: the three headers are not counted.
+pub fn refuse_frames(running: Running, packets: u64) -> Running
+    requires { ⌜ 3 ≤ packets ⌝ }
+    ensures { λ r. ⌜ ((l : List ℕ) → Runs running l → Runs r (plus l (refusalAdds wrongLength (packets - 3)))) ⌝ }
+{
+    let frames = packets - 3;
+    add_refusals(running, bitstream::WRONG_LENGTH, frames)
 }

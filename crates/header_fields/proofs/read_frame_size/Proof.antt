@@ -1,4 +1,4 @@
--- `headers::read_frame_size` meets its contract. Assumes nothing.
+-- `header_fields::read_frame_size` meets its contract. Assumes nothing.
 use borrow.Author.Needs.{needs}
 use Prim.Native.Nat.{_*_, _-_}
 use native.Mathlib.Omega.{arith}
@@ -7,11 +7,11 @@ use borrow.Author.Tests.{leb-true}
 use mathlib.Core.Path.{_≡_, sym}
 use Rattle.bitstream.specs.Reading.{got}
 use Rattle.bitstream.proofs.Fields.{read-got, read-refused}
-use Rattle.headers.specs.Judgement.{isPositive, isAtMost, positive, atMost}
-use Rattle.headers.proofs.Judged.{judged-got}
-use Rattle.headers.specs.Identification.{frameSize}
-use Rattle.headers.proofs.read_frame_size.Statement.{statement}
-use Rattle.headers.proofs.read_frame_size.Tie as tie
+use Rattle.header_fields.specs.Tests.{isPositive, isAtMost, positive, atMost}
+use Rattle.header_fields.proofs.Answers.{judged-got}
+use Rattle.header_fields.specs.Frame.{frameSize}
+use Rattle.header_fields.proofs.read_frame_size.Statement.{statement}
+use Rattle.header_fields.proofs.read_frame_size.Tie as tie
 
 got-1 : (c : tie.After-known-told) → let a = c .before .before .before .before .before .args in positive 16 (a .packet .now) (a .at) ≡ got (c .before .is .given .0 .0) (c .before .is .given .0 .1 .0)
 got-1 c = read-got _ (c .before .before .before .read-positive .ensures) (c .before .is .given .1)

@@ -1,10 +1,10 @@
--- `headers::read_exactly` meets its contract. Assumes nothing.
+-- `header_fields::read_exactly` meets its contract. Assumes nothing.
 use borrow.Author.Needs.{needs}
 use borrow.Author.Tests.{eq-eqb, ne-eqb}
-use Rattle.headers.specs.Judgement.{isExactly}
-use Rattle.headers.proofs.Judged.{answer-end, answer-fails, answer-passes}
-use Rattle.headers.proofs.read_exactly.Statement.{statement}
-use Rattle.headers.proofs.read_exactly.Tie as tie
+use Rattle.header_fields.specs.Tests.{isExactly}
+use Rattle.header_fields.proofs.Answers.{answer-end, answer-fails, answer-passes}
+use Rattle.header_fields.proofs.read_exactly.Statement.{statement}
+use Rattle.header_fields.proofs.read_exactly.Tie as tie
 
 read-requires : tie.Need-read-requires
 read-requires c κs = search needs

@@ -1,12 +1,12 @@
--- `headers::read_version` meets its contract. Assumes nothing.
+-- `header_fields::read_version` meets its contract. Assumes nothing.
 use borrow.Author.Needs.{needs}
 use mathlib.Core.Path.{_≡_, sym}
 use Rattle.bitstream.specs.Reading.{got}
 use Rattle.bitstream.proofs.Fields.{read-got, read-refused}
-use Rattle.headers.specs.Judgement.{exactly}
-use Rattle.headers.specs.Identification.{version}
-use Rattle.headers.proofs.read_version.Statement.{statement}
-use Rattle.headers.proofs.read_version.Tie as tie
+use Rattle.header_fields.specs.Tests.{exactly}
+use Rattle.header_fields.specs.Frame.{version}
+use Rattle.header_fields.proofs.read_version.Statement.{statement}
+use Rattle.header_fields.proofs.read_version.Tie as tie
 
 got-1 : (c : tie.After-known-told) → let a = c .before .before .before .before .before .args in exactly 8 3 3 (a .packet .now) (a .at) ≡ got (c .before .is .given .0 .0) (c .before .is .given .0 .1 .0)
 got-1 c = read-got _ (c .before .before .before .read-exactly .ensures) (c .before .is .given .1)

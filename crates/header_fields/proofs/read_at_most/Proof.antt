@@ -1,10 +1,10 @@
--- `headers::read_at_most` meets its contract. Assumes nothing.
+-- `header_fields::read_at_most` meets its contract. Assumes nothing.
 use borrow.Author.Needs.{needs}
 use borrow.Author.Tests.{le-leb, lt-leb}
-use Rattle.headers.specs.Judgement.{isAtMost}
-use Rattle.headers.proofs.Judged.{answer-end, answer-fails, answer-passes}
-use Rattle.headers.proofs.read_at_most.Statement.{statement}
-use Rattle.headers.proofs.read_at_most.Tie as tie
+use Rattle.header_fields.specs.Tests.{isAtMost}
+use Rattle.header_fields.proofs.Answers.{answer-end, answer-fails, answer-passes}
+use Rattle.header_fields.proofs.read_at_most.Statement.{statement}
+use Rattle.header_fields.proofs.read_at_most.Tie as tie
 
 read-requires : tie.Need-read-requires
 read-requires c κs = search needs

@@ -1,12 +1,12 @@
--- `headers::read_format_code` meets its contract. Assumes nothing.
+-- `header_fields::read_format_code` meets its contract. Assumes nothing.
 use borrow.Author.Needs.{needs}
 use borrow.Author.Tests.{eq-eqb, ne-eqb}
 use mathlib.Core.Path.{ap}
 use mathlib.Core.Bool.{not}
-use Rattle.headers.specs.Judgement.{isFormat}
-use Rattle.headers.proofs.Judged.{answer-end, answer-fails, answer-passes}
-use Rattle.headers.proofs.read_format_code.Statement.{statement}
-use Rattle.headers.proofs.read_format_code.Tie as tie
+use Rattle.header_fields.specs.Tests.{isFormat}
+use Rattle.header_fields.proofs.Answers.{answer-end, answer-fails, answer-passes}
+use Rattle.header_fields.proofs.read_format_code.Statement.{statement}
+use Rattle.header_fields.proofs.read_format_code.Tie as tie
 
 read-requires : tie.Need-read-requires
 read-requires c κs = search needs

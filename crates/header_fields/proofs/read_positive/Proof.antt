@@ -1,10 +1,10 @@
--- `headers::read_positive` meets its contract. Assumes nothing.
+-- `header_fields::read_positive` meets its contract. Assumes nothing.
 use borrow.Author.Needs.{needs}
 use borrow.Author.Tests.{le-ltb, lt-ltb}
-use Rattle.headers.specs.Judgement.{isPositive}
-use Rattle.headers.proofs.Judged.{answer-end, answer-fails, answer-passes}
-use Rattle.headers.proofs.read_positive.Statement.{statement}
-use Rattle.headers.proofs.read_positive.Tie as tie
+use Rattle.header_fields.specs.Tests.{isPositive}
+use Rattle.header_fields.proofs.Answers.{answer-end, answer-fails, answer-passes}
+use Rattle.header_fields.proofs.read_positive.Statement.{statement}
+use Rattle.header_fields.proofs.read_positive.Tie as tie
 
 read-requires : tie.Need-read-requires
 read-requires c κs = search needs
