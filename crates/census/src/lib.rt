@@ -1,6 +1,7 @@
 // A census: one recording is added to a report. Planes, table and work memory are scratch, all zero afterwards.
 use census_packets::HeadersAnswer;
 use headers::Session;
+use report::CensusAnswer;
 use report::Running;
 use setup::LoadedSetup;
 ghost use mathlib.Core.Path.{_≡_};
@@ -17,12 +18,6 @@ ghost use Rattle.report.specs.Report.{plus};
 ghost use Rattle.report.specs.Running.{Runs};
 ghost use Rattle.census_packets.specs.Recording.{lent, outcomeLent, packetsAdd};
 ghost use Rattle.census.specs.Call.{zeroed, Loads, Loaded, countNumber, countReport, censusCall, censusDone, answerBy, CensusPromise};
-
-// The recording was counted; or the number of the call's refusal, with place 0.
-pub enum CensusAnswer {
-    Counted,
-    Refused(u32, usize),
-}
 
 // All frame packets of a recording, by the setup that its headers left in table memory.
 fn count_packets(

@@ -1,4 +1,4 @@
-// The report of a census: 34 numbers that packets add to, each sum tested. docs/MEMORY.md says where each number stands.
+// The report of a census: 34 numbers that packets add to, each sum tested, and what a census answers. docs/MEMORY.md says where each number stands.
 ghost use mathlib.Core.Path.{_≡_};
 ghost use Prim.Native.Nat.{ℕ, _-_, _<_, _≤_};
 ghost use mathlib.Core.List.{List};
@@ -6,6 +6,13 @@ ghost use lib.ListN.{length};
 ghost use Rattle.bitstream.specs.Numbers.{wrongLength};
 ghost use Rattle.report.specs.Report.{reportSize, plus, only, Numbered, refusalAdds};
 ghost use Rattle.report.specs.Running.{sumOf, Runs, sumNumber, reportAfter};
+ghost use Rattle.report.specs.Answer.{numberOf};
+
+// The recording was counted; or the number of the call's refusal, with place 0.
+pub enum CensusAnswer {
+    Counted,
+    Refused(u32, usize),
+}
 
 // A report that is being added to. Once a sum has passed 64 bits its numbers say nothing.
 pub struct Running {
@@ -102,4 +109,14 @@ pub fn refuse_frames(running: Running, packets: u64) -> Running
 {
     let frames = packets - 3;
     add_refusals(running, bitstream::WRONG_LENGTH, frames)
+}
+
+// 0, or the number of the refusal.
+pub fn number_of(answer: CensusAnswer) -> u32
+    ensures { λ r. ⌜ r ≡ numberOf answer ⌝ }
+{
+    match answer {
+        CensusAnswer::Counted => 0,
+        CensusAnswer::Refused(k, _) => k,
+    }
 }
