@@ -149,7 +149,13 @@ fn read_coding(packet: &[u8], at: usize) -> CodingAnswer
         Field::Got(is, next) => Value { is, next },
         Field::Refused(k, e) => return CodingAnswer::Refused(k, e),
     };
-    let zero_bits = match header_fields::read_exactly(packet, pf.next, 3, 0, bitstream::BAD_FORMAT) {
+    let zero_bits = match header_fields::read_exactly(
+        packet,
+        pf.next,
+        3,
+        0,
+        bitstream::BAD_FORMAT,
+    ) {
         Field::Got(is, next) => Value { is, next },
         Field::Refused(k, e) => return CodingAnswer::Refused(k, e),
     };
