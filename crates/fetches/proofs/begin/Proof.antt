@@ -1,4 +1,4 @@
--- `prediction::begin` meets its contract.
+-- `fetches::begin` meets its contract.
 -- Assumes nothing.
 use mathlib.Core.Path.{sym, ap, _∙_}
 use mathlib.Core.Bool.{Bool, cond}
@@ -7,10 +7,10 @@ use native.Mathlib.Omega.{arith}
 use lib.IntN.{ℤ, pos, _+ℤ_}
 use mir.Syntax.{w32}
 use Rattle.numeric.proofs.Known.{Known, k-nat, k-got, k-add, ask-add, ask-size, back}
-use Rattle.prediction.specs.Motion.{steps, down, roundedUp}
+use Rattle.fetches.specs.Motion.{steps, down, roundedUp}
 use borrow.Author.Needs.{needs}
-use Rattle.prediction.proofs.begin.Statement.{statement}
-use Rattle.prediction.proofs.begin.Tie as tie
+use Rattle.fetches.proofs.begin.Statement.{statement}
+use Rattle.fetches.proofs.begin.Tie as tie
 
 module _ (s : tie.Start) where
   abbrev from : Known w32 (pos (8 * s .args .at)) 1048560

@@ -1,4 +1,4 @@
--- `prediction::fetch_block` meets its contract. The loop's invariant: the first i means are made.
+-- `fetches::fetch_block` meets its contract. The loop's invariant: the first i means are made.
 -- Assumes nothing.
 use mathlib.Core.Path.{_≡_, refl, sym, ap, _∙_}
 use Prim.Native.Nat.{ℕ, _+_, _-_, _*_, _/_, _%_, _≤_, _<_}
@@ -9,14 +9,13 @@ use mir.Syntax.{w32}
 use mir.Val.{toZ}
 use Rattle.numeric.proofs.Magnitude.{size}
 use Rattle.numeric.proofs.Known.{Known, k-of, k-nat, k-add, ask-add}
-use Rattle.prediction.specs.declared.Fetches.{Fetches}
-use Rattle.prediction.specs.Motion.{fetch}
-use Rattle.prediction.specs.Predicted.{mean}
-use Rattle.prediction.specs.Block.{meanAt}
-use Rattle.prediction.proofs.Facts.{set-each}
+use Rattle.fetches.specs.declared.Fetches.{Fetches}
+use Rattle.fetches.specs.Motion.{fetch}
+use Rattle.fetches.specs.Fetched.{mean, meanAt}
+use Rattle.fetches.proofs.Leads.{set-each}
 use borrow.Author.Needs.{needs}
-use Rattle.prediction.proofs.fetch_block.Statement.{statement}
-use Rattle.prediction.proofs.fetch_block.Tie as tie
+use Rattle.fetches.proofs.fetch_block.Statement.{statement}
+use Rattle.fetches.proofs.fetch_block.Tie as tie
 
 -- the fetches that bits stand for
 abbrev at-bits : ℕ → ℕ → ℕ → ℕ → Fetches

@@ -1,4 +1,4 @@
--- `prediction::fetches_of` meets its contract.
+-- `fetches::fetches_of` meets its contract.
 -- Assumes nothing.
 use mathlib.Core.Path.{_≡_, _∙_}
 use Prim.Native.Nat.{_*_}
@@ -8,11 +8,11 @@ use mir.Val.{toZ, ofZ}
 use Rattle.numeric.proofs.Known.{Known, k-got, ask-size, back}
 use Rattle.geometry.specs.declared.Block.{Block}
 use Rattle.block_record.specs.declared.Vector.{Vector}
-use Rattle.prediction.specs.Motion.{subsampledAcross, subsampledUp, steps, down, roundedUp}
-use Rattle.prediction.specs.Block.{fetchesOf}
+use Rattle.fetches.specs.Motion.{subsampledAcross, subsampledUp, steps, down, roundedUp}
+use Rattle.fetches.specs.Fetched.{fetchesOf}
 use borrow.Author.Needs.{needs}
-use Rattle.prediction.proofs.fetches_of.Statement.{statement}
-use Rattle.prediction.proofs.fetches_of.Tie as tie
+use Rattle.fetches.proofs.fetches_of.Statement.{statement}
+use Rattle.fetches.proofs.fetches_of.Tie as tie
 
 module _ (c : tie.After-begin4) where
   abbrev a : tie.Start

@@ -1,11 +1,11 @@
--- `prediction::subsampling` meets its contract.
+-- `fetches::subsampling` meets its contract.
 -- Assumes nothing.
 use mathlib.Core.Path.{sym, ap}
-use Rattle.prediction.specs.Motion.{subsampledAcross, subsampledUp}
-use Rattle.prediction.proofs.Facts.{chroma}
+use Rattle.fetches.specs.Motion.{subsampledAcross, subsampledUp}
+use Rattle.fetches.proofs.Leads.{chroma}
 use borrow.Author.Needs.{needs}
-use Rattle.prediction.proofs.subsampling.Statement.{statement}
-use Rattle.prediction.proofs.subsampling.Tie as tie
+use Rattle.fetches.proofs.subsampling.Statement.{statement}
+use Rattle.fetches.proofs.subsampling.Tie as tie
 
 returns : tie.Need-returns
 unfolding subsampledAcross subsampledUp

@@ -1,14 +1,14 @@
--- `prediction::rounded_up` meets its contract.
+-- `fetches::rounded_up` meets its contract.
 -- Assumes nothing.
 use mathlib.Core.Path.{refl, sym, ap, _∙_}
 use mathlib.Core.Bool.{Bool}
 use mir.Syntax.{w32}
 use Rattle.numeric.proofs.Magnitude.{size}
 use Rattle.numeric.proofs.Known.{Known, k-of, k-lit, k-add, ask-add, k-sub, ask-sub, k-div, ask-quot, ask-size, test-lt}
-use Rattle.prediction.specs.Motion.{roundedUp, steps}
-use Rattle.prediction.proofs.Facts.{quot-up, quot-up-minus}
-use Rattle.prediction.proofs.rounded_up.Statement.{statement}
-use Rattle.prediction.proofs.rounded_up.Tie as tie
+use Rattle.fetches.specs.Motion.{roundedUp, steps}
+use Rattle.fetches.proofs.Leads.{quot-up, quot-up-minus}
+use Rattle.fetches.proofs.rounded_up.Statement.{statement}
+use Rattle.fetches.proofs.rounded_up.Tie as tie
 
 abbrev z : (c : tie.Start) → Known w32 (c .args .z) 31
 z c = k-of (c .fits .z) (size (c .pre))

@@ -1,4 +1,4 @@
--- `prediction::inside` meets its contract.
+-- `fetches::inside` meets its contract.
 -- Assumes nothing.
 use mathlib.Core.Path.{_∙_}
 use Prim.Native.Nat.{_^_, _≤_, _<_}
@@ -7,10 +7,10 @@ use lib.IntN.{natAbs}
 use mir.Syntax.{w32, w64}
 use Rattle.numeric.proofs.Magnitude.{plus-ok}
 use Rattle.numeric.proofs.Known.{Known, k-any, k-lit, test-lt, ask-nat, nat-of}
-use Rattle.prediction.proofs.Facts.{inside-below, inside-in, inside-over}
+use Rattle.fetches.proofs.Leads.{inside-below, inside-in, inside-over}
 use borrow.Author.Needs.{needs}
-use Rattle.prediction.proofs.inside.Statement.{statement}
-use Rattle.prediction.proofs.inside.Tie as tie
+use Rattle.fetches.proofs.inside.Statement.{statement}
+use Rattle.fetches.proofs.inside.Tie as tie
 
 abbrev z : (c : tie.Start) → Known w32 (c .args .z) (2 ^ 31)
 z c = k-any (c .fits .z)

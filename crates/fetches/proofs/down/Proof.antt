@@ -1,14 +1,14 @@
--- `prediction::down` meets its contract.
+-- `fetches::down` meets its contract.
 -- Assumes nothing.
 use mathlib.Core.Path.{sym, ap, _∙_}
 use mathlib.Core.Bool.{Bool}
 use mir.Syntax.{w32}
 use Rattle.numeric.proofs.Magnitude.{size}
 use Rattle.numeric.proofs.Known.{Known, k-of, k-div, ask-quot, ask-size}
-use Rattle.prediction.specs.Motion.{down, steps}
-use Rattle.prediction.proofs.Facts.{quot-down}
-use Rattle.prediction.proofs.down.Statement.{statement}
-use Rattle.prediction.proofs.down.Tie as tie
+use Rattle.fetches.specs.Motion.{down, steps}
+use Rattle.fetches.proofs.Leads.{quot-down}
+use Rattle.fetches.proofs.down.Statement.{statement}
+use Rattle.fetches.proofs.down.Tie as tie
 
 abbrev z : (c : tie.Start) → Known w32 (c .args .z) 31
 z c = k-of (c .fits .z) (size (c .pre))

@@ -1,4 +1,4 @@
--- `prediction::fetch` meets its contract.
+-- `fetches::fetch` meets its contract.
 -- Assumes nothing.
 use mathlib.Core.Path.{ap, ap₂, _∙_}
 use Prim.Native.Nat.{ℕ, _+_, _*_, _<_}
@@ -6,11 +6,11 @@ use native.Mathlib.Omega.{arith}
 use lib.ListN.{length, getD}
 use mir.Syntax.{w32}
 use Rattle.numeric.proofs.Known.{back}
-use Rattle.prediction.specs.Motion.{inside, fetch}
-use Rattle.prediction.proofs.Facts.{in-plane}
+use Rattle.fetches.specs.Motion.{inside, fetch}
+use Rattle.fetches.proofs.Leads.{in-plane}
 use borrow.Author.Needs.{needs}
-use Rattle.prediction.proofs.fetch.Statement.{statement}
-use Rattle.prediction.proofs.fetch.Tie as tie
+use Rattle.fetches.proofs.fetch.Statement.{statement}
+use Rattle.fetches.proofs.fetch.Tie as tie
 
 -- the sample lies in the buffer
 below : (c : tie.After-inside2) → let q = c .before .before .before .before .before .args .plane in
