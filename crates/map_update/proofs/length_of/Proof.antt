@@ -1,13 +1,13 @@
--- `changed_tiles::length_of` meets its contract. Assumes nothing.
+-- `map_update::length_of` meets its contract. Assumes nothing.
 use Prim.Native.Nat.{ℕ}
 use mathlib.Core.Path.{_≡_, sym, ap, _∙_}
 use Rattle.geometry.specs.declared.PixelFormat.{PixelFormat}
 use Rattle.headers.proofs.Fitting.{fits-macro-blocks}
 use Rattle.tile_map.specs.Tiles.{mapLength}
-use Rattle.changed_tiles.proofs.Calls.{settings-tile, settings-plane}
+use Rattle.map_update.proofs.Maps.{settings-tile, settings-plane}
 use borrow.Author.Needs.{needs}
-use Rattle.changed_tiles.proofs.length_of.Statement.{statement}
-use Rattle.changed_tiles.proofs.length_of.Tie as tie
+use Rattle.map_update.proofs.length_of.Statement.{statement}
+use Rattle.map_update.proofs.length_of.Tie as tie
 
 pixel-format-requires : tie.Need-pixel-format-requires
 pixel-format-requires c κs = search needs

@@ -1,4 +1,4 @@
--- `changed_tiles::write_accepted` meets its contract. Assumes nothing.
+-- `map_update::write_accepted` meets its contract. Assumes nothing.
 use Prim.Native.Nat.{ℕ, _+_, _*_, _≤_}
 use native.Mathlib.Omega.{arith}
 use mathlib.Core.Path.{_≡_, sym, ap, _∙_}
@@ -7,11 +7,11 @@ use Rattle.geometry.specs.declared.PixelFormat.{PixelFormat}
 use Rattle.geometry.specs.Sizes.{blocksOf}
 use Rattle.headers.proofs.Fitting.{fits-macro-blocks}
 use Rattle.tile_map.specs.Tiles.{mapLength, tileMap}
-use Rattle.changed_tiles.specs.Call.{mapLengthOf}
-use Rattle.changed_tiles.proofs.Calls.{settings-tile, settings-plane, accepted-compared, accepted-first, all-filled}
+use Rattle.map_update.specs.Map.{mapLengthOf}
+use Rattle.map_update.proofs.Maps.{settings-tile, settings-plane, accepted-compared, accepted-first, all-filled}
 use borrow.Author.Needs.{needs}
-use Rattle.changed_tiles.proofs.write_accepted.Statement.{statement}
-use Rattle.changed_tiles.proofs.write_accepted.Tie as tie
+use Rattle.map_update.proofs.write_accepted.Statement.{statement}
+use Rattle.map_update.proofs.write_accepted.Tie as tie
 
 pixel-format-requires : tie.Need-pixel-format-requires
 pixel-format-requires c κs = search needs

@@ -1,11 +1,11 @@
--- `changed_tiles::update_map` meets its contract. Assumes nothing.
+-- `map_update::update_map` meets its contract. Assumes nothing.
 use Prim.Native.Nat.{ℕ}
 use mathlib.Core.Path.{_≡_, sym, ap, _∙_, subst}
 use Rattle.reading.specs.declared.Verdict.{Verdict}
-use Rattle.changed_tiles.specs.Call.{mapAfter, IfAccepted, Lent}
+use Rattle.map_update.specs.Map.{mapAfter, IfAccepted, Lent}
 use borrow.Author.Needs.{needs}
-use Rattle.changed_tiles.proofs.update_map.Statement.{statement}
-use Rattle.changed_tiles.proofs.update_map.Tie as tie
+use Rattle.map_update.proofs.update_map.Statement.{statement}
+use Rattle.map_update.proofs.update_map.Tie as tie
 
 enum-told : tie.Need-enum-told
 enum-told c = search needs
