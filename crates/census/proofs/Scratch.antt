@@ -10,7 +10,7 @@ use borrow.Author.Tests.{eq-eqb, ne-eqb}
 use Rattle.work_memory.specs.Memory.{Memory, memory}
 use Rattle.packet_list.specs.Packets.{packetsIn}
 use Rattle.census_packets.specs.Recording.{lent}
-use Rattle.census.specs.declared.CensusAnswer.{CensusAnswer}
+use Rattle.report.specs.declared.CensusAnswer.{CensusAnswer}
 use Rattle.census.specs.Call.{countNumber, countReport, zeroed, allZero, CensusCall, censusDone, answerBy, reaches, byCensus}
 
 -- a slice that is cleared whole

@@ -21,7 +21,7 @@ use Rattle.report.specs.declared.Running.{Running}
 use Rattle.report.specs.Report.{plus, refusalAdds}
 use Rattle.report.specs.Running.{Runs, sumNumber, reportAfter}
 use Rattle.census_packets.specs.declared.HeadersAnswer.{HeadersAnswer}
-use Rattle.census_packets.specs.Recording.{Lent, lent, said, packetsAdd, headersOf, addsBy, recordingAdds}
+use Rattle.census_packets.specs.Recording.{Lent, lent, outcomeLent, packetsAdd, headersOf, addsBy, recordingAdds}
 use Rattle.census_packets.specs.Inner.{asHeaders, IfSound}
 use Rattle.census_packets.proofs.Headers.{total-three}
 use Rattle.census_packets.proofs.Numbers.{Sounds, headers-sound, setup-held}
@@ -50,7 +50,7 @@ module _ (l : Lent) (table lengths packets : List ℕ) (start : ℕ) (s : Sessio
   ps = packetsIn (drop 3 lengths) (drop start packets)
 
   abbrev Adds : Running → Type 0
-  Adds r = (y : List ℕ) → Runs running y → Runs r (plus y (packetsAdd (said l table) s ps))
+  Adds r = (y : List ℕ) → Runs running y → Runs r (plus y (packetsAdd (outcomeLent l table) s ps))
 
   pub by-read : hold l table s ≡ true → (r : Running) → ((y : List ℕ) → Runs running y → Runs r (plus y (packetsAdd (λ s p. read s table p) s ps))) → Adds r
   by-read h r q = λ y z. subst (λ (k : List ℕ). Runs r (plus y k)) (sym (adds-read l table ps s fits h)) (q y z)
@@ -79,7 +79,7 @@ module _ (l : Lent) (packets : List (List ℕ)) (report : List ℕ) where
     unfolding recordingAdds
     ends-refused j e r q = ends-sum h k report′ (stored _ (subst (λ (o : Outcome Session). Runs sums (plus report (addsBy l packets o))) (sym r) q))
 
-    pub ends-counted : (s : Session) (e : ℕ) → headersOf (length (l .table)) packets ≡ got s e → Runs sums (plus report (packetsAdd (said l (tableAfter (l .table) (getD packets 2 []))) s (drop 3 packets))) → Ends k report′
+    pub ends-counted : (s : Session) (e : ℕ) → headersOf (length (l .table)) packets ≡ got s e → Runs sums (plus report (packetsAdd (outcomeLent l (tableAfter (l .table) (getD packets 2 []))) s (drop 3 packets))) → Ends k report′
     unfolding recordingAdds
     ends-counted s e r q = ends-sum h k report′ (stored _ (subst (λ (o : Outcome Session). Runs sums (plus report (addsBy l packets o))) (sym r) q))
 
@@ -117,8 +117,8 @@ module _ (lengths packets table : List ℕ) {r : HeadersAnswer} {s : Session} {s
 
   -- what was counted by the table memory that the headers left
   pub frames-are : (m : Memory) (golden previous new : List ℕ) (sums : Running) (report : List ℕ)
-      → Runs sums (plus report (packetsAdd (said (lent table′ m golden previous new) table′) s (packetsIn (drop 3 lengths) (drop start packets))))
-      → Runs sums (plus report (packetsAdd (said (lent table m golden previous new) (tableAfter table (getD all 2 []))) s (drop 3 all)))
+      → Runs sums (plus report (packetsAdd (outcomeLent (lent table′ m golden previous new) table′) s (packetsIn (drop 3 lengths) (drop start packets))))
+      → Runs sums (plus report (packetsAdd (outcomeLent (lent table m golden previous new) (tableAfter table (getD all 2 []))) s (drop 3 all)))
   frames-are m golden previous new sums report q =
-      subst (λ (t : List ℕ). Runs sums (plus report (packetsAdd (said (lent table m golden previous new) t) s (drop 3 all)))) table-is
-      (subst (λ (k : List (List ℕ)). Runs sums (plus report (packetsAdd (said (lent table m golden previous new) table′) s k))) (ap (λ (k : ℕ). packetsIn (drop 3 lengths) (drop k packets)) (is-sound .2) ∙ sym (behind lengths packets three)) q)
+      subst (λ (t : List ℕ). Runs sums (plus report (packetsAdd (outcomeLent (lent table m golden previous new) t) s (drop 3 all)))) table-is
+      (subst (λ (k : List (List ℕ)). Runs sums (plus report (packetsAdd (outcomeLent (lent table m golden previous new) table′) s k))) (ap (λ (k : ℕ). packetsIn (drop 3 lengths) (drop k packets)) (is-sound .2) ∙ sym (behind lengths packets three)) q)

@@ -17,8 +17,8 @@ use Rattle.packet_list.specs.Packets.{packetsIn, total}
 use Rattle.report.specs.Report.{reportSize, plus}
 use Rattle.report.specs.Running.{sumNumber, reportAfter}
 use Rattle.census_packets.specs.Recording.{Lent, lent, recordingAdds}
-use Rattle.census.specs.declared.CensusAnswer.{CensusAnswer}
-use Rattle.census.specs.declared.CensusAnswer.the-variants.{Counted, Refused}
+use Rattle.report.specs.declared.CensusAnswer.{CensusAnswer}
+use Rattle.report.specs.declared.CensusAnswer.the-variants.{Counted, Refused}
 
 -- ---- what a call brings: "a list of packet lengths and one buffer of packets joined together", the report, and scratch
 pub record CensusCall : Type 0 where

@@ -1,6 +1,7 @@
 // A census: one recording is added to a report. Planes, table and work memory are scratch, all zero afterwards.
 use census_packets::HeadersAnswer;
 use headers::Session;
+use report::CensusAnswer;
 use report::Running;
 use setup::LoadedSetup;
 ghost use mathlib.Core.Path.{_≡_};
@@ -15,14 +16,8 @@ ghost use Rattle.reading.specs.Answer.{read};
 ghost use Rattle.packet_list.specs.Packets.{total, packetsIn};
 ghost use Rattle.report.specs.Report.{plus};
 ghost use Rattle.report.specs.Running.{Runs};
-ghost use Rattle.census_packets.specs.Recording.{lent, said, packetsAdd};
+ghost use Rattle.census_packets.specs.Recording.{lent, outcomeLent, packetsAdd};
 ghost use Rattle.census.specs.Call.{zeroed, Loads, Loaded, countNumber, countReport, censusCall, censusDone, answerBy, CensusPromise};
-
-// The recording was counted; or the number of the call's refusal, with place 0.
-pub enum CensusAnswer {
-    Counted,
-    Refused(u32, usize),
-}
 
 // All frame packets of a recording, by the setup that its headers left in table memory.
 fn count_packets(
@@ -101,7 +96,7 @@ fn count_frames(
     new: &[u8],
 ) -> Running
     requires { ⌜ (sessionFits s ≡ true) × Loads (now table) × (3 ≤ length (now lengths)) × (start + total (drop 3 (now lengths)) ≤ length (now packets)) ⌝ }
-    ensures { λ r. ⌜ ((l : List ℕ) → Runs running l → Runs r (plus l (packetsAdd (said (lent (now (table .entry)) (memory (now (records .entry)) (now (coded .entry)) (now (coefs .entry)) (now (dc .entry)) (now (lasts .entry)) (now (flags .entry)) (now (bits .entry)) (now (supers .entry)) (now (modes .entry)) (now (active .entry))) (now (golden .entry)) (now (previous .entry)) (now (new .entry))) (now (table .entry))) s (packetsIn (drop 3 (now (lengths .entry))) (drop start (now (packets .entry))))))) ⌝ }
+    ensures { λ r. ⌜ ((l : List ℕ) → Runs running l → Runs r (plus l (packetsAdd (outcomeLent (lent (now (table .entry)) (memory (now (records .entry)) (now (coded .entry)) (now (coefs .entry)) (now (dc .entry)) (now (lasts .entry)) (now (flags .entry)) (now (bits .entry)) (now (supers .entry)) (now (modes .entry)) (now (active .entry))) (now (golden .entry)) (now (previous .entry)) (now (new .entry))) (now (table .entry))) s (packetsIn (drop 3 (now (lengths .entry))) (drop start (now (packets .entry))))))) ⌝ }
 {
     let l = work_memory::lengths_of(s);
     let buffers = theora::buffers_fit(l.records, golden, previous, new, table);
@@ -151,8 +146,7 @@ fn count_frames(
             active,
         );
     }
-    let frames = lengths.len() as u64 - 3;
-    census_packets::add_refusals(running, bitstream::WRONG_LENGTH, frames)
+    report::refuse_frames(running, lengths.len() as u64)
 }
 
 // Adds a recording whose packets lie in the buffer: 0, or the number of the refusal, which leaves the report as it was.
@@ -185,7 +179,7 @@ fn count(
     let running = report::begin(report);
     match census_packets::read_headers(lengths, packets, table) {
         HeadersAnswer::Refused(k) => {
-            let sums = census_packets::add_refusals(running, k, 1);
+            let sums = report::add_refusals(running, k, 1);
             report::store(sums, report)
         }
         HeadersAnswer::Sound(s, start) => {

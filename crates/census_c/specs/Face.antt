@@ -2,14 +2,8 @@
 use Prim.Native.Nat.{ℕ}
 use mathlib.Core.List.{List}
 use Rattle.census_packets.specs.Recording.{Lent}
-use Rattle.census.specs.declared.CensusAnswer.{CensusAnswer}
-use Rattle.census.specs.declared.CensusAnswer.the-variants.{Counted, Refused}
 use Rattle.census.specs.Call.{CensusCall, CensusDone, byCensus}
-
--- 0, or the number of the refusal: its place is 0
-abbrev pub numberOf : CensusAnswer → ℕ
-numberOf Counted = 0
-numberOf (Refused k e) = k
+use Rattle.report.specs.Answer.{numberOf}
 
 -- what a call returns, and all that is lent to be written
 pub record CensusReturned : Type 0 where

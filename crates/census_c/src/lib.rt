@@ -1,20 +1,9 @@
 // The face of `census` for C and other languages: include/wedgepetal.h says what the call is for.
-use census::CensusAnswer;
 ghost use mathlib.Core.Path.{_≡_};
 ghost use Rattle.work_memory.specs.Memory.{memory};
 ghost use Rattle.census_packets.specs.Recording.{lent};
 ghost use Rattle.census.specs.Call.{censusCall};
-ghost use Rattle.census_c.specs.Face.{numberOf, censusGives, censusFace};
-
-// 0, or the number of the refusal.
-fn number_of(answer: CensusAnswer) -> u32
-    ensures { λ r. ⌜ r ≡ numberOf answer ⌝ }
-{
-    match answer {
-        CensusAnswer::Counted => 0,
-        CensusAnswer::Refused(k, _) => k,
-    }
-}
+ghost use Rattle.census_c.specs.Face.{censusGives, censusFace};
 
 // Adds a recording to a report of 34 numbers.
 #[no_mangle]
@@ -59,5 +48,5 @@ pub extern "C" fn wedgepetal_census(
         previous,
         new,
     );
-    number_of(done)
+    report::number_of(done)
 }

@@ -14,7 +14,7 @@ use Rattle.decoding.specs.Answer.{State, Way, state}
 use Rattle.theora.specs.Call.{Call, call, lengthsHold, outcomeOf, byRules}
 use Rattle.theora.specs.Demand.{turn, turns, handedOn}
 use Rattle.report.specs.Report.{plus}
-use Rattle.census_packets.specs.Recording.{Lent, said, packetAdds, packetsAdd}
+use Rattle.census_packets.specs.Recording.{Lent, outcomeLent, packetAdds, packetsAdd}
 use Rattle.census_claims.specs.Calls.{turnsAdd, Alike, AsCalls}
 
 handed-session : (st : State) (v : Verdict) (kind : Kind) (s : Session) (new : List ℕ) → handedOn st v kind s new .session ≡ s
@@ -25,13 +25,13 @@ handed-session st (Accepted t) Repeat s new = refl
 
 module _ (l : Lent) (table : List ℕ) where
   outcome-same : (st : State) (c : Call) (p : List ℕ) → c .packet ≡ p → c .table ≡ table
-      → lengthsHold st c ≡ lengthsHold (state (st .session) (l .golden) (l .previous)) (call p table (l .memory) (l .new)) → outcomeOf st c ≡ said l table (st .session) p
+      → lengthsHold st c ≡ lengthsHold (state (st .session) (l .golden) (l .previous)) (call p table (l .memory) (l .new)) → outcomeOf st c ≡ outcomeLent l table (st .session) p
   unfolding outcomeOf
   outcome-same st c p ep et eh = λ i. choose (sessionFits (st .session)) (choose (eh i) (read (st .session) (et i) (ep i)) (refused 1 0)) (refused 8 0)
 
   module _ (way : Way) where
     pub calls-add : (st : State) (cs : List Call) (ps : List (List ℕ)) → Alike l table (turns (byRules way) st cs) ps
-        → turnsAdd (turns (byRules way) st cs) ≡ packetsAdd (said l table) (st .session) ps
+        → turnsAdd (turns (byRules way) st cs) ≡ packetsAdd (outcomeLent l table) (st .session) ps
     unfolding turns turnsAdd packetsAdd Alike byRules
     calls-add st [] [] h = refl
     calls-add st [] (p ∷ ps) h = absurd h
@@ -41,8 +41,8 @@ module _ (l : Lent) (table : List ℕ) where
         let d = byRules way st c in
         let t = turn st c d in
         let es : t .after .session ≡ answerFor (st .session) (outcomeOf st c) .session = handed-session st (d .answer .verdict) (d .answer .header .kind) (d .answer .session) (d .new) in
-        ap (plus (packetAdds (st .session) (outcomeOf st c))) (calls-add (t .after) cs ps (h .3) ∙ ap (λ (s : Session). packetsAdd (said l table) s ps) es)
-        ∙ (λ i. plus (packetAdds (st .session) (e i)) (packetsAdd (said l table) (answerFor (st .session) (e i) .session) ps))
+        ap (plus (packetAdds (st .session) (outcomeOf st c))) (calls-add (t .after) cs ps (h .3) ∙ ap (λ (s : Session). packetsAdd (outcomeLent l table) s ps) es)
+        ∙ (λ i. plus (packetAdds (st .session) (e i)) (packetsAdd (outcomeLent l table) (answerFor (st .session) (e i) .session) ps))
 
 pub as-calls : AsCalls
 as-calls l table way st cs ps h = calls-add l table way st cs ps h

@@ -30,7 +30,7 @@ use Rattle.tally.specs.Counted.{countsOf}
 use Rattle.tally.proofs.Sums.{adds-up}
 use Rattle.report.specs.Report.{plus, nothing, only}
 use Rattle.report.proofs.Sums.{plus-long}
-use Rattle.census_packets.specs.Recording.{Lent, said, packetAdds, packetsAdd, headersOf, addsBy, recordingAdds}
+use Rattle.census_packets.specs.Recording.{Lent, outcomeLent, packetAdds, packetsAdd, headersOf, addsBy, recordingAdds}
 use Rattle.census_packets.proofs.Numbers.{Every, every, headers-number, headers-sound, setup-held}
 use Rattle.census_packets.proofs.Rules.{session-kept}
 use Rattle.census_claims.specs.Sums.{Balanced, RecordingsBalanced}
@@ -72,7 +72,7 @@ adds-long l packets = go (headersOf (length (l .table)) packets)
   where
     go : (o : Outcome Session) → length (addsBy l packets o) ≡ 34
     go (refused k e) = only-long (2 + k) 1
-    go (got s e) = packets-long (said l (tableAfter (l .table) (getD packets 2 []))) (drop 3 packets) s
+    go (got s e) = packets-long (outcomeLent l (tableAfter (l .table) (getD packets 2 []))) (drop 3 packets) s
 
 -- ---- nothing, and sizes that do not change
 nothing-balanced : (s : Session) → Balanced s 0 nothing
@@ -132,12 +132,12 @@ module _ (table : List ℕ) {setup : Setup} {place : ℕ} (held : heldSetup tabl
 
 module _ (l : Lent) (table : List ℕ) {setup : Setup} {place : ℕ} (held : heldSetup table ≡ got setup place) where
   said-is : (s : Session) → sessionFits s ≡ true → (p : List ℕ) (b : Bool) → lengthsHold (state s (l .golden) (l .previous)) (call p table (l .memory) (l .new)) ≡ b
-      → said l table s p ≡ choose b (readBy s setup p) (refused 1 0)
+      → outcomeLent l table s p ≡ choose b (readBy s setup p) (refused 1 0)
   unfolding outcomeOf
   said-is s fits p b h = rw (fits, h) (ap (λ (o : Outcome Asked). choose b o (refused 1 0)) (by-held table held s p))
 
   -- one packet
-  said-balanced : (s : Session) → sessionFits s ≡ true → (p : List ℕ) → Balanced s 1 (packetAdds s (said l table s p))
+  said-balanced : (s : Session) → sessionFits s ≡ true → (p : List ℕ) → Balanced s 1 (packetAdds s (outcomeLent l table s p))
   unfolding outcomeOf among
   said-balanced s fits p = by-hold (lengthsHold (state s (l .golden) (l .previous)) (call p table (l .memory) (l .new))) refl
     where
@@ -145,22 +145,22 @@ module _ (l : Lent) (table : List ℕ) {setup : Setup} {place : ℕ} (held : hel
       by-read (refused k e) r = refused-balanced s k (read-number table held s p r)
       by-read (got a e) r = let n = counts-long s a e in kind-balanced s (countsOf s (got a e)) (n .0) (n .1) (n .2) (a .frame .header .kind) (adds-up s setup p r)
 
-      by-hold : (b : Bool) → lengthsHold (state s (l .golden) (l .previous)) (call p table (l .memory) (l .new)) ≡ b → Balanced s 1 (packetAdds s (said l table s p))
+      by-hold : (b : Bool) → lengthsHold (state s (l .golden) (l .previous)) (call p table (l .memory) (l .new)) ≡ b → Balanced s 1 (packetAdds s (outcomeLent l table s p))
       by-hold true h = subst (λ (o : Outcome Asked). Balanced s 1 (packetAdds s o)) (sym (said-is s fits p true h)) (by-read (readBy s setup p) refl)
       by-hold false h = subst (λ (o : Outcome Asked). Balanced s 1 (packetAdds s o)) (sym (said-is s fits p false h)) (refused-balanced s 1 refl)
 
   -- all of them
-  packets-balanced : (ps : List (List ℕ)) (s : Session) → sessionFits s ≡ true → Balanced s (length ps) (packetsAdd (said l table) s ps)
+  packets-balanced : (ps : List (List ℕ)) (s : Session) → sessionFits s ≡ true → Balanced s (length ps) (packetsAdd (outcomeLent l table) s ps)
   unfolding packetsAdd
   packets-balanced [] s fits = nothing-balanced s
   packets-balanced (p ∷ ps) s fits =
-      let o = said l table s p in
+      let o = outcomeLent l table s p in
       let t = answerFor s o .session in
       let f = session-kept s fits o (λ a e r. outcome-got (state s (l .golden) (l .previous)) (call p table (l .memory) (l .new)) r .1) .0 in
       let e : 1 + length ps ≡ suc (length ps) = omega arith in
-      subst (λ (k : ℕ). Balanced s k (plus (packetAdds s o) (packetsAdd (said l table) t ps))) e
-      (balanced-plus s 1 (length ps) (packetAdds s o) (packetsAdd (said l table) t ps) (packet-long s o ∙ sym (packets-long (said l table) ps t)) (said-balanced s fits p)
-      (answer-balanced s (length ps) (packetsAdd (said l table) t ps) o (packets-balanced ps t f)))
+      subst (λ (k : ℕ). Balanced s k (plus (packetAdds s o) (packetsAdd (outcomeLent l table) t ps))) e
+      (balanced-plus s 1 (length ps) (packetAdds s o) (packetsAdd (outcomeLent l table) t ps) (packet-long s o ∙ sym (packets-long (outcomeLent l table) ps t)) (said-balanced s fits p)
+      (answer-balanced s (length ps) (packetsAdd (outcomeLent l table) t ps) o (packets-balanced ps t f)))
 
 pub recordings-balanced : RecordingsBalanced
 unfolding recordingAdds
@@ -170,6 +170,6 @@ recordings-balanced l packets = record {
       let t = tableAfter (l .table) (getD packets 2 []) in
       let b = packets-balanced l t (setup-held (l .table) (getD packets 2 []) (h .accepted)) (drop 3 packets) s (h .fits) in
       let n : length (drop 3 packets) ≡ length packets - 3 = length-drop 3 packets in
-      subst (λ (o : Outcome Session). Balanced s (length packets - 3) (addsBy l packets o)) (sym r) (subst (λ (k : ℕ). Balanced s k (packetsAdd (said l t) s (drop 3 packets))) n b);
+      subst (λ (o : Outcome Session). Balanced s (length packets - 3) (addsBy l packets o)) (sym r) (subst (λ (k : ℕ). Balanced s k (packetsAdd (outcomeLent l t) s (drop 3 packets))) n b);
   not-sound = λ k e r. (ap (addsBy l packets) r, headers-number (length (l .table)) packets r);
 }

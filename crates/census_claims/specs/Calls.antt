@@ -6,7 +6,7 @@ use Rattle.decoding.specs.Answer.{State, Way, state}
 use Rattle.theora.specs.Call.{Call, call, lengthsHold, outcomeOf, byRules}
 use Rattle.theora.specs.Demand.{Turn, turns}
 use Rattle.report.specs.Report.{plus, nothing}
-use Rattle.census_packets.specs.Recording.{Lent, said, packetAdds, packetsAdd}
+use Rattle.census_packets.specs.Recording.{Lent, outcomeLent, packetAdds, packetsAdd}
 
 -- what the calls of a list add: each by its session and its outcome
 unfoldable pub turnsAdd : List Turn → List ℕ
@@ -26,4 +26,4 @@ Alike l table (t ∷ ts) (p ∷ ps) =
 -- a recording adds what frame calls of its packets add that are handed on from call to call, whatever planes and work memory hold
 abbrev pub AsCalls : Type 0
 AsCalls = (l : Lent) (table : List ℕ) (way : Way) (st : State) (calls : List Call) (packets : List (List ℕ)) → Alike l table (turns (byRules way) st calls) packets
-    → turnsAdd (turns (byRules way) st calls) ≡ packetsAdd (said l table) (st .session) packets
+    → turnsAdd (turns (byRules way) st calls) ≡ packetsAdd (outcomeLent l table) (st .session) packets

@@ -9,9 +9,8 @@ use Rattle.headers.specs.declared.Session.{Session}
 use Rattle.headers.specs.Sizes.{format}
 use Rattle.work_memory.specs.Lengths as lengths
 use Rattle.counting.specs.Counts.{sum}
-use Rattle.report.specs.Report.{codedAt, uncodedAt, refusalAt, refusalAdds}
+use Rattle.report.specs.Report.{codedAt, uncodedAt, refusalAt, Numbered, refusalAdds}
 use Rattle.census_packets.specs.Recording.{Lent, headersOf, recordingAdds}
-use Rattle.census_packets.specs.Inner.{Numbered}
 
 -- the sum of n numbers of a report, from a place on
 abbrev pub part : (from n : ℕ) → List ℕ → ℕ

@@ -11,11 +11,11 @@ use Rattle.reading.specs.declared.Verdict.the-variants.{Accepted, Refused}
 use Rattle.reading.specs.Answer.{kindNumber}
 use Rattle.counting.specs.declared.Counts.{Counts}
 use Rattle.report.specs.declared.Running.{Running}
-use Rattle.report.specs.Report.{plus, only, refusalAdds}
+use Rattle.report.specs.Report.{plus, only, Numbered, refusalAdds}
 use Rattle.report.specs.Running.{Runs}
 use Rattle.report.proofs.Sums.{plus-assoc}
 use Rattle.census_packets.specs.Recording.{countsAdd, verdictAdds, answerAdds}
-use Rattle.census_packets.specs.Inner.{Numbered, AllNumbered}
+use Rattle.census_packets.specs.Inner.{AllNumbered}
 
 three : (l : List ℕ) → length l ≡ 3 → getD l 0 0 ∷ getD l 1 0 ∷ getD l 2 0 ∷ [] ≡ l
 three [] h = absurd (omega arith)

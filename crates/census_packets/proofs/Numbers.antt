@@ -23,7 +23,8 @@ use Rattle.frame_packet.proofs.Laws.{packetNumbers, packet-refuses}
 use Rattle.reading.specs.Answer.{Asked, read, answerFor}
 use Rattle.reading.proofs.Places.{read-refused}
 use Rattle.census_packets.specs.Recording.{setupOf, headersOf}
-use Rattle.census_packets.specs.Inner.{Numbered, AllNumbered}
+use Rattle.report.specs.Report.{Numbered}
+use Rattle.census_packets.specs.Inner.{AllNumbered}
 
 -- what holds of each number of a list holds of a number among them
 unfoldable pub Every : (ℕ → Type 0) → List ℕ → Type 0

@@ -17,7 +17,7 @@ use Rattle.reading.proofs.Places.{read-got}
 use Rattle.theora.specs.Lengths.{buffersFit}
 use Rattle.theora.specs.Call.{outcomeOf}
 use Rattle.report.specs.Report.{plus, only, refusalAdds}
-use Rattle.census_packets.specs.Recording.{Lent, said, packetAdds, packetsAdd}
+use Rattle.census_packets.specs.Recording.{Lent, outcomeLent, packetAdds, packetsAdd}
 
 -- ---- what stays from packet to packet
 cleared-after : (kind : Kind) (s : Session) → cleared (lengthsOf (sessionAfter kind s)) ≡ cleared (lengthsOf s)
@@ -50,22 +50,22 @@ module _ (l : Lent) (table : List ℕ) where
   hold-kept s (refused k e) = refl
   hold-kept s (got a e) = hold-after (a .frame .header .kind) s
 
-  said-read : (s : Session) → sessionFits s ≡ true → hold s ≡ true → (p : List ℕ) → said l table s p ≡ read s table p
+  outcome-read : (s : Session) → sessionFits s ≡ true → hold s ≡ true → (p : List ℕ) → outcomeLent l table s p ≡ read s table p
   unfolding outcomeOf
-  said-read s fits h p = rw (fits, h)
+  outcome-read s fits h p = rw (fits, h)
 
-  said-wrong : (s : Session) → sessionFits s ≡ true → hold s ≡ false → (p : List ℕ) → said l table s p ≡ refused 1 0
+  outcome-wrong : (s : Session) → sessionFits s ≡ true → hold s ≡ false → (p : List ℕ) → outcomeLent l table s p ≡ refused 1 0
   unfolding outcomeOf
-  said-wrong s fits h p = rw (fits, h)
+  outcome-wrong s fits h p = rw (fits, h)
 
   -- with lengths that fit, the packets are read by the table memory
-  pub adds-read : (ps : List (List ℕ)) (s : Session) → sessionFits s ≡ true → hold s ≡ true → packetsAdd (said l table) s ps ≡ packetsAdd (λ s p. read s table p) s ps
+  pub adds-read : (ps : List (List ℕ)) (s : Session) → sessionFits s ≡ true → hold s ≡ true → packetsAdd (outcomeLent l table) s ps ≡ packetsAdd (λ s p. read s table p) s ps
   unfolding packetsAdd
   adds-read [] s fits h = refl
   adds-read (p ∷ ps) s fits h =
-      let e = said-read s fits h p in
+      let e = outcome-read s fits h p in
       let o = read s table p in
-      (λ i. plus (packetAdds s (e i)) (packetsAdd (said l table) (answerFor s (e i) .session) ps))
+      (λ i. plus (packetAdds s (e i)) (packetsAdd (outcomeLent l table) (answerFor s (e i) .session) ps))
       ∙ ap (plus (packetAdds s o)) (adds-read ps (answerFor s o .session) (read-kept s fits table p .0) (hold-kept s o ∙ h))
 
   one-more : (n : ℕ) → plus (only 3 1) (only 3 n) ≡ only 3 (suc n)
@@ -73,9 +73,9 @@ module _ (l : Lent) (table : List ℕ) where
   one-more n = let e : 1 + n ≡ suc n = omega arith in ap (λ (k : ℕ). only 3 k) e
 
   -- with others, each is refused by 1
-  pub adds-wrong : (ps : List (List ℕ)) (s : Session) → sessionFits s ≡ true → hold s ≡ false → packetsAdd (said l table) s ps ≡ refusalAdds 1 (length ps)
+  pub adds-wrong : (ps : List (List ℕ)) (s : Session) → sessionFits s ≡ true → hold s ≡ false → packetsAdd (outcomeLent l table) s ps ≡ refusalAdds 1 (length ps)
   unfolding packetsAdd
   adds-wrong [] s fits h = refl
   adds-wrong (p ∷ ps) s fits h =
-      let e = said-wrong s fits h p in
-      (λ i. plus (packetAdds s (e i)) (packetsAdd (said l table) (answerFor s (e i) .session) ps)) ∙ ap (plus (refusalAdds 1 1)) (adds-wrong ps s fits h) ∙ one-more (length ps)
+      let e = outcome-wrong s fits h p in
+      (λ i. plus (packetAdds s (e i)) (packetsAdd (outcomeLent l table) (answerFor s (e i) .session) ps)) ∙ ap (plus (refusalAdds 1 1)) (adds-wrong ps s fits h) ∙ one-more (length ps)

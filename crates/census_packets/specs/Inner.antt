@@ -1,9 +1,10 @@
 -- What the functions that count packets ask and answer.
-use Prim.Native.Nat.{ℕ, _≤_}
+use Prim.Native.Nat.{ℕ}
 use Rattle.bitstream.specs.Reading.{Outcome, got, refused}
 use Rattle.headers.specs.declared.Session.{Session}
 use Rattle.reading.specs.declared.Verdict.{Verdict}
 use Rattle.reading.specs.declared.Verdict.the-variants.{Accepted, Refused}
+use Rattle.report.specs.Report.{Numbered}
 use Rattle.census_packets.specs.declared.HeadersAnswer.{HeadersAnswer}
 use Rattle.census_packets.specs.declared.HeadersAnswer.the-variants.{Sound, Refused as NotSound}
 
@@ -16,10 +17,6 @@ asHeaders place (refused k e) = NotSound k
 abbrev pub IfSound : Type 0 → HeadersAnswer → Type 0
 IfSound P (Sound s place) = P
 IfSound P (NotSound k) = Unit {0}
-
--- the numbers that the report has a place for
-abbrev pub Numbered : ℕ → Type 0
-Numbered k = (1 ≤ k) × (k ≤ 17)
 
 abbrev pub AllNumbered : Verdict → Type 0
 AllNumbered (Accepted t) = Unit {0}

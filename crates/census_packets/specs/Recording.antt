@@ -31,8 +31,8 @@ abbrev pub lent : (table : List ℕ) → Memory → (golden previous new : List 
 lent table memory golden previous new = record { table = table; memory = memory; golden = golden; previous = previous; new = new }
 
 -- a packet, as a frame call answers it that is lent the same, with this table memory
-abbrev pub said : Lent → (table : List ℕ) → Session → (packet : List ℕ) → Outcome Asked
-said l table s packet = outcomeOf (state s (l .golden) (l .previous)) (call packet table (l .memory) (l .new))
+abbrev pub outcomeLent : Lent → (table : List ℕ) → Session → (packet : List ℕ) → Outcome Asked
+outcomeLent l table s packet = outcomeOf (state s (l .golden) (l .previous)) (call packet table (l .memory) (l .new))
 
 -- what an answer and its counts add: "packets by kind, refusals by number (1 too), coded and uncoded blocks by plane, macro blocks by mode"
 abbrev pub countsAdd : (kind : ℕ) → Counts → List ℕ
@@ -64,7 +64,7 @@ headersOf room packets = choose (eqb (length packets) 0) (refused packetEnds 0) 
 -- "the first refused header is counted by its number .. and no more of that recording is read"
 abbrev pub addsBy : Lent → List (List ℕ) → Outcome Session → List ℕ
 addsBy l packets (refused k e) = refusalAdds k 1
-addsBy l packets (got s e) = packetsAdd (said l (tableAfter (l .table) (getD packets 2 []))) s (drop 3 packets)
+addsBy l packets (got s e) = packetsAdd (outcomeLent l (tableAfter (l .table) (getD packets 2 []))) s (drop 3 packets)
 
 unfoldable pub recordingAdds : Lent → List (List ℕ) → List ℕ
 recordingAdds l packets = addsBy l packets (headersOf (length (l .table)) packets)

@@ -13,10 +13,10 @@ ghost use Prim.Native.Nat.{ℕ, _≤_};
 ghost use lib.ListN.{length, getD, take};
 ghost use Rattle.setup.specs.Table.{tableAfter};
 ghost use Rattle.packet_list.specs.Packets.{total, packetsIn};
-ghost use Rattle.report.specs.Report.{plus, refusalAdds};
+ghost use Rattle.report.specs.Report.{plus};
 ghost use Rattle.report.specs.Running.{Runs};
 ghost use Rattle.census_packets.specs.Recording.{answerAdds, countsAdd, headersOf, setupOf};
-ghost use Rattle.census_packets.specs.Inner.{asHeaders, IfSound, Numbered, AllNumbered};
+ghost use Rattle.census_packets.specs.Inner.{asHeaders, IfSound, AllNumbered};
 
 // The fresh session of a recording and the byte place of its first frame packet, or the number of the first refused header.
 pub enum HeadersAnswer {
@@ -58,15 +58,6 @@ pub fn read_headers(lengths: &[u64], packets: &[u8], table: &mut [u8]) -> Header
         IdentificationAnswer::Accepted(s) => read_setup(s, lengths, packets, table),
         IdentificationAnswer::Refused(k, _) => HeadersAnswer::Refused(k),
     }
-}
-
-// Adds so many refusals by one number.
-pub fn add_refusals(running: Running, k: u32, n: u64) -> Running
-    requires { ⌜ Numbered k ⌝ }
-    ensures { λ r. ⌜ ((l : List ℕ) → Runs running l → Runs r (plus l (refusalAdds k n))) ⌝ }
-{
-    let at = 2 + k as usize;
-    report::add_at(running, at, n)
 }
 
 // Adds an accepted packet of a kind, with its counts.
@@ -125,7 +116,7 @@ pub fn add_packet(running: Running, answer: FrameAnswer, counts: Counts) -> Runn
 {
     let verdict = answer.verdict;
     match verdict {
-        Verdict::Refused(k, _) => add_refusals(running, k, 1),
+        Verdict::Refused(k, _) => report::add_refusals(running, k, 1),
         Verdict::Accepted(_) => {
             let header = answer.header;
             let kind = header.kind;

@@ -27,9 +27,10 @@ use Rattle.tile_map.specs.Tiles.{mapLength, tileMap, IsTile}
 use Rattle.tile_map.specs.Quiet.{IsOne, Quiet, Kept}
 use Rattle.tile_map.proofs.Said.{map-length, byte-two, differs-1, one-differs}
 use Rattle.tile_map.proofs.Quiet.{quiet-tile, tile-eights}
-use Rattle.changed_tiles.specs.Call.{mapLengthOf, acceptedMap, mapAfter, mapFits, refusedBy, frameFor, tilesDone, tilesCall}
+use Rattle.changed_tiles.specs.Call.{mapFits, refusedBy, frameFor, tilesDone, tilesCall}
+use Rattle.map_update.specs.Map.{mapLengthOf, acceptedMap, mapAfter}
 use Rattle.changed_tiles.specs.Said.{AcceptedCall, byteAt, IsTileOf, QuietTile, QuietIsZero, RepeatIsZero, FirstIsOne, SaysChange, ChangeIsSaid, ZeroOrOne, RefusalLeaves, MapIsLeft}
-use Rattle.changed_tiles.proofs.Calls.{settings-tile, settings-plane, accepted-first, accepted-compared}
+use Rattle.map_update.proofs.Maps.{settings-tile, settings-plane, accepted-first, accepted-compared}
 
 -- what demand 3 says of the turn of one call
 kept-by : (st : State) (c : Call) → UncodedKept (turn st c (byRules firstWay st c))

@@ -14,7 +14,8 @@ use Rattle.reading.specs.Answer.{Asked}
 use Rattle.decoding.specs.Answer.{State, picture}
 use Rattle.theora.specs.Call.{Call, outcomeOf}
 use Rattle.tile_map.specs.Quiet.{IsOne, InTile, InPlane, Differs, Quiet}
-use Rattle.changed_tiles.specs.Call.{mapLengthOf, mapFits, tilesCall}
+use Rattle.changed_tiles.specs.Call.{mapFits, tilesCall}
+use Rattle.map_update.specs.Map.{mapLengthOf}
 
 module _ (set : Settings) (st : State) (c : Call) (map : List ℕ) where
   -- a call that is accepted: its settings and map pass, and its packet asks for a

@@ -1,30 +1,19 @@
 // Which tiles changed: a frame call that keeps a map beside the frame. It sees of the decoder what that promises.
 use headers::Session;
 use reading::FrameAnswer;
-use reading::Verdict;
 use settings::Settings;
 ghost use mathlib.Core.Path.{_≡_};
 ghost use mathlib.Core.Bool.{true};
-ghost use Rattle.headers.specs.Fits.{sessionFits};
 ghost use Rattle.settings.specs.Settings.{settingsFit};
 ghost use Rattle.work_memory.specs.Memory.{memory};
 ghost use Rattle.decoding.specs.Answer.{state, done};
 ghost use Rattle.theora.specs.Call.{call};
-ghost use Rattle.changed_tiles.specs.Call.{mapLengthOf, lengthFor, mapFits, acceptedMap, mapAfter, Lent, IfAccepted, tilesDone, tilesCall};
+ghost use Rattle.changed_tiles.specs.Call.{lengthFor, mapFits, tilesDone, tilesCall};
 
 // How many bytes a map has, or the number of the refusal.
 pub enum MapLength {
     Is(u64),
     Refused(u32, usize),
-}
-
-// How many bytes a map has.
-pub fn length_of(set: Settings, s: Session) -> u64
-    requires { ⌜ (settingsFit set ≡ true) × (sessionFits s ≡ true) ⌝ }
-    ensures { λ r. ⌜ r ≡ mapLengthOf set s ⌝ }
-{
-    let format = headers::pixel_format(s.fields.pf);
-    tile_map::map_length(format, s.fields.fmbw, s.fields.fmbh, set.plane, set.tile)
 }
 
 // The length of the map of a session's frames.
@@ -37,7 +26,7 @@ pub fn map_length(set: Settings, s: Session) -> MapLength
     if !headers::session_fits(s) {
         return MapLength::Refused(bitstream::NOT_GENUINE, 0);
     }
-    MapLength::Is(length_of(set, s))
+    MapLength::Is(map_update::length_of(set, s))
 }
 
 // Whether a map has its length. Of a session that does not fit nothing is said here: the frame call refuses it.
@@ -46,51 +35,10 @@ fn map_fits(set: Settings, s: Session, map: &[u8]) -> bool
     ensures { λ r. ⌜ r ≡ mapFits set s (now (map .entry)) ⌝ }
 {
     if headers::session_fits(s) {
-        let n = length_of(set, s);
+        let n = map_update::length_of(set, s);
         return map.len() as u64 == n;
     }
     true
-}
-
-// The map after an accepted packet: a frame without references before it is new everywhere.
-fn write_accepted(set: Settings, s: Session, previous: &[u8], new: &[u8], map: &mut [u8])
-    requires { ⌜ (settingsFit set ≡ true) × Lent set s (now previous) (now new) (now map) ⌝ }
-    ensures { λ _. ⌜ now (map .exit) ≡ acceptedMap set s (now (previous .entry)) (now (new .entry)) ⌝ }
-{
-    if s.references {
-        let format = headers::pixel_format(s.fields.pf);
-        tile_map::write_map(
-            format,
-            s.fields.fmbw,
-            s.fields.fmbh,
-            set.plane,
-            set.tile,
-            previous,
-            new,
-            map,
-        );
-        return;
-    }
-    let n = map.len();
-    buffer::fill_bytes(map, 0, n, 1);
-}
-
-// The map after a packet: a refused one leaves it.
-pub fn update_map(
-    set: Settings,
-    s: Session,
-    verdict: Verdict,
-    previous: &[u8],
-    new: &[u8],
-    map: &mut [u8],
-)
-    requires { ⌜ (settingsFit set ≡ true) × IfAccepted verdict (Lent set s (now previous) (now new) (now map)) ⌝ }
-    ensures { λ _. ⌜ now (map .exit) ≡ mapAfter set s verdict (now (previous .entry)) (now (new .entry)) (now (map .entry)) ⌝ }
-{
-    let Verdict::Accepted(_) = verdict else {
-        return;
-    };
-    write_accepted(set, s, previous, new, map);
 }
 
 // A frame call, and the map of the tiles that changed: 1 or 0 for each, row by row from the bottom.
@@ -144,6 +92,6 @@ pub fn frame(
         new,
     );
     let verdict = answer.verdict;
-    update_map(set, s, verdict, previous, new, map);
+    map_update::update_map(set, s, verdict, previous, new, map);
     answer
 }

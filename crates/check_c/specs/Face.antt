@@ -6,23 +6,8 @@ use lib.ListN.{length}
 use Rattle.bitstream.specs.Reading.{choose}
 use Rattle.bitstream.specs.Numbers.{wrongLength}
 use Rattle.work_memory.specs.Memory.{Memory}
-use Rattle.vendor_check.specs.declared.CheckAnswer.{CheckAnswer}
-use Rattle.vendor_check.specs.declared.CheckAnswer.the-variants.{Passes, Differs, Refused}
 use Rattle.vendor_check.specs.Check.{Lent, CheckLeft, checked}
-
--- the number that a call returns, and the list of what it found
-pub record Returned : Type 0 where
-  pub number : ℕ
-  pub found : List ℕ
-
-abbrev pub returned : ℕ → List ℕ → Returned
-returned k found = record { number = k; found = found }
-
--- 0, and 0 and 0: passes. 0, and 1 and n: differs at byte n. k, and 0 and a place: refused by k
-abbrev pub foundBy : CheckAnswer → Returned
-foundBy Passes = returned 0 (0 ∷ 0 ∷ [])
-foundBy (Differs n) = returned 0 (1 ∷ n ∷ [])
-foundBy (Refused k e) = returned k (0 ∷ e ∷ [])
+use Rattle.check_answer.specs.Found.{Returned, returned, foundBy}
 
 -- the same, and all else that is lent to be written
 pub record CheckReturned : Type 0 where

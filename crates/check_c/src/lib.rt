@@ -1,35 +1,9 @@
 // The face of `vendor_check` for C and other languages: include/wedgepetal.h says what the call is for.
-use vendor_check::CheckAnswer;
 ghost use mathlib.Core.Path.{_≡_};
-ghost use lib.ListN.{length};
 ghost use Rattle.work_memory.specs.Memory.{memory};
 ghost use Rattle.vendor_check.specs.Check.{lent};
-ghost use Rattle.check_c.specs.Face.{foundBy, returned, checkGives, checkFace};
-
-// The number that the call returns, and what it found: 0 and 0 where the file passes, 1 and the byte at which it differs, or 0 and
-// the place of a refusal.
-fn return_check(answer: CheckAnswer, found: &mut [u64]) -> u32
-    requires { ⌜ length (now found) ≡ 2 ⌝ }
-    ensures { λ r. ⌜ returned r (now (found .exit)) ≡ foundBy answer ⌝ }
-{
-    match answer {
-        CheckAnswer::Passes => {
-            found[0] = 0;
-            found[1] = 0;
-            0
-        }
-        CheckAnswer::Differs(n) => {
-            found[0] = 1;
-            found[1] = n;
-            0
-        }
-        CheckAnswer::Refused(k, e) => {
-            found[0] = 0;
-            found[1] = e as u64;
-            k
-        }
-    }
-}
+ghost use Rattle.check_c.specs.Face.{checkGives, checkFace};
+ghost use Rattle.check_answer.specs.Found.{returned};
 
 // Checks a file against two headers and packets.
 #[no_mangle]
@@ -82,7 +56,7 @@ pub extern "C" fn wedgepetal_check(
             third,
             answers,
         );
-        return return_check(answer, found);
+        return check_answer::return_check(answer, found);
     }
     bitstream::WRONG_LENGTH
 }

@@ -10,9 +10,10 @@ use Rattle.block_record.specs.declared.Prediction.{Prediction}
 use Rattle.block_record.specs.declared.Prediction.the-variants.{None, Previous}
 use Rattle.block_record.specs.Record.{referenceOf, uncoded}
 use Rattle.ways.specs.Loops.{upTo}
-use Rattle.dc_prediction.specs.Means.{far, meanLDlD, meanLDr, meanDlDDr, meanOfTwo, kept, replaced}
-use Rattle.dc_prediction.specs.Neighbours.{neighbourAt, neighbourBack, predicted}
-use Rattle.dc_prediction.specs.Planes.{prediction, codedStep, blockStep, row, plane}
+use Rattle.dc_neighbours.specs.Means.{far, meanLDlD, meanLDr, meanDlDDr, meanOfTwo, kept, replaced}
+use Rattle.dc_neighbours.specs.Neighbours.{neighbourAt, neighbourBack, predicted}
+use Rattle.dc_prediction.specs.Planes.{codedStep, blockStep, row, plane}
+use Rattle.dc_neighbours.specs.Block.{prediction}
 
 -- 29 · 10 - 26 · 20 + 29 · 30 is 640: 20. With L = 200, DL = 0, D = 200 it is 362, which is far from D: 200. -1 // 2 is 0
 replacing : (replaced (pos 10) (pos 20) (pos 30) ≡ pos 20) × (replaced (pos 200) (pos 0) (pos 200) ≡ pos 200) × (meanOfTwo (negsuc 0) (pos 0) ≡ pos 0)

@@ -11,8 +11,9 @@ use Rattle.block_record.specs.declared.BlockRecord.{BlockRecord}
 use Rattle.block_record.specs.Packed.{unpacked}
 use Rattle.block_record.proofs.Laws.{unpacked-at}
 use Rattle.ways.specs.Loops.{upTo}
-use Rattle.dc_prediction.specs.Planes.{DcState, blockStep, row, NoneCoded}
-use Rattle.dc_prediction.proofs.Steps.{both-true}
+use Rattle.dc_prediction.specs.Planes.{blockStep, row, NoneCoded}
+use Rattle.dc_neighbours.specs.Block.{DcState}
+use Rattle.dc_neighbours.proofs.Steps.{both-true}
 
 module _ (ns : List ℕ) (start : ℕ) where
   pub none-first : NoneCoded ns start 0

@@ -1,3 +1,1 @@
-pub mod Means
-pub mod Neighbours
 pub mod Planes

@@ -1,5 +1,5 @@
 -- DC prediction of a frame: the blocks of each plane in raster order, by their raster numbers.
-use mathlib.Core.Bool.{Bool, true, false, cond, _&&_}
+use mathlib.Core.Bool.{Bool, true, false, cond}
 use mathlib.Core.List.{List, [], _∷_}
 use mathlib.Core.Path.{_≡_}
 use Prim.Native.Nat.{ℕ, _+_, _-_, _*_, _≤_, _<_}
@@ -11,36 +11,19 @@ use Rattle.block_record.specs.declared.BlockRecord.{BlockRecord}
 use Rattle.block_record.specs.Record.{referenceOf}
 use Rattle.block_record.specs.Packed.{unpacked}
 use Rattle.ways.specs.Loops.{upTo}
-use Rattle.dc_prediction.specs.declared.LastDc.{LastDc}
-use Rattle.dc_prediction.specs.Neighbours.{recordAt, neighbourBack, predicted}
-
--- the DC of every block, by raster number, and the last DC of each reference
-pub record DcState : Type 0 where
-  pub dc : List ℤ
-  pub last : LastDc
-
-abbrev pub stateOf : List ℤ → LastDc → DcState
-stateOf dc last = record { dc = dc; last = last }
+use Rattle.dc_neighbours.specs.declared.LastDc.{LastDc}
+use Rattle.dc_neighbours.specs.Neighbours.{recordAt}
+use Rattle.dc_neighbours.specs.Block.{DcState, stateOf, prediction}
 
 -- "at first 0"
 abbrev pub atFirst : LastDc
 atFirst = record { values = pos 0 ∷ pos 0 ∷ pos 0 ∷ [] }
 
 module _ (records : List BlockRecord) where
-  -- the prediction of block b, which is number x of its row, for the reference r; the row has `across` blocks, and `below` says whether a row lies below it
-  unfoldable pub prediction : ℕ → Bool → ℕ → ℕ → ℕ → DcState → ℤ
-  prediction across below b x r s =
-      predicted
-      (neighbourBack records (s .dc) r (ltb 0 x) b 1)
-      (neighbourBack records (s .dc) r (below && ltb 0 x) b (across + 1))
-      (neighbourBack records (s .dc) r below b across)
-      (neighbourBack records (s .dc) r (below && ltb (x + 1) across) b (across - 1))
-      (getD (s .last .values) r (pos 0))
-
   -- a coded block: "The sum is cut to 16 bits", and is the last DC of its reference r
   unfoldable pub codedStep : ℕ → Bool → ℕ → ℕ → ℕ → DcState → DcState
   codedStep across below b x r s =
-      let v = cut (getD (s .dc) b (pos 0) +ℤ prediction across below b x r s) in
+      let v = cut (getD (s .dc) b (pos 0) +ℤ prediction records across below b x r s) in
       stateOf (set (s .dc) b v) (record { values = set (s .last .values) r v })
 
   -- block x of the row that starts with block number `start`
@@ -62,14 +45,6 @@ module _ (records : List BlockRecord) where
   predictedDc across up chromaAcross chromaUp dc =
       plane (up * across + chromaUp * chromaAcross) chromaAcross chromaUp
       (plane (up * across) chromaAcross chromaUp (plane 0 across up dc))
-
--- where a block and its neighbours lie, for a list of n numbers
-pub record Within (across : ℕ) (below : Bool) (b x n : ℕ) : Type 0 where
-  pub inside : b < n
-  pub narrow : across ≤ n
-  pub in-row : x < across
-  pub left : x ≤ b
-  pub under : below ≡ true → across + x ≤ b
 
 -- a row lies in lists of n and m numbers, with the row below it
 pub record RowFits (start across : ℕ) (below : Bool) (n m : ℕ) : Type 0 where

@@ -90,7 +90,7 @@ fn make(
     load_matrices(table, loaded.parameters, qis, number, &mut matrices);
     let first = qis[0] as usize;
     let limit = loaded.limits[first] as u32;
-    reconstruct::make_frame(
+    making::make_frame(
         new,
         golden,
         previous,

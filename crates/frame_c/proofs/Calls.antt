@@ -9,25 +9,15 @@ use lib.ListN.{length, getD, set, length-set}
 use lib.Seq.{getD-set-same, getD-set-other}
 use borrow.Author.Tests.{eq-eqb, ne-eqb}
 use Rattle.headers.specs.declared.Session.{Session}
-use Rattle.frame_header.specs.declared.Header.{Header}
 use Rattle.frame_header.specs.declared.Kind.{Kind}
 use Rattle.frame_header.specs.declared.Kind.the-variants.{Intra, Inter, Repeat}
 use Rattle.ways.specs.Ways.{firstWay}
-use Rattle.reading.specs.declared.Verdict.{Verdict}
-use Rattle.reading.specs.Answer.{sessionAfter, answerNumbers}
+use Rattle.reading.specs.Answer.{sessionAfter}
 use Rattle.decoding.specs.Answer.{Done, state}
 use Rattle.theora.specs.Call.{Call, byRules}
 use Rattle.session_list.specs.List.{Answered, answers, sessionOf, listsNumber}
-use Rattle.frame_c.specs.Face.{referenceNumber, sessionNumbers, verdictReturned, frameGives, frameCall}
-
--- the lists after a frame, from what `reading::store_answer` and `reference_number` leave and answer
-module _ (session : List ℕ) (h : Header) (next : Session) {v : Verdict} {l : List ℕ} (s : l ≡ answerNumbers v h) where
-  pub frame-accepted : {n t : ℕ} → v ≡ Verdict.Accepted t → n ≡ referenceNumber (h .kind) (getD session 16 0)
-      → answers 0 (set (set (set session 16 n) 17 (next .«key_frames»)) 18 (next .others)) l ≡ verdictReturned session h next v
-  frame-accepted e m = rw (s, e, m)
-
-  pub frame-refused : {k e : ℕ} → v ≡ Verdict.Refused k e → answers k session l ≡ verdictReturned session h next v
-  frame-refused e = rw (s, e)
+use Rattle.frame_c.specs.Face.{frameGives, frameCall}
+use Rattle.answer_lists.specs.FrameLists.{sessionNumbers, verdictReturned}
 
 -- a frame call that is made on the session s of the list, and one whose lists are refused
 module _ (session old golden previous : List ℕ) (c : Call) {k : ℕ} (e : k ≡ listsNumber 8 session (length old)) where

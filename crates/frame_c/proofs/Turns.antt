@@ -16,7 +16,8 @@ use Rattle.theora.specs.Call.{Call, outcomeOf, byRules}
 use Rattle.theora.specs.Demand.{turn, turns}
 use Rattle.theora.proofs.KeyFrames.{after-session}
 use Rattle.session_list.specs.List.{sessionOf, listsNumber}
-use Rattle.frame_c.specs.Face.{referenceNumber, verdictReturned, FrameReturned, stateOf, doneReturned, frameCall}
+use Rattle.frame_c.specs.Face.{FrameReturned, stateOf, doneReturned, frameCall}
+use Rattle.answer_lists.specs.FrameLists.{referenceNumber, verdictReturned}
 use Rattle.frame_c.specs.Turns.{FaceCall, AnswersFit, SameTurns, FaceTurns}
 use Rattle.frame_c.proofs.Calls.{session-handed}
 

@@ -2,34 +2,14 @@
 use Prim.Native.Nat.{ℕ}
 use mathlib.Core.List.{List}
 use lib.Dec.{eqb}
-use lib.ListN.{length, getD, set}
+use lib.ListN.{length}
 use Rattle.bitstream.specs.Reading.{choose}
-use Rattle.headers.specs.declared.Session.{Session}
 use Rattle.session_list.specs.List.{Answered, answers, sessionOf, listsNumber}
-use Rattle.frame_header.specs.declared.Header.{Header}
-use Rattle.frame_header.specs.declared.Kind.{Kind}
-use Rattle.frame_header.specs.declared.Kind.the-variants.{Intra, Inter, Repeat}
 use Rattle.ways.specs.Ways.{firstWay}
 use Rattle.work_memory.specs.Memory.{Memory}
-use Rattle.reading.specs.declared.Verdict.{Verdict}
-use Rattle.reading.specs.Answer.{answerNumbers}
 use Rattle.decoding.specs.Answer.{State, Done, state}
 use Rattle.theora.specs.Call.{Call, byRules}
-
--- an intra frame sets the reference flag, other packets leave it: the flag's number, from what it was
-abbrev pub referenceNumber : Kind → ℕ → ℕ
-referenceNumber Intra old = 1
-referenceNumber Inter old = old
-referenceNumber Repeat old = old
-
--- the session's list after an accepted packet of a kind, which leaves the session s
-abbrev pub sessionNumbers : Kind → Session → List ℕ → List ℕ
-sessionNumbers kind s session = set (set (set session 16 (referenceNumber kind (getD session 16 0))) 17 (s .«key_frames»)) 18 (s .others)
-
--- the numbers of the answer, also of a refusal; the session with its flag and its two numbers set anew, or as it was
-abbrev pub verdictReturned : (session : List ℕ) → Header → Session → Verdict → Answered
-verdictReturned session h s (Verdict.Accepted t) = answers 0 (sessionNumbers (h .kind) s session) (answerNumbers (Verdict.Accepted t) h)
-verdictReturned session h s (Verdict.Refused k e) = answers k session (answerNumbers (Verdict.Refused k e) h)
+use Rattle.answer_lists.specs.FrameLists.{verdictReturned}
 
 -- the same, and all else that is lent to be written: new and work memory
 pub record FrameReturned : Type 0 where

@@ -1,46 +1,9 @@
 // The frame call for C and other languages, alone in its crate since it passes many slices: include/wedgepetal.h says what it is for.
-use frame_header::Kind;
-use reading::FrameAnswer;
-use reading::Verdict;
 ghost use mathlib.Core.Path.{_≡_};
-ghost use lib.ListN.{length};
 ghost use Rattle.session_list.specs.List.{answers};
 ghost use Rattle.work_memory.specs.Memory.{memory};
 ghost use Rattle.theora.specs.Call.{call};
-ghost use Rattle.frame_c.specs.Face.{referenceNumber, verdictReturned, frameGives, frameCall};
-
-// The reference number of a session after an accepted frame.
-fn reference_number(kind: Kind, before: u64) -> u64
-    ensures { λ r. ⌜ r ≡ referenceNumber kind before ⌝ }
-{
-    match kind {
-        Kind::Intra => 1,
-        Kind::Inter => before,
-        Kind::Repeat => before,
-    }
-}
-
-// What the answer of a frame returns, and what it leaves in the lists of the session and of the answer.
-pub fn return_frame(answer: FrameAnswer, session: &mut [u64], list: &mut [u64]) -> u32
-    requires { ⌜ (length (now session) ≡ 19) × (length (now list) ≡ 8) ⌝ }
-    ensures { λ r. ⌜ answers r (now (session .exit)) (now (list .exit)) ≡ verdictReturned (now (session .entry)) (answer .header) (answer .session) (answer .verdict) ⌝ }
-{
-    let header = answer.header;
-    let kind = header.kind;
-    let next = answer.session;
-    let verdict = answer.verdict;
-    reading::store_answer(verdict, header, list);
-    match verdict {
-        Verdict::Accepted(_) => {
-            let before = session[16];
-            session[16] = reference_number(kind, before);
-            session[17] = next.key_frames;
-            session[18] = next.others;
-            0
-        }
-        Verdict::Refused(k, _) => k,
-    }
-}
+ghost use Rattle.frame_c.specs.Face.{frameGives, frameCall};
 
 // Decodes a frame packet into new.
 #[no_mangle]
@@ -88,7 +51,7 @@ pub extern "C" fn wedgepetal_frame(
             previous,
             new,
         );
-        return return_frame(done, session, answer);
+        return answer_lists::return_frame(done, session, answer);
     }
     k
 }

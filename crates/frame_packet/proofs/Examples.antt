@@ -26,7 +26,8 @@ use Rattle.coded_flags.specs.Coded.{order, flagged, codedBlocks, codedLuma, set
 use Rattle.modes.specs.Modes.{mode, sentAlphabet, lumaCoded, modeOf, modesFrom, macroModes}
 use Rattle.block_record.specs.declared.Prediction.the-variants.{Previous}
 use Rattle.vectors.specs.Component.{added, shortest, width, least, variable, byCode, component, vector}
-use Rattle.vectors.specs.Motion.{still, ifCoded, row, lastRead, movingFour, motion, lumaVector, fourVector, predictionOf}
+use Rattle.vectors.specs.Motion.{motion, ifCoded, row, movingFour, lumaVector, fourVector, predictionOf}
+use Rattle.motion.specs.Kept.{still, lastRead}
 use Rattle.vectors.specs.Vectors.{numberIn, codedIn, predictedAt, predictedFrom, macroBlock, macroBlocks, vectors}
 use Rattle.block_qi.specs.BlockQi.{qiSteps, blockQi}
 use Rattle.numeric.specs.Sign.{withSign}

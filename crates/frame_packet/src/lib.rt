@@ -13,6 +13,7 @@ ghost use Rattle.bitstream.specs.Bits.{longest};
 ghost use Rattle.bitstream.specs.Reading.{bind, got, refused, choose};
 ghost use Rattle.geometry.specs.Sizes.{blocksOf, superBlocksOf, macroBlocksOf, largest};
 ghost use Rattle.bitstream.specs.Lists.{Once, AllBelow};
+ghost use Rattle.bitstream.specs.Numbers.{noReferences};
 ghost use Rattle.bitstream.specs.Answer.{Stored, StoredAs, asEnd};
 ghost use Rattle.block_record.specs.Packed.{packed};
 ghost use Rattle.block_record.specs.Memory.{AllPacked, recordsOf};
@@ -269,7 +270,7 @@ fn refusal(k: u32, e: usize) -> FrameRead
 
 // An empty packet.
 fn read_empty(references: bool, format: PixelFormat, w: u64, h: u64) -> FrameRead
-    ensures { λ r. ⌜ r ≡ asFrame (choose references (got (repeatFrame format w h) 0) (refused 9 0)) ⌝ }
+    ensures { λ r. ⌜ r ≡ asFrame (choose references (got (repeatFrame format w h) 0) (refused noReferences 0)) ⌝ }
 {
     if references {
         return FrameRead {
@@ -281,7 +282,7 @@ fn read_empty(references: bool, format: PixelFormat, w: u64, h: u64) -> FrameRea
             },
         };
     }
-    refusal(9, 0)
+    refusal(bitstream::NO_REFERENCES, 0)
 }
 
 // A frame packet, read to its end. The modes stay.

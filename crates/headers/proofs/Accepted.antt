@@ -8,13 +8,15 @@ use borrow.Author.Tests.{lt-ltb}
 use Rattle.bitstream.specs.Reading.{Outcome, got, refused, after, field, judged}
 use Rattle.bitstream.proofs.Fields.{no-mix, field-lt}
 use Rattle.headers.specs.declared.Session.{Session}
-use Rattle.headers.specs.declared.FrameSize.{FrameSize}
+use Rattle.header_fields.specs.declared.FrameSize.{FrameSize}
 use Rattle.headers.specs.declared.Rates.{Rates}
 use Rattle.headers.specs.declared.Coding.{Coding}
-use Rattle.headers.specs.Judgement.{isExactly, isPositive, isAtMost, isFormat, commonHeader}
-use Rattle.headers.specs.Identification.{version, frameSize, rates, coding, freshSession, identification}
+use Rattle.headers.specs.Judgement.{commonHeader}
+use Rattle.header_fields.specs.Tests.{isExactly, isPositive, isAtMost, isFormat}
+use Rattle.headers.specs.Identification.{rates, coding, freshSession, identification}
+use Rattle.header_fields.specs.Frame.{version, frameSize}
 use Rattle.headers.specs.Fits.{within, all, widthsFit, pictureInside, rangesHold, withinShift, sessionFits}
-use Rattle.headers.proofs.Judged.{judged-got}
+use Rattle.header_fields.proofs.Answers.{judged-got}
 
 -- what a reading that got a value went through: a part of it, a field, a judged field
 after-got : {A B : Type 0} (o : Outcome A) (g : A → ℕ → Outcome B) {b : B} {e : ℕ} → after o g ≡ got b e → (a : A) × (d : ℕ) × (o ≡ got a d) × (g a d ≡ got b e)

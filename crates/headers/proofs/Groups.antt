@@ -9,14 +9,15 @@ use Rattle.bitstream.specs.Reading.{Outcome, got, refused}
 use Rattle.bitstream.proofs.Laws.{Lawful, lawful}
 use Rattle.bitstream.proofs.Inside.{Inside, inside, Refuses, refuses}
 use Rattle.bitstream.proofs.Spends.{Spends, pure-spends, bind-spends, field-spends, judged-spends}
-use Rattle.headers.specs.declared.FrameSize.{FrameSize}
-use Rattle.headers.specs.declared.FrameSizeAnswer.{FrameSizeAnswer}
+use Rattle.header_fields.specs.declared.FrameSize.{FrameSize}
+use Rattle.header_fields.specs.declared.FrameSizeAnswer.{FrameSizeAnswer}
 use Rattle.headers.specs.declared.Rates.{Rates}
 use Rattle.headers.specs.declared.RatesAnswer.{RatesAnswer}
 use Rattle.headers.specs.declared.Coding.{Coding}
 use Rattle.headers.specs.declared.CodingAnswer.{CodingAnswer}
-use Rattle.headers.specs.Judgement.{isExactly, isPositive, isAtMost, isFormat}
-use Rattle.headers.specs.Identification.{version, frameSize, rates, coding, identification, asFrameSize, asRates, asCoding}
+use Rattle.header_fields.specs.Tests.{isExactly, isPositive, isAtMost, isFormat}
+use Rattle.headers.specs.Identification.{rates, coding, identification, asRates, asCoding}
+use Rattle.header_fields.specs.Frame.{version, frameSize, asFrameSize}
 use Rattle.headers.proofs.Judged.{commonHeader-lawful, commonHeader-inside, commonHeader-refuses, commonHeader-spends}
 
 -- ---- what an answer says of the outcome o, by its arm

@@ -5,7 +5,7 @@ use mathlib.Core.List.{List, [], _∷_}
 use lib.Dec.{ltb}
 use Rattle.headers.specs.declared.Fields.{Fields}
 use Rattle.headers.specs.declared.Session.{Session}
-use Rattle.headers.specs.Judgement.{isPositive, isAtMost, isFormat}
+use Rattle.header_fields.specs.Tests.{isPositive, isAtMost, isFormat}
 
 -- a value of n bits
 abbrev pub within : ℕ → ℕ → Bool

@@ -1,35 +1,18 @@
 -- The identification header, field by field.
-use Prim.Native.Nat.{ℕ, _-_, _*_}
+use Prim.Native.Nat.{ℕ, _-_}
 use mathlib.Core.Bool.{false}
 use Rattle.bitstream.specs.Reading.{Outcome, got, refused, Parse, pure, bind, field, _>>=_, _>>_}
-use Rattle.bitstream.specs.Numbers.{otherVersion, badFormat}
+use Rattle.bitstream.specs.Numbers.{badFormat}
 use Rattle.headers.specs.declared.Session.{Session}
-use Rattle.headers.specs.declared.FrameSize.{FrameSize}
-use Rattle.headers.specs.declared.FrameSizeAnswer.{FrameSizeAnswer}
+use Rattle.header_fields.specs.declared.FrameSize.{FrameSize}
 use Rattle.headers.specs.declared.Rates.{Rates}
 use Rattle.headers.specs.declared.RatesAnswer.{RatesAnswer}
 use Rattle.headers.specs.declared.Coding.{Coding}
 use Rattle.headers.specs.declared.CodingAnswer.{CodingAnswer}
 use Rattle.headers.specs.declared.IdentificationAnswer.{IdentificationAnswer}
-use Rattle.headers.specs.Judgement.{exactly, positive, atMost, formatCode, commonHeader}
-
--- "VMAJ 8, VMIN 8, VREV 8 (any)"; "VMAJ is not 3, or VMIN is not 2" is number 3
-unfoldable pub version : Parse ℕ
-version = do
-  vmaj ← exactly 8 3 otherVersion
-  vmin ← exactly 8 2 otherVersion
-  field 8
-
--- "FMBW 16, FMBH 16 (both > 0), PICW 24 ≤ 16·FMBW, PICH 24 ≤ 16·FMBH, PICX 8 ≤ 16·FMBW−PICW, PICY 8 ≤ 16·FMBH−PICH"
-unfoldable pub frameSize : Parse FrameSize
-frameSize = do
-  fmbw ← positive 16
-  fmbh ← positive 16
-  picw ← atMost 24 (16 * fmbw)
-  pich ← atMost 24 (16 * fmbh)
-  picx ← atMost 8 (16 * fmbw - picw)
-  picy ← atMost 8 (16 * fmbh - pich)
-  pure (record { fmbw = fmbw; fmbh = fmbh; picw = picw; pich = pich; picx = picx; picy = picy })
+use Rattle.headers.specs.Judgement.{commonHeader}
+use Rattle.header_fields.specs.Tests.{exactly, positive, formatCode}
+use Rattle.header_fields.specs.Frame.{version, frameSize}
 
 -- "FRN 32, FRD 32 (both > 0), PARN 24, PARD 24, CS 8 (any)"
 unfoldable pub rates : Parse Rates
@@ -86,11 +69,6 @@ identification = do
   r ← rates
   c ← coding
   pure (freshSession v f r c)
-
--- the answers
-abbrev pub asFrameSize : Outcome FrameSize → FrameSizeAnswer
-asFrameSize (got f e) = FrameSizeAnswer.Is f e
-asFrameSize (refused k e) = FrameSizeAnswer.Refused k e
 
 abbrev pub asRates : Outcome Rates → RatesAnswer
 asRates (got r e) = RatesAnswer.Is r e

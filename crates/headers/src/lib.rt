@@ -3,15 +3,18 @@ use bitstream::End;
 use bitstream::Field;
 use geometry::FrameSizes;
 use geometry::PixelFormat;
+use header_fields::FrameSizeAnswer;
+use header_fields::Value;
 ghost use Rattle.bitstream.specs.Bits.{longest};
 ghost use mathlib.Core.Path.{_≡_};
-ghost use Prim.Native.Nat.{ℕ, _≤_, _<_, _^_};
+ghost use Prim.Native.Nat.{_≤_, _<_, _^_};
 ghost use lib.ListN.{length};
-ghost use Rattle.bitstream.specs.Answer.{asField, asEnd};
-ghost use Rattle.headers.specs.Judgement.{exactly, positive, atMost, formatCode, commonHeader};
-ghost use Rattle.headers.specs.Identification.{version, frameSize, rates, coding, identification, asFrameSize, asRates, asCoding, asIdentification};
+ghost use Rattle.bitstream.specs.Answer.{asEnd};
+ghost use Rattle.headers.specs.Judgement.{commonHeader};
+ghost use Rattle.headers.specs.Identification.{rates, coding, identification, asRates, asCoding, asIdentification};
 ghost use Rattle.headers.specs.Fits.{widthsFit, pictureInside, rangesHold, sessionFits, withinShift};
 ghost use Rattle.headers.specs.Sizes.{formatOf, sessionSizes};
+
 // The identification fields, under the specification's names.
 pub struct Fields {
     pub vrev: u64,
@@ -47,72 +50,6 @@ pub enum IdentificationAnswer {
     Refused(u32, usize),
 }
 
-// A value that was read, and the place behind it.
-struct Value {
-    is: u32,
-    next: usize,
-}
-
-// `width` bits that must be `want`, else number k.
-fn read_exactly(packet: &[u8], at: usize, width: usize, want: u32, k: u32) -> Field
-    requires { ⌜ (length (now packet) ≤ longest) × (width ≤ 32) ⌝ }
-    ensures { λ r. ⌜ r ≡ asField (exactly width want k (now (packet .entry)) at) ⌝ }
-{
-    let field = bitstream::read(packet, at, width);
-    let Field::Got(value, _) = field else {
-        return field;
-    };
-    if value != want {
-        return Field::Refused(k, at);
-    }
-    field
-}
-
-// `width` bits that must be above 0, else number 5.
-fn read_positive(packet: &[u8], at: usize, width: usize) -> Field
-    requires { ⌜ (length (now packet) ≤ longest) × (width ≤ 32) ⌝ }
-    ensures { λ r. ⌜ r ≡ asField (positive width (now (packet .entry)) at) ⌝ }
-{
-    let field = bitstream::read(packet, at, width);
-    let Field::Got(value, _) = field else {
-        return field;
-    };
-    if value <= 0 {
-        return Field::Refused(bitstream::OUT_OF_RANGE, at);
-    }
-    field
-}
-
-// `width` bits that must be at most `most`, else number 5.
-fn read_at_most(packet: &[u8], at: usize, width: usize, most: u32) -> Field
-    requires { ⌜ (length (now packet) ≤ longest) × (width ≤ 32) ⌝ }
-    ensures { λ r. ⌜ r ≡ asField (atMost width most (now (packet .entry)) at) ⌝ }
-{
-    let field = bitstream::read(packet, at, width);
-    let Field::Got(value, _) = field else {
-        return field;
-    };
-    if most < value {
-        return Field::Refused(bitstream::OUT_OF_RANGE, at);
-    }
-    field
-}
-
-// `width` bits that must not be 1, else number 6.
-fn read_format_code(packet: &[u8], at: usize, width: usize) -> Field
-    requires { ⌜ (length (now packet) ≤ longest) × (width ≤ 32) ⌝ }
-    ensures { λ r. ⌜ r ≡ asField (formatCode width (now (packet .entry)) at) ⌝ }
-{
-    let field = bitstream::read(packet, at, width);
-    let Field::Got(value, _) = field else {
-        return field;
-    };
-    if value == 1 {
-        return Field::Refused(bitstream::BAD_FORMAT, at);
-    }
-    field
-}
-
 // What every header begins with: its type byte, and "theora".
 pub fn read_common_header(packet: &[u8], at: usize, mark: u32) -> End
     requires { ⌜ length (now packet) ≤ longest ⌝ }
@@ -122,85 +59,13 @@ pub fn read_common_header(packet: &[u8], at: usize, mark: u32) -> End
     let mut place = at;
     let mut i = 0;
     while i < 7 {
-        match read_exactly(packet, place, 8, wanted[i], bitstream::OTHER_HEADER) {
+        match header_fields::read_exactly(packet, place, 8, wanted[i], bitstream::OTHER_HEADER) {
             Field::Got(_, next) => place = next,
             Field::Refused(k, e) => return End::Refused(k, e),
         }
         i += 1;
     }
     End::At(place)
-}
-
-fn read_version(packet: &[u8], at: usize) -> Field
-    requires { ⌜ length (now packet) ≤ longest ⌝ }
-    ensures { λ r. ⌜ r ≡ asField (version (now (packet .entry)) at) ⌝ }
-{
-    let vmaj = match read_exactly(packet, at, 8, 3, bitstream::OTHER_VERSION) {
-        Field::Got(is, next) => Value { is, next },
-        Field::Refused(k, e) => return Field::Refused(k, e),
-    };
-    let vmin = match read_exactly(packet, vmaj.next, 8, 2, bitstream::OTHER_VERSION) {
-        Field::Got(is, next) => Value { is, next },
-        Field::Refused(k, e) => return Field::Refused(k, e),
-    };
-    bitstream::read(packet, vmin.next, 8)
-}
-
-struct FrameSize {
-    fmbw: u64,
-    fmbh: u64,
-    picw: u64,
-    pich: u64,
-    picx: u64,
-    picy: u64,
-}
-
-enum FrameSizeAnswer {
-    Is(FrameSize, usize),
-    Refused(u32, usize),
-}
-
-fn read_frame_size(packet: &[u8], at: usize) -> FrameSizeAnswer
-    requires { ⌜ length (now packet) ≤ longest ⌝ }
-    ensures { λ r. ⌜ r ≡ asFrameSize (frameSize (now (packet .entry)) at) ⌝ }
-{
-    let fmbw = match read_positive(packet, at, 16) {
-        Field::Got(is, next) => Value { is, next },
-        Field::Refused(k, e) => return FrameSizeAnswer::Refused(k, e),
-    };
-    let fmbh = match read_positive(packet, fmbw.next, 16) {
-        Field::Got(is, next) => Value { is, next },
-        Field::Refused(k, e) => return FrameSizeAnswer::Refused(k, e),
-    };
-    let across = 16 * fmbw.is;
-    let up = 16 * fmbh.is;
-    let picw = match read_at_most(packet, fmbh.next, 24, across) {
-        Field::Got(is, next) => Value { is, next },
-        Field::Refused(k, e) => return FrameSizeAnswer::Refused(k, e),
-    };
-    let pich = match read_at_most(packet, picw.next, 24, up) {
-        Field::Got(is, next) => Value { is, next },
-        Field::Refused(k, e) => return FrameSizeAnswer::Refused(k, e),
-    };
-    let picx = match read_at_most(packet, pich.next, 8, across - picw.is) {
-        Field::Got(is, next) => Value { is, next },
-        Field::Refused(k, e) => return FrameSizeAnswer::Refused(k, e),
-    };
-    let picy = match read_at_most(packet, picx.next, 8, up - pich.is) {
-        Field::Got(is, next) => Value { is, next },
-        Field::Refused(k, e) => return FrameSizeAnswer::Refused(k, e),
-    };
-    FrameSizeAnswer::Is(
-        FrameSize {
-            fmbw: fmbw.is as u64,
-            fmbh: fmbh.is as u64,
-            picw: picw.is as u64,
-            pich: pich.is as u64,
-            picx: picx.is as u64,
-            picy: picy.is as u64,
-        },
-        picy.next,
-    )
 }
 
 struct Rates {
@@ -220,11 +85,11 @@ fn read_rates(packet: &[u8], at: usize) -> RatesAnswer
     requires { ⌜ length (now packet) ≤ longest ⌝ }
     ensures { λ r. ⌜ r ≡ asRates (rates (now (packet .entry)) at) ⌝ }
 {
-    let frn = match read_positive(packet, at, 32) {
+    let frn = match header_fields::read_positive(packet, at, 32) {
         Field::Got(is, next) => Value { is, next },
         Field::Refused(k, e) => return RatesAnswer::Refused(k, e),
     };
-    let frd = match read_positive(packet, frn.next, 32) {
+    let frd = match header_fields::read_positive(packet, frn.next, 32) {
         Field::Got(is, next) => Value { is, next },
         Field::Refused(k, e) => return RatesAnswer::Refused(k, e),
     };
@@ -280,11 +145,17 @@ fn read_coding(packet: &[u8], at: usize) -> CodingAnswer
         Field::Got(is, next) => Value { is, next },
         Field::Refused(k, e) => return CodingAnswer::Refused(k, e),
     };
-    let pf = match read_format_code(packet, kfgshift.next, 2) {
+    let pf = match header_fields::read_format_code(packet, kfgshift.next, 2) {
         Field::Got(is, next) => Value { is, next },
         Field::Refused(k, e) => return CodingAnswer::Refused(k, e),
     };
-    let zero_bits = match read_exactly(packet, pf.next, 3, 0, bitstream::BAD_FORMAT) {
+    let zero_bits = match header_fields::read_exactly(
+        packet,
+        pf.next,
+        3,
+        0,
+        bitstream::BAD_FORMAT,
+    ) {
         Field::Got(is, next) => Value { is, next },
         Field::Refused(k, e) => return CodingAnswer::Refused(k, e),
     };
@@ -308,11 +179,11 @@ fn read_session(packet: &[u8]) -> IdentificationAnswer
         End::At(next) => next,
         End::Refused(k, e) => return IdentificationAnswer::Refused(k, e),
     };
-    let vrev = match read_version(packet, start) {
+    let vrev = match header_fields::read_version(packet, start) {
         Field::Got(is, next) => Value { is, next },
         Field::Refused(k, e) => return IdentificationAnswer::Refused(k, e),
     };
-    match read_frame_size(packet, vrev.next) {
+    match header_fields::read_frame_size(packet, vrev.next) {
         FrameSizeAnswer::Refused(k, e) => IdentificationAnswer::Refused(k, e),
         FrameSizeAnswer::Is(f, rates_at) => match read_rates(packet, rates_at) {
             RatesAnswer::Refused(k, e) => IdentificationAnswer::Refused(k, e),

@@ -123,7 +123,7 @@ pub extern "C" fn parts_make_frame(
         × (now (dc .exit) ≡ replicate (length (now (dc .entry))) (pos 0)) × (now (lasts .exit) ≡ replicate (length (now (lasts .entry))) 0) ⌝ }
 {
     let format = headers::pixel_format(pf);
-    reconstruct::make_frame(
+    making::make_frame(
         new,
         golden,
         previous,

@@ -1,7 +1,6 @@
 // Decodes the packet files that its arguments name. For each packet it prints the answer, and for a frame its hash.
 mod report;
 
-use frame_header::Kind;
 use headers::IdentificationAnswer;
 use headers::Session;
 use reading::FrameAnswer;
@@ -17,7 +16,6 @@ ghost use mathlib.Core.Path.{_≡_};
 ghost use Prim.Native.Nat.{_≤_, _<_};
 ghost use lib.ListN.{length};
 ghost use Rattle.io.specs.Counts.{Counts};
-ghost use Rattle.play.specs.HandOn.{HandsOn};
 
 // Memory is lent for frames of up to 96 blocks.
 const BLOCKS: usize = 96;
@@ -119,19 +117,6 @@ fn decode(
     )
 }
 
-// After an accepted frame new becomes previous, after an intra frame also golden.
-fn hand_on(kind: Kind, golden: &mut [u8], previous: &mut [u8], new: &[u8])
-    requires { ⌜ (length (now golden) ≡ length (now new)) × (length (now previous) ≡ length (now new)) ⌝ }
-    ensures { λ _. ⌜ HandsOn kind (now (golden .entry)) (now (previous .entry)) (now (new .entry)) (now (golden .exit)) (now (previous .exit)) ⌝ }
-{
-    buffer::copy(previous, new);
-    match kind {
-        Kind::Intra => buffer::copy(golden, new),
-        Kind::Inter => return,
-        Kind::Repeat => return,
-    }
-}
-
 // A packet's answer is printed and its frame handed on. The session is that for the next packet.
 fn play_packet(
     number: u64,
@@ -158,7 +143,7 @@ fn play_packet(
         Verdict::Accepted(tokens) => {
             let kind = header.kind;
             print_frame(header, tokens, new);
-            hand_on(kind, golden, previous, new);
+            player::hand_on(kind, golden, previous, new);
             next
         }
     }

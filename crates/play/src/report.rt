@@ -4,7 +4,6 @@ use frame_header::Header;
 use frame_header::Kind;
 use libc::STDOUT_FILENO;
 ghost use mathlib.Core.Path.{_≡_};
-ghost use Rattle.play.specs.Hash.{hashByte, hashOf};
 
 pub fn print(text: &[u8])
     ensures { λ _. ⌜ now (text .exit) ≡ now (text .entry) ⌝ }
@@ -25,29 +24,6 @@ pub fn print_refused(k: u32, place: usize)
     print(b" at ");
     print_number(place as u64);
     print(b"\n");
-}
-
-// The hash of one byte more. The prime is 2^40 + 435.
-fn hash_byte(hash: u64, byte: u8) -> u64
-    ensures { λ r. ⌜ r ≡ hashByte hash byte ⌝ }
-{
-    let mixed = hash ^ (byte as u64);
-    let high = mixed / 4294967296 * 435 % 4294967296 * 4294967296;
-    let low = mixed % 4294967296 * 435;
-    let sum = std::num::wrapping_add_u64(high, low);
-    std::num::wrapping_add_u64(sum, mixed % 16777216 * 1099511627776)
-}
-
-fn hash(bytes: &[u8]) -> u64
-    ensures { λ r. ⌜ r ≡ hashOf (now (bytes .entry)) ⌝ }
-{
-    let mut hash: u64 = 14695981039346656037;
-    let mut i: usize = 0;
-    while i < bytes.len() {
-        hash = hash_byte(hash, bytes[i]);
-        i += 1;
-    }
-    hash
 }
 
 fn print_kind(kind: Kind) {
@@ -88,7 +64,7 @@ pub fn print_frame(header: Header, tokens: usize, new: &[u8])
     print_kind(kind);
     print_qis(qis, header.count);
     print(b" ");
-    io::print_hex(STDOUT_FILENO, hash(new), 16);
+    io::print_hex(STDOUT_FILENO, player::hash(new), 16);
     print(b" ");
     print_number(tokens as u64);
     print(b"\n");

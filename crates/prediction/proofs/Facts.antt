@@ -1,18 +1,16 @@
 -- Where a vector leads, what is fetched there, and where a fetch that lies in the plane starts.
 -- Assumes nothing.
-use mathlib.Core.Path.{_≡_, refl, sym, ap, _∙_, subst}
+use mathlib.Core.Path.{_≡_, refl, sym, ap, _∙_}
 use mathlib.Core.Bool.{Bool, true, false, cond}
 use mathlib.Core.List.{List}
-use Prim.Native.Nat.{ℕ, zero, suc, _+_, _-_, _*_, _/_, _≤_, _<_, min}
-use native.Mathlib.Nat.{mul-mul-mul-comm, mul-le-mul}
+use Prim.Native.Nat.{ℕ, _+_, _-_, _*_, _≤_, _<_}
+use native.Mathlib.Nat.{mul-le-mul}
 use native.Mathlib.Omega.{arith}
-use native.Mathlib.Decide.{ℕ-discrete}
-use borrow.Author.Tests.{le-leb, lt-leb, ltb-true, leb-true}
-use lib.Dec.{T, leb}
-use lib.IntN.{ℤ, pos, negsuc, negℤ, natAbs, _+ℤ_, _-ℤ_}
+use borrow.Author.Tests.{le-leb, lt-leb, leb-true}
+use lib.Dec.{leb}
+use lib.IntN.{ℤ, pos, negsuc, natAbs, _+ℤ_}
 use lib.ListN.{length, getD, set, replicate, getD-replicate}
-use lib.Seq.{getD-set-same, getD-set-other}
-use lib.Signed.{ltZ, quotZ}
+use lib.Signed.{ltZ}
 use Rattle.numeric.proofs.Linear.{parts-add, ext}
 use Rattle.numeric.proofs.Magnitude.{neg-yes, neg-no}
 use Rattle.geometry.specs.declared.PixelFormat.{PixelFormat}
@@ -23,7 +21,6 @@ use Rattle.geometry.specs.Frame.{InFrame}
 use Rattle.geometry.specs.Sample.{sampleAt}
 use Rattle.geometry.proofs.SizeLaws.{plane-of-small, before-next, before-to, across-small, up-small}
 use Rattle.geometry.proofs.SampleLaws.{sample-below}
-use Rattle.geometry.proofs.Raster.{raster-below}
 use Rattle.ways.specs.Loops.{upTo}
 use Rattle.ways.specs.Corner.{rowAt, blockAt}
 use Rattle.ways.proofs.Corner.{from-corner}
@@ -31,53 +28,13 @@ use Rattle.ways.proofs.Steps.{Stays, Puts, Long, set-stays, set-puts, set-long,
 use Rattle.block_record.specs.declared.Vector.{Vector}
 use Rattle.block_record.specs.declared.Prediction.{Prediction}
 use Rattle.block_record.specs.declared.Prediction.the-variants.{None, Previous, Golden}
-use Rattle.prediction.specs.declared.Fetches.{Fetches}
+use Rattle.fetches.specs.declared.Fetches.{Fetches}
 use Rattle.prediction.specs.declared.Start.the-variants.{At, Outside}
-use Rattle.prediction.specs.Motion.{subsampledAcross, subsampledUp, steps, down, roundedUp, inside, fetch}
-use Rattle.prediction.specs.Predicted.{mean, fetched, moved, predicted, summed}
-use Rattle.prediction.specs.Block.{Small, Lies, fetchesOf, withResidual, meanAt, RowByRow, meanOf, startOf}
-
--- ---- a component of a vector
-pub quot-down : (d : ℕ) (z : ℤ) → quotZ z (pos d) ≡ down d z
-unfolding down
-quot-down d (pos n) = refl
-quot-down d (negsuc n) = refl
-
-pub quot-up : (d k : ℕ) (z : ℤ) → d ≡ suc k → ltZ z (pos 0) ≡ false → quotZ (z +ℤ pos k) (pos d) ≡ roundedUp d z
-unfolding roundedUp
-quot-up d k (pos n) e t = let h : n + k ≡ n + (d - 1) = omega arith in ap (λ (m : ℕ). pos (m / d)) h
-quot-up d k (negsuc n) e t = absurd (subst T t tt)
-
-pub quot-up-minus : (d k : ℕ) (z : ℤ) → d ≡ suc (suc k) → ltZ z (pos 0) ≡ true → quotZ (z -ℤ pos (suc k)) (pos d) ≡ roundedUp d z
-unfolding roundedUp
-quot-up-minus d k (pos n) e t = absurd (let h = ltb-true n 0 t in omega arith)
-quot-up-minus d k (negsuc n) e t = let h : suc (suc (n + k)) ≡ suc n + (d - 1) = omega arith in ap (λ (m : ℕ). negℤ (pos (m / d))) h
-
--- ---- a number brought into a plane
-module _ (size : ℕ) (z : ℤ) where
-  pub inside-below : ltZ z (pos 0) ≡ true → 0 ≡ inside size z
-  unfolding inside
-  inside-below t = sym (ap (inside size) (neg-yes z t .1))
-
-  pub inside-in : ltZ z (pos 0) ≡ false → natAbs z < size → natAbs z ≡ inside size z
-  unfolding inside
-  inside-in t h =
-      let e = neg-no z t in
-      let k : natAbs z ≡ e .0 = ap natAbs (e .1) in
-      let m : e .0 ≡ min (e .0) (size - 1) = omega arith in
-      k ∙ m ∙ sym (ap (inside size) (e .1))
-
-  pub inside-over : ltZ z (pos 0) ≡ false → size ≤ natAbs z → size - 1 ≡ inside size z
-  unfolding inside
-  inside-over t h =
-      let e = neg-no z t in
-      let k : natAbs z ≡ e .0 = ap natAbs (e .1) in
-      let m : size - 1 ≡ min (e .0) (size - 1) = omega arith in
-      m ∙ sym (ap (inside size) (e .1))
-
--- ---- a sample of a plane lies in the buffer
-pub in-plane : (q : Plane) (x y : ℕ) → x < 8 * q .across → y < 8 * q .up → y * (8 * q .across) + x < 64 * (q .up * q .across)
-in-plane q x y hx hy = omega (arith, raster-below (8 * q .across) (8 * q .up) x y hx hy, mul-mul-mul-comm 8 (q .up) 8 (q .across))
+use Rattle.fetches.specs.Motion.{subsampledAcross, subsampledUp, steps, down, roundedUp, inside, fetch}
+use Rattle.prediction.specs.Predicted.{fetched, moved, predicted, summed}
+use Rattle.prediction.specs.Block.{withResidual, meanOf, startOf}
+use Rattle.fetches.specs.Fetched.{mean, Small, Lies, fetchesOf, meanAt, RowByRow}
+use Rattle.fetches.proofs.Leads.{in-plane}
 
 pub plane-size : (q : Plane) → Small q → 64 * (q .up * q .across) ≤ 1099478073600
 plane-size q l = omega (arith, mul-le-mul (l .up-small) (l .across-small))
@@ -111,12 +68,6 @@ module _ (q : Plane) where
     pub start-at : natAbs x + 8 ≤ 8 * q .across → natAbs y + 8 ≤ 8 * q .up → At (q .offset + (natAbs y * (8 * q .across) + natAbs x)) ≡ startOf q x y
     unfolding startOf
     start-at h l = sym (start-is ∙ rw (le-leb _ _ h, le-leb _ _ l))
-
--- ---- which planes are subsampled
-pub chroma : (f g : PixelFormat) (p : ℕ) → (p ≡ 0 → ⊥) → f ≡ g → (subsampledAcross f p ≡ subsampledAcross g 1) × (subsampledUp f p ≡ subsampledUp g 1)
-unfolding subsampledAcross subsampledUp
-chroma f g zero n e = absurd (n refl)
-chroma f g (suc p) n e = (ap (λ (v : PixelFormat). subsampledAcross v 1) e, ap (λ (v : PixelFormat). subsampledUp v 1) e)
 
 -- ---- a fetch that lies in the plane
 record Inner (q : Plane) (x y : ℤ) (a : ℕ) : Type 0 where
@@ -169,14 +120,6 @@ module _ (q : Plane) (x y : ℤ) (a : ℕ) (e : startOf q x y ≡ At a) where
 -- ---- samples of a block
 pub mean-same : (n : ℕ) → mean n n ≡ n
 mean-same n = omega arith
-
--- a list of values f, one more
-pub set-each : (m : List ℕ) (f : ℕ → ℕ) (i v : ℕ) → i < length m → v ≡ f i → ((j : ℕ) → j < i → getD m j 0 ≡ f j) → (j : ℕ) → j < i + 1 → getD (set m i v) j 0 ≡ f j
-set-each m f i v l e h j k = go (ℕ-discrete j i)
-  where
-    go : Dec (j ≡ i) → getD (set m i v) j 0 ≡ f j
-    go (yes q) = ap (λ (n : ℕ). getD (set m i v) n 0) q ∙ getD-set-same m i v 0 l ∙ e ∙ ap f (sym q)
-    go (no n) = getD-set-other m i j v 0 n ∙ h j (omega arith)
 
 -- writing the same samples
 pub block-same : (f g : ℕ → ℕ → ℕ) (corner row : ℕ) (s : List ℕ) → ((c r : ℕ) → c < 8 → r < 8 → f c r ≡ g c r) → blockAt f corner row s ≡ blockAt g corner row s

@@ -10,8 +10,9 @@ use Rattle.geometry.specs.declared.PixelFormat.{PixelFormat}
 use Rattle.geometry.specs.declared.PixelFormat.the-variants.{Chroma420, Chroma422, Chroma444}
 use Rattle.geometry.specs.declared.Block.{Block}
 use Rattle.block_record.specs.declared.Vector.{Vector}
-use Rattle.prediction.specs.Motion.{subsampledAcross, subsampledUp, steps, down, roundedUp, inside}
-use Rattle.prediction.specs.Predicted.{mean, fetched, moved}
+use Rattle.fetches.specs.Motion.{subsampledAcross, subsampledUp, steps, down, roundedUp, inside}
+use Rattle.prediction.specs.Predicted.{fetched, moved}
+use Rattle.fetches.specs.Fetched.{mean}
 use Rattle.prediction.proofs.Facts.{mean-same}
 
 -- ---- a whole number of samples is rounded to itself, up or down

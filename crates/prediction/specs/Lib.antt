@@ -1,3 +1,2 @@
-pub mod Motion
 pub mod Predicted
 pub mod Block

@@ -1,6 +1,6 @@
 -- "Prediction": the sample in column c and row r of a block, as predicted and with its residual.
 use mathlib.Core.List.{List}
-use Prim.Native.Nat.{ℕ, _+_, _*_, _/_}
+use Prim.Native.Nat.{ℕ, _+_, _*_}
 use lib.IntN.{ℤ, pos, _+ℤ_}
 use lib.ListN.{getD}
 use Rattle.numeric.specs.Clamp.{clamp255}
@@ -10,11 +10,8 @@ use Rattle.geometry.specs.Sizes.{planeOf}
 use Rattle.block_record.specs.declared.Vector.{Vector}
 use Rattle.block_record.specs.declared.Prediction.{Prediction}
 use Rattle.block_record.specs.declared.Prediction.the-variants.{None, Previous, Golden}
-use Rattle.prediction.specs.Motion.{subsampledAcross, subsampledUp, steps, down, roundedUp, fetch}
-
--- "the floor of the mean"
-abbrev pub mean : ℕ → ℕ → ℕ
-mean a b = (a + b) / 2
+use Rattle.fetches.specs.Motion.{subsampledAcross, subsampledUp, steps, down, roundedUp, fetch}
+use Rattle.fetches.specs.Fetched.{mean}
 
 module _ (f : PixelFormat) (w h : ℕ) where
   -- what is fetched from a reference s for column c and row r of block b, dx samples to the right and dy up

@@ -3,7 +3,8 @@ use mathlib.Core.Path.{_≡_, refl}
 use mathlib.Core.List.{[], _∷_}
 use Rattle.bitstream.specs.Bits.{bitAt, number}
 use Rattle.bitstream.specs.Reading.{got, refused, field, judged, until}
-use Rattle.quantization.specs.Parameters.{Ranges, digits, ilog, index, rangeSize, range, newSet, origin, setFrom, moreSets, matrixCount}
+use Rattle.quantization.specs.Parameters.{Ranges, range, newSet, setFrom, moreSets, matrixCount}
+use Rattle.set_fields.specs.Fields.{digits, ilog, index, rangeSize, origin}
 
 -- "NBMS 384 passes, 385 is 7": the judging step, on the field's 9 bits
 pub nbms-384 : matrixCount (0xBF ∷ 0x80 ∷ []) 0 ≡ got 384 9

@@ -12,8 +12,10 @@ use Rattle.bitstream.specs.Reading.{Outcome, got, refused, Parse, after, pure, 
 use Rattle.bitstream.proofs.Laws.{Lawful, lawful, pure-lawful, bind-lawful, until-lawful}
 use Rattle.bitstream.proofs.Inside.{Inside, inside, pure-inside, bind-inside, until-inside, Refuses, refuses, pure-refuses, bind-refuses, until-refuses}
 use Rattle.bitstream.proofs.Spends.{Spends, spends-more, pure-spends, here-then, field-then, field-spends, judged-spends, bind-spends, bind-spends-got, bind-spends-by, pick-spends, many-spends, until-spends}
-use Rattle.quantization.specs.Parameters.{Ranges, Begun, withRange, ilog, scales, matrixCount, baseMatrix, index, rangeSize, range, newSet, origin, none, setFrom, moreSets, quantization}
-use Rattle.quantization.proofs.Steps.{ilog-le, count-range}
+use Rattle.quantization.specs.Parameters.{Ranges, Begun, withRange, scales, matrixCount, baseMatrix, range, newSet, none, setFrom, moreSets, quantization}
+use Rattle.set_fields.specs.Fields.{ilog, index, rangeSize, origin}
+use Rattle.quantization.proofs.Steps.{count-range}
+use Rattle.set_fields.proofs.Fields.{ilog-le}
 use Rattle.quantization.proofs.Sets.{Origin, origin-is}
 
 -- ---- local and firm

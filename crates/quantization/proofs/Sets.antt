@@ -8,12 +8,13 @@ use mathlib.Core.Bool.{Bool, true, false}
 use lib.Dec.{eqb, ltb, leb}
 use lib.ListN.{length, getD, take, drop, set, replicate, length-append, length-set, length-drop, length-replicate}
 use lib.Seq.{take-suc-set, drop-set-lt, drop-drop, length-take-le, paste}
-use borrow.Author.Tests.{ltb-false, eqb-false, lt-ltb, le-ltb, le-leb, lt-leb, eq-eqb, ne-eqb}
+use borrow.Author.Tests.{ltb-false, eqb-false, le-leb, lt-leb, ne-eqb}
 use borrow.Rule.Slice.PartMut.{midOf, putMid}
 use Rattle.bitstream.specs.Reading.{Outcome, got, refused, after, pure, bind, pick, choose, field, until}
 use Rattle.bitstream.proofs.Fields.{no-mix, field-value}
 use Rattle.bitstream.proofs.Laws.{bind-got}
-use Rattle.quantization.specs.Parameters.{Ranges, Begun, withRange, index, rangeSize, range, newSet, origin, none, setFrom, moreSets}
+use Rattle.quantization.specs.Parameters.{Ranges, Begun, withRange, range, newSet, none, setFrom, moreSets}
+use Rattle.set_fields.specs.Fields.{index, rangeSize, origin}
 use Rattle.quantization.specs.Layout.{over, laid}
 use Rattle.quantization.specs.Answer.{SetFilled, Held, HeldMore, SetAnswer, SetsHeld}
 use Rattle.bitstream.specs.Answer.{asEnd}
@@ -21,45 +22,11 @@ use Rattle.bitstream.specs.declared.End.{End}
 use Rattle.bitstream.specs.declared.End.the-variants.{Refused, At}
 use Rattle.bitstream.proofs.Ends.{end-refused, end-at}
 use Rattle.quantization.proofs.Layouts.{laid-length, over-zeros, over-parts, free-part, put-more, paste-more}
-use Rattle.quantization.proofs.Steps.{size-le}
+use Rattle.set_fields.proofs.Fields.{size-le}
 
 pub one-le : (k : ℕ) → (k ≡ 0 → ⊥) → 1 ≤ k
 one-le zero h = absurd (h refl)
 one-le (suc k) h = omega arith
-
--- ---- where a set comes from
-module _ (k : ℕ) (p : List ℕ) (i : ℕ) where
-  pub origin-first : k ≡ 0 → origin k p i ≡ got 0 i
-  unfolding origin
-  origin-first h = rw (eq-eqb _ _ h)
-
-  module _ (h : k ≡ 0 → ⊥) where
-    pub origin-end : {j e : ℕ} → field 1 p i ≡ refused j e → origin k p i ≡ refused j e
-    unfolding origin
-    origin-end f = rw (ne-eqb _ _ h, f)
-
-    module _ {b e : ℕ} (f : field 1 p i ≡ got b e) where
-      pub origin-new : b ≡ 1 → origin k p i ≡ got 0 e
-      unfolding origin
-      origin-new l = rw (ne-eqb _ _ h, f, eq-eqb _ _ l)
-
-      module _ (l : b ≡ 1 → ⊥) where
-        pub origin-last : k < 3 → origin k p i ≡ got 1 e
-        unfolding origin
-        origin-last m = rw (ne-eqb _ _ h, f, ne-eqb _ _ l, lt-ltb _ _ m)
-
-        module _ (m : 3 ≤ k) where
-          pub origin-end2 : {j d : ℕ} → field 1 p e ≡ refused j d → origin k p i ≡ refused j d
-          unfolding origin
-          origin-end2 g = rw (ne-eqb _ _ h, f, ne-eqb _ _ l, le-ltb _ _ m, g)
-
-          pub origin-plane : {c d : ℕ} → field 1 p e ≡ got c d → c ≡ 1 → origin k p i ≡ got 3 d
-          unfolding origin
-          origin-plane g n = rw (ne-eqb _ _ h, f, ne-eqb _ _ l, le-ltb _ _ m, g, eq-eqb _ _ n)
-
-          pub origin-before : {c d : ℕ} → field 1 p e ≡ got c d → (c ≡ 1 → ⊥) → origin k p i ≡ got 1 d
-          unfolding origin
-          origin-before g n = rw (ne-eqb _ _ h, f, ne-eqb _ _ l, le-ltb _ _ m, g, ne-eqb _ _ n)
 
 -- a set comes from one that is there, and a new one took one bit at most to say so
 pub record Origin (k i back e : ℕ) : Type 0 where

@@ -12,10 +12,12 @@ use Rattle.bitstream.specs.Bits.{bits}
 use Rattle.bitstream.specs.Reading.{Outcome, got, refused, after, Parse, pure, bind, _>>=_, here, pick, field, many, until}
 use Rattle.bitstream.proofs.Fields.{no-mix}
 use Rattle.bitstream.proofs.Laws.{bind-got, until-enough}
-use Rattle.quantization.specs.Parameters.{Ranges, Quantization, Begun, withRange, scales, matrixCount, baseMatrix, index, rangeSize, range, newSet, origin, none, setFrom, moreSets, quantization}
+use Rattle.quantization.specs.Parameters.{Ranges, Quantization, Begun, withRange, scales, matrixCount, baseMatrix, range, newSet, none, setFrom, moreSets, quantization}
+use Rattle.set_fields.specs.Fields.{index, rangeSize, origin}
 use Rattle.quantization.specs.Answer.{loadedParameters}
 use Rattle.quantization.specs.Sound.{total, Sound, Whole, Holds}
-use Rattle.quantization.proofs.Steps.{Matrices, matrices-are, index-lt, size-le}
+use Rattle.quantization.proofs.Steps.{Matrices, matrices-are}
+use Rattle.set_fields.proofs.Fields.{index-lt, size-le}
 use Rattle.quantization.proofs.Sets.{origin-is, one-le}
 use Rattle.quantization.proofs.Whole.{count-ends}
 

@@ -1,10 +1,11 @@
 -- The quantization parameters of the setup header, as 002 lists them ("Quantization Parameters Decode").
-use Prim.Native.Nat.{ℕ, zero, suc, _+_, _-_, _/_}
+use Prim.Native.Nat.{ℕ, zero, suc, _+_, _-_}
 use mathlib.Core.List.{List, [], _∷_, _++_}
-use lib.Dec.{eqb, ltb, leb}
+use lib.Dec.{eqb, leb}
 use lib.ListN.{length, getD}
-use Rattle.bitstream.specs.Reading.{Parse, pure, bind, _>>=_, _>>_, here, pick, choose, field, judged, many, until}
+use Rattle.bitstream.specs.Reading.{Parse, pure, bind, _>>=_, _>>_, here, pick, field, judged, many, until}
 use Rattle.bitstream.specs.Numbers.{badSetup}
+use Rattle.set_fields.specs.Fields.{index, rangeSize, origin}
 
 -- a set of quant ranges: their sizes, QRSIZES, and the base matrix indices at their ends, QRBMIS, of which there is one more
 pub record Ranges : Type 0 where
@@ -18,15 +19,6 @@ pub record Quantization : Type 0 where
   pub matricesAt : ℕ
   pub matrices : List (List ℕ)
   pub sets : List Ranges
-
--- how many binary digits n has, of at most k
-unfoldable pub digits : ℕ → ℕ → ℕ
-digits zero n = 0
-digits (suc k) n = choose (eqb n 0) 0 (1 + digits k (n / 2))
-
--- ilog of 002: how many binary digits n has
-unfoldable pub ilog : ℕ → ℕ
-ilog n = digits n n
 
 -- 64 scale values, whose width less one a field of 4 bits says
 unfoldable pub scales : Parse (List ℕ)
@@ -43,14 +35,6 @@ matrixCount = do
 -- one base matrix: 64 numbers of 8 bits
 unfoldable pub baseMatrix : Parse (List ℕ)
 baseMatrix = many 64 (field 8)
-
--- "ALL matrix indices checked": one that is not below NBMS is 7 at its field
-unfoldable pub index : ℕ → Parse ℕ
-index n = judged (ilog (n - 1)) (λ v. ltb v n) badSetup
-
--- the size less one of the range that begins at qi. "a qi sum above 63" is 7 at the size's field
-unfoldable pub rangeSize : ℕ → Parse ℕ
-rangeSize qi = judged (ilog (62 - qi)) (λ v. leb (qi + (v + 1)) 63) badSetup
 
 -- a set that is being read: the qi that its last range ends at, its sizes and its indices so far
 pub record Begun : Type 0 where
@@ -75,13 +59,6 @@ newSet n = do
   b ← index n
   s ← until (λ s. leb 63 (s .reached)) (range n) badSetup 63 (record { reached = 0; sizes = []; indices = b ∷ [] })
   pure (record { sizes = s .sizes; indices = s .indices })
-
--- where set k = 3 * type + plane comes from: 0 if it is new (NEWQR), 1 if it is the one before it, and 3 if it is that of the same plane for the type before (RPQR)
-unfoldable pub origin : ℕ → Parse ℕ
-origin k =
-    pick (eqb k 0) (pure 0) (bind (field 1) (λ newqr.
-    pick (eqb newqr 1) (pure 0)
-    (pick (ltb k 3) (pure 1) (bind (field 1) (λ rpqr. pure (choose (eqb rpqr 1) 3 1))))))
 
 -- no ranges
 abbrev pub none : Ranges

@@ -2,14 +2,15 @@
 use bitstream::End;
 use bitstream::Field;
 ghost use mathlib.Core.Path.{_≡_};
-ghost use mathlib.Core.List.{List, []};
-ghost use Prim.Native.Nat.{ℕ, _+_, _-_, _*_, _≤_, _<_};
+ghost use mathlib.Core.List.{[]};
+ghost use Prim.Native.Nat.{_+_, _-_, _*_, _≤_, _<_};
 ghost use lib.ListN.{length, drop, replicate};
 ghost use lib.Seq.{paste};
 ghost use Rattle.bitstream.specs.Bits.{bits, longest};
 ghost use Rattle.bitstream.specs.Reading.{field, many};
 ghost use Rattle.bitstream.specs.Answer.{asField, asEnd};
-ghost use Rattle.quantization.specs.Parameters.{ilog, scales, matrixCount, baseMatrix, index, rangeSize, newSet, origin, moreSets, quantization};
+ghost use Rattle.quantization.specs.Parameters.{scales, matrixCount, baseMatrix, newSet, moreSets, quantization};
+ghost use Rattle.set_fields.specs.Fields.{index};
 ghost use Rattle.quantization.specs.Answer.{endOf, Filled, SetFilled, SetAnswer, SetsHeld, asParameters, Loaded};
 
 // The place of the first base matrix and the place behind the parameters, or the refusal.
@@ -78,19 +79,6 @@ fn read_scales(packet: &[u8], at: usize, out: &mut [u16]) -> End
     }
 }
 
-// How many binary digits n has.
-fn ilog(n: usize) -> usize
-    ensures { λ r. ⌜ r ≡ ilog n ⌝ }
-{
-    let mut left = n;
-    let mut k = 0;
-    while 0 < left {
-        left = left / 2;
-        k += 1;
-    }
-    k
-}
-
 // The number of base matrices.
 fn read_count(packet: &[u8], at: usize) -> Field
     requires { ⌜ length (now packet) ≤ longest ⌝ }
@@ -120,49 +108,13 @@ fn matrices_end(packet: &[u8], at: usize, count: usize) -> End
     End::At(at + count * 512)
 }
 
-// The index of one of `count` base matrices.
-fn read_index(packet: &[u8], at: usize, count: usize) -> Field
-    requires { ⌜ (length (now packet) ≤ longest) × (1 ≤ count) × (count ≤ 384) ⌝ }
-    ensures { λ r. ⌜ r ≡ asField (index count (now (packet .entry)) at) ⌝ }
-{
-    let width = ilog(count - 1);
-    let one = bitstream::read(packet, at, width);
-    match one {
-        Field::Refused(number, fault) => Field::Refused(number, fault),
-        Field::Got(value, next) => {
-            if count <= value as usize {
-                return Field::Refused(bitstream::BAD_SETUP, at);
-            }
-            Field::Got(value, next)
-        }
-    }
-}
-
-// The size less one of the range that begins at qi.
-fn read_size(packet: &[u8], at: usize, qi: usize) -> Field
-    requires { ⌜ (length (now packet) ≤ longest) × (qi < 63) ⌝ }
-    ensures { λ r. ⌜ r ≡ asField (rangeSize qi (now (packet .entry)) at) ⌝ }
-{
-    let width = ilog(62 - qi);
-    let one = bitstream::read(packet, at, width);
-    match one {
-        Field::Refused(number, fault) => Field::Refused(number, fault),
-        Field::Got(value, next) => {
-            if 63 < qi + (value as usize + 1) {
-                return Field::Refused(bitstream::BAD_SETUP, at);
-            }
-            Field::Got(value, next)
-        }
-    }
-}
-
 // A new set of ranges, at the front of two slices.
 fn read_new(packet: &[u8], at: usize, count: usize, sizes: &mut [u16], indices: &mut [u16]) -> End
     requires { ⌜ (length (now packet) ≤ longest) × (1 ≤ count) × (count ≤ 384) × (length (now sizes) ≡ 64) × (length (now indices) ≡ 64) ⌝ }
     ensures { λ r. ⌜ r ≡ asEnd (newSet count (now (packet .entry)) at) ⌝ }
     ensures { λ r. ⌜ SetFilled (newSet count (now (packet .entry)) at) (now (sizes .entry)) (now (sizes .exit)) (now (indices .entry)) (now (indices .exit)) ⌝ }
 {
-    let first = read_index(packet, at, count);
+    let first = set_fields::read_index(packet, at, count);
     let Field::Got(begin, behind) = first else {
         return end_of(first);
     };
@@ -171,11 +123,11 @@ fn read_new(packet: &[u8], at: usize, count: usize, sizes: &mut [u16], indices: 
     let mut reached: usize = 0;
     let mut k: usize = 0;
     while reached < 63 {
-        let size = read_size(packet, place, reached);
+        let size = set_fields::read_size(packet, place, reached);
         let Field::Got(less, next) = size else {
             return end_of(size);
         };
-        let end = read_index(packet, next, count);
+        let end = set_fields::read_index(packet, next, count);
         let Field::Got(index, after) = end else {
             return end_of(end);
         };
@@ -187,34 +139,6 @@ fn read_new(packet: &[u8], at: usize, count: usize, sizes: &mut [u16], indices: 
         place = after;
     }
     End::At(place)
-}
-
-// Where set k comes from: 0 if it is new, else how many sets before it the one stands that it copies.
-fn read_origin(packet: &[u8], at: usize, k: usize) -> Field
-    requires { ⌜ length (now packet) ≤ longest ⌝ }
-    ensures { λ r. ⌜ r ≡ asField (origin k (now (packet .entry)) at) ⌝ }
-{
-    if k == 0 {
-        return Field::Got(0, at);
-    }
-    let fresh = bitstream::read(packet, at, 1);
-    let Field::Got(newqr, next) = fresh else {
-        return fresh;
-    };
-    if newqr == 1 {
-        return Field::Got(0, next);
-    }
-    if k < 3 {
-        return Field::Got(1, next);
-    }
-    let same = bitstream::read(packet, next, 1);
-    let Field::Got(rpqr, behind) = same else {
-        return same;
-    };
-    if rpqr == 1 {
-        return Field::Got(3, behind);
-    }
-    Field::Got(1, behind)
 }
 
 // Copies the 64 elements from the index `from` on to those from `to` on, which lie behind them.
@@ -268,7 +192,7 @@ fn read_sets(packet: &[u8], at: usize, count: usize, sizes: &mut [u16], indices:
     let mut place = at;
     let mut k: usize = 0;
     while k < 6 {
-        let from = read_origin(packet, place, k);
+        let from = set_fields::read_origin(packet, place, k);
         let Field::Got(back, next) = from else {
             return end_of(from);
         };

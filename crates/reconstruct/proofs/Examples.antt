@@ -18,9 +18,10 @@ use Rattle.block_record.specs.declared.Prediction.the-variants.{None}
 use Rattle.block_record.specs.declared.BlockRecord.{BlockRecord}
 use Rattle.block_record.specs.Record.{InRange, uncoded, referenceOf}
 use Rattle.transform.specs.Residual.{dcOnly, residual}
-use Rattle.dc_prediction.specs.Means.{meanLDlD, meanLDr, meanDlDDr, meanOfTwo, far, kept, replaced}
-use Rattle.dc_prediction.specs.Neighbours.{neighbourAt, neighbourBack, predicted as predictedFrom}
-use Rattle.dc_prediction.specs.Planes.{prediction, codedStep, blockStep, row, plane, predictedDc}
+use Rattle.dc_neighbours.specs.Means.{meanLDlD, meanLDr, meanDlDDr, meanOfTwo, far, kept, replaced}
+use Rattle.dc_neighbours.specs.Neighbours.{neighbourAt, neighbourBack, predicted as predictedFrom}
+use Rattle.dc_prediction.specs.Planes.{codedStep, blockStep, row, plane, predictedDc}
+use Rattle.dc_neighbours.specs.Block.{prediction}
 use Rattle.prediction.specs.Predicted.{predicted, summed}
 use Rattle.ways.specs.Loops.{upTo}
 use Rattle.reconstruct.specs.Picture.{Blocks, Matrices, rankOf, gathered, typeOf, blockResidual, dcOf, recordOf, residualOf, sampleOf}

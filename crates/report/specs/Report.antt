@@ -1,5 +1,5 @@
 -- The report of a census: 34 numbers, and what packets add to them.
-use Prim.Native.Nat.{ℕ, _+_, _^_}
+use Prim.Native.Nat.{ℕ, _+_, _^_, _≤_}
 use mathlib.Core.Bool.{Bool, true, _&&_}
 use mathlib.Core.List.{List, [], _∷_, _++_}
 use lib.Dec.{ltb}
@@ -42,6 +42,10 @@ nothing = replicate reportSize 0
 -- n at one place, nothing elsewhere
 abbrev pub only : (at n : ℕ) → List ℕ
 only at n = set nothing at n
+
+-- the numbers that the report has a place for
+abbrev pub Numbered : ℕ → Type 0
+Numbered k = (1 ≤ k) × (k ≤ 17)
 
 -- n packets that are refused by number k
 abbrev pub refusalAdds : (k n : ℕ) → List ℕ

@@ -1,10 +1,18 @@
-// The report of a census: 34 numbers that packets add to, each sum tested. docs/MEMORY.md says where each number stands.
+// The report of a census: 34 numbers that packets add to, each sum tested, and what a census answers. docs/MEMORY.md says where each number stands.
 ghost use mathlib.Core.Path.{_≡_};
-ghost use Prim.Native.Nat.{ℕ, _<_};
+ghost use Prim.Native.Nat.{ℕ, _-_, _<_, _≤_};
 ghost use mathlib.Core.List.{List};
 ghost use lib.ListN.{length};
-ghost use Rattle.report.specs.Report.{reportSize, plus, only};
+ghost use Rattle.bitstream.specs.Numbers.{wrongLength};
+ghost use Rattle.report.specs.Report.{reportSize, plus, only, Numbered, refusalAdds};
 ghost use Rattle.report.specs.Running.{sumOf, Runs, sumNumber, reportAfter};
+ghost use Rattle.report.specs.Answer.{numberOf};
+
+// The recording was counted; or the number of the call's refusal, with place 0.
+pub enum CensusAnswer {
+    Counted,
+    Refused(u32, usize),
+}
 
 // A report that is being added to. Once a sum has passed 64 bits its numbers say nothing.
 pub struct Running {
@@ -83,4 +91,32 @@ pub fn store(running: Running, report: &mut [u64]) -> u32
     let numbers = running.numbers;
     buffer::copy_longs(report, &numbers);
     0
+}
+
+// Adds so many refusals by one number.
+pub fn add_refusals(running: Running, k: u32, n: u64) -> Running
+    requires { ⌜ Numbered k ⌝ }
+    ensures { λ r. ⌜ ((l : List ℕ) → Runs running l → Runs r (plus l (refusalAdds k n))) ⌝ }
+{
+    let at = 2 + k as usize;
+    add_at(running, at, n)
+}
+
+// Adds the frame packets of a recording of so many packets, all refused by 1: the three headers are not counted.
+pub fn refuse_frames(running: Running, packets: u64) -> Running
+    requires { ⌜ 3 ≤ packets ⌝ }
+    ensures { λ r. ⌜ ((l : List ℕ) → Runs running l → Runs r (plus l (refusalAdds wrongLength (packets - 3)))) ⌝ }
+{
+    let frames = packets - 3;
+    add_refusals(running, bitstream::WRONG_LENGTH, frames)
+}
+
+// 0, or the number of the refusal.
+pub fn number_of(answer: CensusAnswer) -> u32
+    ensures { λ r. ⌜ r ≡ numberOf answer ⌝ }
+{
+    match answer {
+        CensusAnswer::Counted => 0,
+        CensusAnswer::Refused(k, _) => k,
+    }
 }

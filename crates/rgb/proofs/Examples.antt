@@ -9,7 +9,7 @@ use Rattle.numeric.specs.Clamp.{clamp255}
 use Rattle.geometry.specs.declared.PixelFormat.the-variants.{Chroma420, Chroma422}
 use Rattle.geometry.specs.Sizes.{total, blocksBefore}
 use Rattle.geometry.specs.Order.{inTurn}
-use Rattle.rgb.specs.Rule.{luma, redCr, greenCb, greenCr, blueCb, entry}
+use Rattle.colour_tables.specs.Rule.{luma, redCr, greenCb, greenCr, blueCb, entry}
 use Rattle.rgb.specs.Pixel.{sumOf, greenSteps, colours}
 use Rattle.rgb.specs.Exact.{greenOver, greenExact}
 use Rattle.rgb.specs.Picture.{pictureRow, picture}

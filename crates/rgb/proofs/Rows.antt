@@ -22,7 +22,7 @@ use Rattle.rgb.specs.declared.Run.{Run}
 use Rattle.rgb.specs.Pixel.{colours}
 use Rattle.rgb.specs.Picture.{chromaColumn, chromaRow, rowOf, sample, pixel, pictureRow, picture}
 use Rattle.rgb.specs.Sums.{Reaches, RunOf}
-use Rattle.rgb.proofs.Facts.{turn-each, turn-more}
+use Rattle.colour_tables.proofs.Parts.{turn-each, turn-more}
 
 -- ---- a row of a plane lies in the buffer
 row-fits : (y rows row : ℕ) → y < rows → y * row + row ≤ rows * row

@@ -1,6 +1,7 @@
 -- The exact fractions of 002, and "the result lies within 6/10 of the exact fraction, stated over whole numbers".
 use Prim.Native.Nat.{ℕ, _*_, _≤_, min}
-use lib.IntN.{ℤ, pos, negsuc, _+ℤ_, _-ℤ_, _*ℤ_, natAbs}
+use lib.IntN.{ℤ, pos, negsuc, _+ℤ_, _-ℤ_, _*ℤ_}
+use Rattle.colour_tables.specs.Near.{apart}
 
 -- v less its offset
 abbrev pub less : ℕ → ℕ → ℤ
@@ -27,17 +28,9 @@ greenOver = 219 * (224 * 587000)
 abbrev pub greenExact : (y cb cr : ℕ) → ℤ
 greenExact y cb cr = less 16 y *ℤ pos (255 * (224 * 587000)) -ℤ less 128 cb *ℤ pos (255 * 219 * (2 * 886 * 114)) -ℤ less 128 cr *ℤ pos (255 * 219 * (2 * 701 * 299))
 
--- d times the distance of r from n / d
-abbrev pub apart : (r n : ℤ) (d : ℕ) → ℕ
-apart r n d = natAbs (r *ℤ pos d -ℤ n)
-
 -- r lies within 6/10 of n / d
 abbrev pub WithinSixTenths : (r n : ℤ) (d : ℕ) → Type 0
 WithinSixTenths r n d = 10 * apart r n d ≤ 6 * d
-
--- r is a nearest integer to n / d: within 1/2 of it
-abbrev pub Nearest : (r n : ℤ) (d : ℕ) → Type 0
-Nearest r n d = 2 * apart r n d ≤ d
 
 -- n / d brought into 0 to 255: this over d
 abbrev pub between : ℕ → ℤ → ℤ

@@ -1,4 +1,3 @@
-pub mod Rule
 pub mod Pixel
 pub mod Exact
 pub mod Picture

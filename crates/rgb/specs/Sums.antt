@@ -1,37 +1,14 @@
--- Parts of the code: what each chroma sample adds, laid out so that the bytes of neighbouring pixels are sums of neighbours, and rows of planes.
-use Prim.Native.Nat.{ℕ, _+_, _-_, _*_, _/_, _≤_, _<_}
+-- Parts of the code: pixels of a row that stand, and rows of planes.
+use Prim.Native.Nat.{ℕ, _+_, _*_, _≤_, _<_}
 use mathlib.Core.Path.{_≡_}
-use mathlib.Core.List.{List, [], _∷_}
-use lib.Dec.{ltb}
-use lib.IntN.{ℤ, pos, _+ℤ_}
+use mathlib.Core.List.{List}
 use lib.ListN.{getD, take}
-use Rattle.bitstream.specs.Reading.{choose}
 use Rattle.geometry.specs.declared.PixelFormat.{PixelFormat}
 use Rattle.geometry.specs.Sizes.{across, blocksOf, blocksBefore}
 use Rattle.geometry.specs.Order.{inTurn}
-use Rattle.rgb.specs.declared.Chroma.{Chroma}
 use Rattle.rgb.specs.declared.Run.{Run}
-use Rattle.rgb.specs.Rule.{redCr, greenCb, greenCr, blueCb, entry}
 use Rattle.rgb.specs.Pixel.{colours}
 use Rattle.rgb.specs.Picture.{chromaColumn}
-
--- what a chroma sample adds by itself, Cr with the half
-abbrev pub ofCb : ℕ → Chroma
-ofCb v = record { red = pos 0; green = entry greenCb v; blue = entry blueCb v }
-
-abbrev pub ofCr : ℕ → Chroma
-ofCr v = record { red = entry redCr v +ℤ pos 32768; green = entry greenCr v +ℤ pos 32768; blue = pos 32768 }
-
--- sample i of 512: Cb, and behind them Cr
-unfoldable pub partOf : ℕ → Chroma
-partOf i = choose (ltb i 256) (ofCb i) (ofCr (i - 256))
-
-abbrev pub three : Chroma → List ℤ
-three c = c .red ∷ c .green ∷ c .blue ∷ []
-
--- each of them three times, one behind the other
-unfoldable pub chromaRows : List ℤ
-chromaRows = inTurn (λ k. three (partOf (k / 3))) 1536
 
 -- the colours of the pixel in column x of a row
 abbrev pub pixelAt : (ℕ → ℕ) → (luma cb cr : List ℕ) → ℕ → List ℕ

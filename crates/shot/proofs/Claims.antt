@@ -10,7 +10,7 @@ use borrow.Author.Tests.{eqb-true, eqb-false, leb-false, lt-leb}
 use Rattle.setup.specs.Table.{isTable}
 use Rattle.decoding.specs.Answer.{State, Done}
 use Rattle.theora.specs.Call.{Call, byRules}
-use Rattle.theora.proofs.Padding.{padding-holds}
+use Rattle.padding.proofs.Padding.{padding-holds}
 use Rattle.packet_list.specs.Packets.{packetsIn, total}
 use Rattle.packet_list.proofs.Cut.{packets-cut}
 use Rattle.shot_packets.specs.Play.{Shot, stateOf, callOf, after, oneMore, played}

@@ -12,7 +12,7 @@ use Rattle.reading.specs.declared.FrameAnswer.{FrameAnswer}
 use Rattle.decoding.specs.Answer.{State, Done, Way, state}
 use Rattle.theora.specs.Call.{Call, byRules}
 use Rattle.theora.specs.Demand.{Turn, turns, Demand3}
-use Rattle.theora.specs.Padding.{SettledCall}
+use Rattle.padding.specs.Padding.{SettledCall}
 use Rattle.packet_list.specs.Packets.{packetsIn, total}
 use Rattle.shot_packets.specs.Play.{Shot, stateOf, callOf, after, oneMore, played}
 use Rattle.shot.specs.Call.{ShotCall, lentNumber, shotNumber, startOf, ended, byShot}

@@ -35,7 +35,7 @@ fn maps_fit(set: Settings, s: Session, packets: usize, bytes: usize) -> bool
     ensures { λ r. ⌜ r ≡ mapsFit set s packets bytes ⌝ }
 {
     if headers::session_fits(s) {
-        let n = changed_tiles::length_of(set, s);
+        let n = map_update::length_of(set, s);
         return bytes_fit(n, packets as u64, bytes as u64);
     }
     true
@@ -84,10 +84,10 @@ fn update_map<'a>(
 {
     let previous = buffer_of(names.previous, first, second, third);
     let new = buffer_of(buffer_names::free_buffer(names), first, second, third);
-    let n = changed_tiles::length_of(set, s) as usize;
+    let n = map_update::length_of(set, s) as usize;
     let from = n * i;
     let to = from + n;
-    changed_tiles::update_map(set, s, verdict, previous, new, &mut maps[from..to]);
+    map_update::update_map(set, s, verdict, previous, new, &mut maps[from..to]);
 }
 
 // Stores the answer of packet i.

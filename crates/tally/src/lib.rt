@@ -34,7 +34,7 @@ fn answer(s: Session, header: Header, tokens: usize, counts: Counts) -> Counted
     let kind = header.kind;
     if !reading::stays_counted(kind, s) {
         return Counted {
-            answer: reading::refusal(17, 0, s),
+            answer: reading::refusal(bitstream::UNCOUNTED, 0, s),
             counts: counting::no_counts(),
         };
     }

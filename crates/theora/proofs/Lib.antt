@@ -7,6 +7,5 @@ pub mod Places
 pub mod Tokens
 pub mod First
 pub mod KeyFrames
-pub mod Padding
 pub mod Promised
 pub mod Examples

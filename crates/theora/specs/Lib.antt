@@ -11,5 +11,4 @@ pub mod Places
 pub mod Tokens
 pub mod First
 pub mod KeyFrames
-pub mod Padding
 pub mod Table

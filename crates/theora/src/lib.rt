@@ -138,7 +138,7 @@ pub fn frame(
                 new,
             );
         }
-        return reading::refusal(1, 0, s);
+        return reading::refusal(bitstream::WRONG_LENGTH, 0, s);
     }
-    reading::refusal(8, 0, s)
+    reading::refusal(bitstream::NOT_GENUINE, 0, s)
 }

@@ -1,173 +1,11 @@
 // The face for C and other languages, but for the frame call: include/wedgepetal.h says what each call is for.
-use headers::IdentificationAnswer;
-use headers::Session;
-use headers::SizesAnswer;
-use queries::BlockAnswer;
-use queries::MatrixAnswer;
-use queries::NumberAnswer;
-use queries::PlaceAnswer;
 use setup::SetupAnswer;
 use theora::WorkAnswer;
 ghost use mathlib.Core.Path.{_≡_};
 ghost use lib.ListN.{length};
 ghost use Rattle.session_list.specs.List.{gives, answers};
-ghost use Rattle.theora_c.specs.Face.{flag, sessionReturned, sizesReturned, blockReturned, placeReturned, numberReturned, identificationCall, sizesCall, blockAtCall, blockNumberCall, macroBlockAtCall, macroBlockNumberCall, macroBlockOfCall, sampleOffsetCall, setupCall, tableCall, limitCall, matrixReturned, matrixCall, lengthsReturned, workLengthsCall};
-
-// ---- lists of numbers
-
-fn flag_number(b: bool) -> u64
-    ensures { λ r. ⌜ r ≡ flag b ⌝ }
-{
-    if b { 1 } else { 0 }
-}
-
-// Stores the numbers of an accepted call, which returns 0.
-fn store(list: &mut [u64], numbers: &[u64]) -> u32
-    requires { ⌜ length (now list) ≡ length (now numbers) ⌝ }
-    ensures { λ r. ⌜ gives r (now (list .exit)) ≡ gives 0 (now (numbers .entry)) ⌝ }
-{
-    buffer::copy_longs(list, numbers);
-    0
-}
-
-// The same of the numbers of a quantization matrix.
-fn widen(list: &mut [u64], numbers: &[u16]) -> u32
-    requires { ⌜ length (now list) ≡ length (now numbers) ⌝ }
-    ensures { λ r. ⌜ gives r (now (list .exit)) ≡ gives 0 (now (numbers .entry)) ⌝ }
-{
-    let mut i = 0;
-    while i < numbers.len() {
-        list[i] = numbers[i] as u64;
-        i += 1;
-    }
-    0
-}
-
-// ---- what an answer returns and leaves
-
-fn return_session(answer: IdentificationAnswer, list: &mut [u64], place: &mut [u64]) -> u32
-    requires { ⌜ (length (now list) ≡ 19) × (length (now place) ≡ 1) ⌝ }
-    ensures { λ r. ⌜ answers r (now (list .exit)) (now (place .exit)) ≡ sessionReturned (now (list .entry)) answer ⌝ }
-{
-    match answer {
-        IdentificationAnswer::Accepted(s) => {
-            let references = flag_number(s.references);
-            let numbers = [
-                s.fields.vrev,
-                s.fields.fmbw,
-                s.fields.fmbh,
-                s.fields.picw,
-                s.fields.pich,
-                s.fields.picx,
-                s.fields.picy,
-                s.fields.frn,
-                s.fields.frd,
-                s.fields.parn,
-                s.fields.pard,
-                s.fields.cs,
-                s.fields.nombr,
-                s.fields.qual,
-                s.fields.kfgshift,
-                s.fields.pf,
-                references,
-                s.key_frames,
-                s.others,
-            ];
-            place[0] = 0;
-            store(list, &numbers)
-        }
-        IdentificationAnswer::Refused(k, e) => {
-            place[0] = e as u64;
-            k
-        }
-    }
-}
-
-fn return_sizes(answer: SizesAnswer, list: &mut [u64]) -> u32
-    requires { ⌜ length (now list) ≡ 16 ⌝ }
-    ensures { λ r. ⌜ gives r (now (list .exit)) ≡ sizesReturned (now (list .entry)) answer ⌝ }
-{
-    match answer {
-        SizesAnswer::Is(n) => {
-            let y = n.luma;
-            let cb = n.cb;
-            let cr = n.cr;
-            let numbers = [
-                n.macro_blocks,
-                n.blocks,
-                n.super_blocks,
-                n.buffer,
-                y.across,
-                y.up,
-                y.offset,
-                y.length,
-                cb.across,
-                cb.up,
-                cb.offset,
-                cb.length,
-                cr.across,
-                cr.up,
-                cr.offset,
-                cr.length,
-            ];
-            store(list, &numbers)
-        }
-        SizesAnswer::Refused(k) => k,
-    }
-}
-
-fn return_block(answer: BlockAnswer, list: &mut [u64]) -> u32
-    requires { ⌜ length (now list) ≡ 3 ⌝ }
-    ensures { λ r. ⌜ gives r (now (list .exit)) ≡ blockReturned (now (list .entry)) answer ⌝ }
-{
-    match answer {
-        BlockAnswer::Is(b) => {
-            let numbers = [b.plane, b.x, b.y];
-            store(list, &numbers)
-        }
-        BlockAnswer::Absent => 255,
-        BlockAnswer::Refused(k) => k,
-    }
-}
-
-fn return_place(answer: PlaceAnswer, list: &mut [u64]) -> u32
-    requires { ⌜ length (now list) ≡ 2 ⌝ }
-    ensures { λ r. ⌜ gives r (now (list .exit)) ≡ placeReturned (now (list .entry)) answer ⌝ }
-{
-    match answer {
-        PlaceAnswer::Is(p) => {
-            let numbers = [p.x, p.y];
-            store(list, &numbers)
-        }
-        PlaceAnswer::Absent => 255,
-        PlaceAnswer::Refused(k) => k,
-    }
-}
-
-fn return_number(answer: NumberAnswer, list: &mut [u64]) -> u32
-    requires { ⌜ length (now list) ≡ 1 ⌝ }
-    ensures { λ r. ⌜ gives r (now (list .exit)) ≡ numberReturned (now (list .entry)) answer ⌝ }
-{
-    match answer {
-        NumberAnswer::Is(n) => {
-            let numbers = [n];
-            store(list, &numbers)
-        }
-        NumberAnswer::Absent => 255,
-        NumberAnswer::Refused(k) => k,
-    }
-}
-
-fn return_matrix(answer: MatrixAnswer, numbers: &[u16], list: &mut [u64]) -> u32
-    requires { ⌜ length (now list) ≡ length (now numbers) ⌝ }
-    ensures { λ r. ⌜ gives r (now (list .exit)) ≡ matrixReturned (now (list .entry)) (now (numbers .entry)) answer ⌝ }
-{
-    match answer {
-        MatrixAnswer::Is => widen(list, numbers),
-        MatrixAnswer::Absent => 255,
-        MatrixAnswer::Refused(k) => k,
-    }
-}
+ghost use Rattle.theora_c.specs.Face.{identificationCall, sizesCall, blockAtCall, blockNumberCall, macroBlockAtCall, macroBlockNumberCall, macroBlockOfCall, sampleOffsetCall, setupCall, limitCall, matrixCall, lengthsReturned, workLengthsCall};
+ghost use Rattle.answer_lists.specs.Lists.{tableCall};
 
 fn return_lengths(answer: WorkAnswer, list: &mut [u64]) -> u32
     requires { ⌜ length (now list) ≡ 11 ⌝ }
@@ -188,13 +26,11 @@ fn return_lengths(answer: WorkAnswer, list: &mut [u64]) -> u32
                 l.active,
                 l.bytes,
             ];
-            store(list, &numbers)
+            answer_lists::store(list, &numbers)
         }
         WorkAnswer::Refused(k) => k,
     }
 }
-
-// ---- the calls
 
 // Reads an identification header; session receives the fresh session, place the bit place of a refusal.
 #[no_mangle]
@@ -206,7 +42,7 @@ pub extern "C" fn wedgepetal_identification(
     ensures { λ r. ⌜ answers r (now (session .exit)) (now (place .exit)) ≡ identificationCall (now (packet .entry)) (now (session .entry)) (now (place .entry)) ⌝ }
 {
     if (session.len() == 19) & (place.len() == 1) {
-        return return_session(theora::identification(packet), session, place);
+        return answer_lists::return_session(theora::identification(packet), session, place);
     }
     bitstream::WRONG_LENGTH
 }
@@ -218,7 +54,7 @@ pub extern "C" fn wedgepetal_sizes(session: &[u64], sizes: &mut [u64]) -> u32
 {
     let k = session_list::lists_refusal(session, sizes.len(), 16);
     if k == 0 {
-        return return_sizes(theora::sizes(session_list::session_of(session)), sizes);
+        return answer_lists::return_sizes(theora::sizes(session_list::session_of(session)), sizes);
     }
     k
 }
@@ -230,7 +66,7 @@ pub extern "C" fn wedgepetal_block_at(session: &[u64], number: u64, block: &mut 
 {
     let k = session_list::lists_refusal(session, block.len(), 3);
     if k == 0 {
-        return return_block(
+        return answer_lists::return_block(
             queries::block_at(session_list::session_of(session), number),
             block,
         );
@@ -251,7 +87,7 @@ pub extern "C" fn wedgepetal_block_number(
 {
     let k = session_list::lists_refusal(session, number.len(), 1);
     if k == 0 {
-        return return_number(
+        return answer_lists::return_number(
             queries::block_number(session_list::session_of(session), plane, x, y),
             number,
         );
@@ -266,7 +102,7 @@ pub extern "C" fn wedgepetal_macro_block_at(session: &[u64], number: u64, place:
 {
     let k = session_list::lists_refusal(session, place.len(), 2);
     if k == 0 {
-        return return_place(
+        return answer_lists::return_place(
             queries::macro_block_at(session_list::session_of(session), number),
             place,
         );
@@ -286,7 +122,7 @@ pub extern "C" fn wedgepetal_macro_block_number(
 {
     let k = session_list::lists_refusal(session, number.len(), 1);
     if k == 0 {
-        return return_number(
+        return answer_lists::return_number(
             queries::macro_block_number(session_list::session_of(session), x, y),
             number,
         );
@@ -307,7 +143,7 @@ pub extern "C" fn wedgepetal_macro_block_of(
 {
     let k = session_list::lists_refusal(session, place.len(), 2);
     if k == 0 {
-        return return_place(
+        return answer_lists::return_place(
             queries::macro_block_of(session_list::session_of(session), plane, x, y),
             place,
         );
@@ -330,7 +166,7 @@ pub extern "C" fn wedgepetal_sample_offset(
 {
     let k = session_list::lists_refusal(session, offset.len(), 1);
     if k == 0 {
-        return return_number(
+        return answer_lists::return_number(
             queries::sample_offset(session_list::session_of(session), plane, x, y, column, row),
             offset,
         );
@@ -363,13 +199,7 @@ pub extern "C" fn wedgepetal_setup(packet: &[u8], table: &mut [u8], place: &mut 
 pub extern "C" fn wedgepetal_table(table: &[u8]) -> u32
     ensures { λ r. ⌜ r ≡ tableCall (now (table .entry)) ⌝ }
 {
-    if table.len() == setup::TABLE_BYTES {
-        if setup::table_is_genuine(table) {
-            return 0;
-        }
-        return bitstream::NOT_GENUINE;
-    }
-    bitstream::WRONG_LENGTH
+    answer_lists::table_number(table)
 }
 
 // The loop limit of a qi.
@@ -378,7 +208,7 @@ pub extern "C" fn wedgepetal_loop_limit(table: &[u8], qi: u64, limit: &mut [u64]
     ensures { λ r. ⌜ gives r (now (limit .exit)) ≡ limitCall (now (table .entry)) qi (now (limit .entry)) ⌝ }
 {
     if limit.len() == 1 {
-        return return_number(queries::loop_limit(table, qi), limit);
+        return answer_lists::return_number(queries::loop_limit(table, qi), limit);
     }
     bitstream::WRONG_LENGTH
 }
@@ -397,7 +227,7 @@ pub extern "C" fn wedgepetal_matrix(
     if matrix.len() == 64 {
         let mut numbers = [0u16; 64];
         let answer = queries::matrix(table, qti, plane, qi, &mut numbers);
-        return return_matrix(answer, &numbers, matrix);
+        return answer_lists::return_matrix(answer, &numbers, matrix);
     }
     bitstream::WRONG_LENGTH
 }

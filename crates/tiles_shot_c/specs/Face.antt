@@ -1,23 +1,16 @@
 -- The face of `tiles_shot` for C: sessions, names and settings are lists of numbers.
 use Prim.Native.Nat.{ℕ}
-use mathlib.Core.Bool.{_&&_}
 use mathlib.Core.List.{List}
 use lib.Dec.{eqb}
 use lib.ListN.{length}
 use Rattle.bitstream.specs.Reading.{choose}
-use Rattle.bitstream.specs.Numbers.{wrongLength, badSettings}
-use Rattle.settings.specs.Settings.{settingsFit}
 use Rattle.settings_list.specs.List.{settingsOf}
 use Rattle.session_list.specs.List.{sessionOf}
 use Rattle.work_memory.specs.Memory.{Memory}
 use Rattle.shot.specs.Call.{shotCall}
 use Rattle.shot_c.specs.Face.{namesIn, lists, ShotReturned, shotGives, doneReturned}
 use Rattle.tiles_shot.specs.Call.{tilesShot}
-
--- by what the lists are refused, 0 if by nothing: "20 before all other checks" that can be made on a list of 4 numbers
-unfoldable pub tilesShotNumber : (settings : List ℕ) (session names : ℕ) → ℕ
-tilesShotNumber settings session names =
-    choose (eqb (length settings) 4) (choose (settingsFit (settingsOf settings)) (choose (eqb session 19 && eqb names 2) 0 wrongLength) badSettings) wrongLength
+use Rattle.settings_list.specs.ShotLists.{tilesShotNumber}
 
 -- what a shot call returns and leaves, and the maps
 pub record TilesShotReturned : Type 0 where

@@ -2,25 +2,7 @@
 ghost use mathlib.Core.Path.{_≡_};
 ghost use Rattle.work_memory.specs.Memory.{memory};
 ghost use Rattle.shot_c.specs.Face.{lists, shotGives};
-ghost use Rattle.tiles_shot_c.specs.Face.{tilesShotNumber, tilesShotGives, tilesShotFace};
-
-// By what the lists of a call are refused before it is made, 0 if by nothing: 1 for a settings' list of another length, 20 for the settings, 1 for a
-// session's or names' list of another length.
-fn lists_refusal(settings: &[u64], session: usize, names: usize) -> u32
-    ensures { λ r. ⌜ r ≡ tilesShotNumber (now (settings .entry)) session names ⌝ }
-{
-    if settings.len() != 4 {
-        return bitstream::WRONG_LENGTH;
-    }
-    let set = settings_list::settings_of(settings);
-    if settings::settings_fit(set) {
-        if (session == 19) & (names == 2) {
-            return 0;
-        }
-        return bitstream::WRONG_LENGTH;
-    }
-    bitstream::BAD_SETTINGS
-}
+ghost use Rattle.tiles_shot_c.specs.Face.{tilesShotGives, tilesShotFace};
 
 // A whole shot, and for each packet the map of the tiles that it changed, one behind the other.
 #[no_mangle]
@@ -50,7 +32,7 @@ pub extern "C" fn wedgepetal_tiles_shot(
     ensures { λ r. ⌜ tilesShotGives (shotGives (lists r (now (session .exit)) (now (names .exit))) (now (first .exit)) (now (second .exit)) (now (third .exit)) (memory (now (records .exit)) (now (coded .exit)) (now (coefs .exit)) (now (dc .exit)) (now (lasts .exit)) (now (flags .exit)) (now (bits .exit)) (now (supers .exit)) (now (modes .exit)) (now (active .exit))) (now (answers .exit))) (now (maps .exit))
         ≡ tilesShotFace (now (settings .entry)) (now (session .entry)) (now (names .entry)) (now (lengths .entry)) (now (packets .entry)) (now (table .entry)) (memory (now (records .entry)) (now (coded .entry)) (now (coefs .entry)) (now (dc .entry)) (now (lasts .entry)) (now (flags .entry)) (now (bits .entry)) (now (supers .entry)) (now (modes .entry)) (now (active .entry))) (now (first .entry)) (now (second .entry)) (now (third .entry)) (now (answers .entry)) (now (maps .entry)) ⌝ }
 {
-    let k = lists_refusal(settings, session.len(), names.len());
+    let k = settings_list::lists_refusal(settings, session.len(), names.len());
     if k == 0 {
         let set = settings_list::settings_of(settings);
         let s = session_list::session_of(session);

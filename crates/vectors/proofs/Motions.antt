@@ -15,19 +15,21 @@ use Rattle.numeric.proofs.RoundLaws.{size-round}
 use Rattle.geometry.specs.declared.PixelFormat.{PixelFormat}
 use Rattle.geometry.specs.declared.PixelFormat.the-variants.{Chroma420, Chroma422, Chroma444}
 use Rattle.block_record.specs.declared.Vector.{Vector}
-use Rattle.block_record.specs.declared.Prediction.the-variants.{None, Previous, Golden}
+use Rattle.block_record.specs.declared.Prediction.the-variants.{Previous, Golden}
 use Rattle.block_record.specs.Record.{VectorInRange, PredictionInRange}
-use Rattle.vectors.specs.declared.Row.{Row}
-use Rattle.vectors.specs.declared.Motion.{Motion}
-use Rattle.vectors.specs.declared.Motion.the-variants.{One, Four}
-use Rattle.vectors.specs.declared.Moved.{Moved}
+use Rattle.motion.specs.declared.Row.{Row}
+use Rattle.motion.specs.declared.Motion.{Motion}
+use Rattle.motion.specs.declared.Motion.the-variants.{One, Four}
+use Rattle.motion.specs.declared.Moved.{Moved}
 use Rattle.vectors.specs.declared.RowRead.{RowRead}
 use Rattle.vectors.specs.declared.RowRead.the-variants as row-read
 use Rattle.vectors.specs.declared.MovedRead.{MovedRead}
 use Rattle.vectors.specs.declared.MovedRead.the-variants as moved-read
 use Rattle.vectors.specs.Component.{vector}
-use Rattle.vectors.specs.Motion.{zeroVector, behind, still, moving, movingGolden, ifCoded, row, lastRead, movingFour, motion, meanOfTwo, meanOfFour, lumaVector, chromaVector, fourVector, predictionOf, RowInRange, MotionInRange, MovedInRange, asRow, asMoved}
+use Rattle.vectors.specs.Motion.{motion, moving, movingGolden, ifCoded, row, movingFour, meanOfTwo, meanOfFour, lumaVector, chromaVector, fourVector, predictionOf, asRow, asMoved}
+use Rattle.motion.specs.Kept.{RowInRange, MotionInRange, MovedInRange, zeroVector, behind, still, lastRead}
 use Rattle.vectors.proofs.Components.{vector-small}
+use Rattle.motion.proofs.Kept.{zero-small, still-small}
 
 -- ---- what an answer says of the outcome o, by its arm
 pub row-got : (o : Outcome Row) {r : RowRead} {v : Row} {e : ℕ} → r ≡ asRow o → r ≡ row-read.Got v e → o ≡ got v e
@@ -45,48 +47,6 @@ moved-got (refused k d) s g = let z : _≡_ {A = ℕ} 0 1 = cc in absurd (omega 
 pub moved-refused : (o : Outcome Moved) {r : MovedRead} {k e : ℕ} → r ≡ asMoved o → r ≡ moved-read.Refused k e → o ≡ refused k e
 moved-refused (got a d) s g = let z : _≡_ {A = ℕ} 0 1 = cc in absurd (omega arith)
 moved-refused (refused k d) s g = cc
-
-pub zero-small : VectorInRange zeroVector
-zero-small = record { x = omega arith; y = omega arith }
-
--- ---- the modes that send nothing
-module _ (mode : ℕ) (last last2 : Vector) where
-  pub still-intra : mode ≡ 1 → behind (One None) last last2 ≡ still mode last last2
-  unfolding still
-  still-intra h = rw (eq-eqb mode 1 h)
-
-  module _ (n1 : mode ≡ 1 → ⊥) where
-    pub still-last : mode ≡ 3 → behind (One (Previous last)) last last2 ≡ still mode last last2
-    unfolding still
-    still-last h = rw (ne-eqb mode 1 n1, eq-eqb mode 3 h)
-
-    module _ (n3 : mode ≡ 3 → ⊥) where
-      pub still-last2 : mode ≡ 4 → behind (One (Previous last2)) last2 last ≡ still mode last last2
-      unfolding still
-      still-last2 h = rw (ne-eqb mode 1 n1, ne-eqb mode 3 n3, eq-eqb mode 4 h)
-
-      module _ (n4 : mode ≡ 4 → ⊥) where
-        pub still-golden : mode ≡ 5 → behind (One (Golden zeroVector)) last last2 ≡ still mode last last2
-        unfolding still
-        still-golden h = rw (ne-eqb mode 1 n1, ne-eqb mode 3 n3, ne-eqb mode 4 n4, eq-eqb mode 5 h)
-
-        pub still-nomv : (mode ≡ 5 → ⊥) → behind (One (Previous zeroVector)) last last2 ≡ still mode last last2
-        unfolding still
-        still-nomv h = rw (ne-eqb mode 1 n1, ne-eqb mode 3 n3, ne-eqb mode 4 n4, ne-eqb mode 5 h)
-
-  module _ (h : VectorInRange last) (h2 : VectorInRange last2) where
-    go-still : (a b c d : Bool) → MovedInRange
-        (choose a (behind (One None) last last2) (choose b (behind (One (Previous last)) last last2)
-        (choose c (behind (One (Previous last2)) last2 last) (choose d (behind (One (Golden zeroVector)) last last2) (behind (One (Previous zeroVector)) last last2)))))
-    go-still true b c d = record { motion = tt; last = h; last2 = h2 }
-    go-still false true c d = record { motion = h; last = h; last2 = h2 }
-    go-still false false true d = record { motion = h2; last = h2; last2 = h }
-    go-still false false false true = record { motion = zero-small; last = h; last2 = h2 }
-    go-still false false false false = record { motion = zero-small; last = h; last2 = h2 }
-
-    pub still-small : MovedInRange (still mode last last2)
-    unfolding still
-    still-small = go-still (eqb mode 1) (eqb mode 3) (eqb mode 4) (eqb mode 5)
 
 -- ---- one vector
 module _ (code : ℕ) (p : List ℕ) (i : ℕ) where

@@ -24,11 +24,12 @@ use Rattle.block_record.proofs.MemoryLaws.{is-packed, packed-at, packed-set, pa
 use Rattle.bitstream.specs.Answer.{StoredAs, asEnd}
 use Rattle.bitstream.specs.declared.End.{End}
 use Rattle.bitstream.specs.declared.End.the-variants as end
-use Rattle.vectors.specs.declared.Motion.{Motion}
-use Rattle.vectors.specs.declared.Moved.{Moved}
+use Rattle.motion.specs.declared.Motion.{Motion}
+use Rattle.motion.specs.declared.Moved.{Moved}
 use Rattle.vectors.specs.declared.Step.{Step}
 use Rattle.vectors.specs.declared.Step.the-variants.{Next, Refused}
-use Rattle.vectors.specs.Motion.{zeroVector, motion, predictionOf, MovedInRange}
+use Rattle.vectors.specs.Motion.{motion, predictionOf}
+use Rattle.motion.specs.Kept.{MovedInRange, zeroVector}
 use Rattle.vectors.specs.Vectors.{numberIn, codedIn, predictedAt, predictedFrom, VectorState, macroBlock, macroBlocks, vectors}
 use Rattle.vectors.specs.Memory.{stateOf, StoredState, asStep}
 use Rattle.vectors.proofs.Motions.{motion-small}

@@ -1,5 +1,5 @@
 -- Records that start at what mode 0 says: a macro block of mode 0 changes nothing, and in the end nothing shows how they started. Assumes nothing.
-use Prim.Native.Nat.{ℕ, zero, suc, _+_, _≤_, _<_}
+use Prim.Native.Nat.{ℕ, zero, suc, _+_, _<_}
 use native.Mathlib.Omega.{arith}
 use native.Mathlib.Nat.{add-zero, le-of-suc-le-suc, not-suc-le-zero}
 use native.Mathlib.Numerals.{add-one}
@@ -26,24 +26,24 @@ use Rattle.geometry.proofs.Orders.{indexOf}
 use Rattle.geometry.proofs.PlaneOrders.{macro-order}
 use Rattle.geometry.proofs.MacroLaws.{macro-length, in-its-macro, macro-of-element, element-in-frame}
 use Rattle.geometry.proofs.RasterLaws.{block-at-number, number-of-block}
-use Rattle.block_record.specs.declared.Vector.{Vector}
 use Rattle.block_record.specs.declared.Prediction.{Prediction}
 use Rattle.block_record.specs.declared.Prediction.the-variants.{None}
 use Rattle.block_record.specs.declared.BlockRecord.{BlockRecord}
-use Rattle.block_record.specs.Record.{InRange, withPrediction, uncoded}
-use Rattle.block_record.specs.Packed.{packed, unpacked}
-use Rattle.block_record.specs.Memory.{IsPacked, AllPacked, recordsOf}
-use Rattle.block_record.proofs.Laws.{unpacked-packed}
-use Rattle.block_record.proofs.MemoryLaws.{is-packed}
-use Rattle.vectors.specs.declared.Motion.{Motion}
-use Rattle.vectors.specs.declared.Motion.the-variants.{One}
-use Rattle.vectors.specs.declared.Moved.{Moved}
-use Rattle.vectors.specs.Motion.{zeroVector, behind, motion, predictionOf}
+use Rattle.block_record.specs.Record.{withPrediction, uncoded}
+use Rattle.block_record.specs.Packed.{unpacked}
+use Rattle.block_record.specs.Memory.{AllPacked, recordsOf}
+use Rattle.motion.specs.declared.Motion.{Motion}
+use Rattle.motion.specs.declared.Motion.the-variants.{One}
+use Rattle.motion.specs.declared.Moved.{Moved}
+use Rattle.vectors.specs.Motion.{motion, predictionOf}
+use Rattle.motion.specs.Kept.{zeroVector, unmoved, predictedAs, started}
 use Rattle.vectors.specs.Vectors.{numberIn, codedIn, predictedAt, predictedFrom, VectorState, macroBlock, macroBlocks}
 use Rattle.vectors.specs.Memory.{stateOf}
-use Rattle.vectors.specs.Start.{unmoved, predictedAs, started, Waiting}
-use Rattle.vectors.proofs.Motions.{zero-small, still-nomv, motion-still}
+use Rattle.vectors.specs.Start.{Waiting}
+use Rattle.vectors.proofs.Motions.{motion-still}
+use Rattle.motion.proofs.Kept.{still-nomv}
 use Rattle.vectors.proofs.Records.{moves, movedTo, macro-end, macro-moved}
+use Rattle.motion.proofs.Kept.{started-packed, started-record}
 
 -- ---- one record
 module _ (p : Prediction) (r : BlockRecord) where
@@ -75,32 +75,6 @@ module _ (p : Prediction) (r : BlockRecord) where
       go : (b : Bool) → b ≡ true → choose b (withPrediction p r) r .prediction ≡ p
       go true e = refl
       go false e = let z : _≡_ {A = ℕ} 0 1 = cc in absurd (omega arith)
-
--- ---- the number of a record as it starts
-module _ (n : ℕ) where
-  pub started-coded : unpacked n .coded ≡ true → packed (withPrediction unmoved (unpacked n)) ≡ started n
-  unfolding started
-  started-coded e = sym (ap (λ (b : Bool). packed (choose b (withPrediction unmoved (unpacked n)) (unpacked n))) e)
-
-  module _ (k : IsPacked n) where
-    pub started-not : unpacked n .coded ≡ false → n ≡ started n
-    unfolding started
-    started-not e = sym (ap (λ (b : Bool). packed (choose b (withPrediction unmoved (unpacked n)) (unpacked n))) e ∙ k .same)
-
-    in-range : InRange (predictedAs unmoved (unpacked n))
-    in-range = go (unpacked n .coded)
-      where
-        go : (b : Bool) → InRange (choose b (withPrediction unmoved (unpacked n)) (unpacked n))
-        go true = record { qi-index = k .in-range .qi-index; prediction = zero-small }
-        go false = k .in-range
-
-    started-packed : IsPacked (started n)
-    unfolding started
-    started-packed = is-packed (predictedAs unmoved (unpacked n)) in-range
-
-    started-record : unpacked (started n) ≡ predictedAs unmoved (unpacked n)
-    unfolding started
-    started-record = unpacked-packed (predictedAs unmoved (unpacked n)) in-range
 
 -- ---- the loop over all numbers: the first n have started
 abbrev pub startedTo : ℕ → List ℕ → List ℕ

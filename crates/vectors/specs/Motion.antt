@@ -3,7 +3,7 @@ use Prim.Native.Nat.{ℕ, _%_}
 use mathlib.Core.List.{[], _∷_}
 use mathlib.Core.Bool.{Bool}
 use lib.Dec.{eqb, ltb}
-use lib.IntN.{ℤ, pos, _+ℤ_}
+use lib.IntN.{ℤ, _+ℤ_}
 use lib.ListN.{getD}
 use Rattle.bitstream.specs.Reading.{Outcome, got, refused, Parse, pure, pick, choose, _>>=_}
 use Rattle.numeric.specs.Divide.{roundOver}
@@ -11,34 +11,17 @@ use Rattle.geometry.specs.declared.PixelFormat.{PixelFormat}
 use Rattle.geometry.specs.declared.PixelFormat.the-variants.{Chroma420, Chroma422, Chroma444}
 use Rattle.block_record.specs.declared.Vector.{Vector}
 use Rattle.block_record.specs.declared.Prediction.{Prediction}
-use Rattle.block_record.specs.declared.Prediction.the-variants.{None, Previous, Golden}
-use Rattle.block_record.specs.Record.{VectorInRange, PredictionInRange}
-use Rattle.vectors.specs.declared.Row.{Row}
-use Rattle.vectors.specs.declared.Motion.{Motion}
-use Rattle.vectors.specs.declared.Motion.the-variants.{One, Four}
-use Rattle.vectors.specs.declared.Moved.{Moved}
+use Rattle.block_record.specs.declared.Prediction.the-variants.{Previous, Golden}
+use Rattle.motion.specs.declared.Row.{Row}
+use Rattle.motion.specs.declared.Motion.{Motion}
+use Rattle.motion.specs.declared.Motion.the-variants.{One, Four}
+use Rattle.motion.specs.declared.Moved.{Moved}
 use Rattle.vectors.specs.declared.RowRead.{RowRead}
 use Rattle.vectors.specs.declared.RowRead.the-variants as row-read
 use Rattle.vectors.specs.declared.MovedRead.{MovedRead}
 use Rattle.vectors.specs.declared.MovedRead.the-variants as moved-read
 use Rattle.vectors.specs.Component.{vector}
-
--- the vector (0, 0)
-abbrev pub zeroVector : Vector
-zeroVector = record { x = pos 0; y = pos 0 }
-
--- how a macro block moves, and what last and last2 are behind it
-abbrev pub behind : Motion → Vector → Vector → Moved
-behind m last last2 = record { motion = m; last = last; last2 = last2 }
-
--- the modes that send nothing: 1 INTRA, 3 LAST ("LAST repeats"), 4 LAST2 ("LAST2 swaps the two"), 5 GOLDEN_NOMV, 0 NOMV
-unfoldable pub still : ℕ → Vector → Vector → Moved
-still mode last last2 =
-    choose (eqb mode 1) (behind (One None) last last2)
-    (choose (eqb mode 3) (behind (One (Previous last)) last last2)
-    (choose (eqb mode 4) (behind (One (Previous last2)) last2 last)
-    (choose (eqb mode 5) (behind (One (Golden zeroVector)) last last2)
-    (behind (One (Previous zeroVector)) last last2))))
+use Rattle.motion.specs.Kept.{zeroVector, behind, still, lastRead}
 
 -- 2 MV: "last2 takes last, last takes it"
 unfoldable pub moving : ℕ → Vector → Parse Moved
@@ -62,11 +45,6 @@ row code left right = do
   v ← ifCoded code left
   u ← ifCoded code right
   pure (record { left = v; right = u })
-
--- "the last vector actually read, of the last coded luma block in the order A, B, C, D": b, c, d say which of the last three are coded; if none is, A is.
--- "There always is one in that mode" (laws `four-coded` of modes, `four-luma` of frame_packet)
-unfoldable pub lastRead : Bool → Bool → Bool → Row → Row → Vector
-lastRead b c d l u = choose d (u .right) (choose c (u .left) (choose b (l .right) (l .left)))
 
 -- 7 FOUR: "luma blocks A, B (lower), C, D, .. last2 takes last", and last the last vector that was read
 unfoldable pub movingFour : ℕ → Bool → Bool → Bool → Bool → Vector → Parse Moved
@@ -111,21 +89,6 @@ fourVector f l u k = choose (ltb k 4) (lumaVector l u k) (chromaVector f l u k)
 unfoldable pub predictionOf : PixelFormat → Motion → ℕ → Prediction
 predictionOf f (One p) k = p
 predictionOf f (Four l u) k = Previous (fourVector f l u k)
-
--- ---- the range of a motion's vectors
-pub record RowInRange (r : Row) : Type 0 where
-  pub left : VectorInRange (r .left)
-  pub right : VectorInRange (r .right)
-
-abbrev pub MotionInRange : Motion → Type 0
-MotionInRange (One p) = PredictionInRange p
-MotionInRange (Four l u) = RowInRange l × RowInRange u
-
--- a motion, and the two vectors that are kept, of vectors that a frame packet can give
-pub record MovedInRange (m : Moved) : Type 0 where
-  pub motion : MotionInRange (m .motion)
-  pub last : VectorInRange (m .last)
-  pub last2 : VectorInRange (m .last2)
 
 -- ---- what the code answers
 abbrev pub asRow : Outcome Row → RowRead

@@ -2,36 +2,20 @@
 use Prim.Native.Nat.{ℕ, _≤_, _<_}
 use mathlib.Core.Path.{_≡_}
 use mathlib.Core.Bool.{true}
-use mathlib.Core.List.{List, map}
+use mathlib.Core.List.{List}
 use lib.ListN.{getD}
-use Rattle.bitstream.specs.Reading.{choose}
 use Rattle.geometry.specs.declared.PixelFormat.{PixelFormat}
 use Rattle.geometry.specs.declared.Place.{Place}
 use Rattle.geometry.specs.Sizes.{macroBlocksOf, blocksEach}
 use Rattle.geometry.specs.Order.{at, codedMacros}
-use Rattle.block_record.specs.declared.Prediction.{Prediction}
-use Rattle.block_record.specs.declared.Prediction.the-variants.{Previous}
 use Rattle.block_record.specs.declared.BlockRecord.{BlockRecord}
-use Rattle.block_record.specs.Record.{withPrediction, uncoded}
-use Rattle.block_record.specs.Packed.{packed, unpacked}
-use Rattle.vectors.specs.Motion.{zeroVector}
+use Rattle.block_record.specs.Record.{uncoded}
 use Rattle.vectors.specs.Vectors.{numberIn}
+use Rattle.motion.specs.Kept.{unmoved, started}
 
 -- macro block m of the coded order
 abbrev pub macroNo : ℕ → ℕ → ℕ → Place
 macroNo w h m = getD (codedMacros w h) m (at 0 0)
-
--- the prediction of mode 0, NOMV
-abbrev pub unmoved : Prediction
-unmoved = Previous zeroVector
-
--- the record of a coded block with the prediction p; that of another block stays
-abbrev pub predictedAs : Prediction → BlockRecord → BlockRecord
-predictedAs p r = choose (r .coded) (withPrediction p r) r
-
--- how a record starts, as a number
-unfoldable pub started : ℕ → ℕ
-started n = packed (predictedAs unmoved (unpacked n))
 
 -- the coded blocks of the macro blocks from m on are as they started
 unfoldable pub Waiting : PixelFormat → ℕ → ℕ → ℕ → List BlockRecord → Type 0

@@ -5,6 +5,9 @@ use block_record::Prediction;
 use block_record::Vector;
 use geometry::PixelFormat;
 use geometry::Place;
+use motion::Motion;
+use motion::Moved;
+use motion::Row;
 ghost use mathlib.Core.Path.{_≡_};
 ghost use mathlib.Core.List.{map};
 ghost use Prim.Native.Nat.{_+_, _-_, _<_, _≤_, _^_};
@@ -16,14 +19,15 @@ ghost use Rattle.geometry.specs.Sizes.{macroBlocksOf, blocksOf, blocksEach, lar
 ghost use Rattle.geometry.specs.Order.{at};
 ghost use Rattle.block_record.specs.Record.{VectorInRange, PredictionInRange};
 ghost use Rattle.block_record.specs.Packed.{packed};
-ghost use Rattle.block_record.specs.Memory.{IsPacked, AllPacked, recordsOf};
+ghost use Rattle.block_record.specs.Memory.{AllPacked, recordsOf};
 ghost use Rattle.bitstream.specs.Answer.{StoredAs, asEnd};
 ghost use Rattle.numeric.specs.Sign.{withSign};
 ghost use Rattle.vectors.specs.Component.{added, shortest, variable, byCode, component, vector, asComponent, asVector};
 ghost use Rattle.vectors.specs.Vectors.{numberIn, codedIn, predictedAt, predictedFrom, macroBlock, macroBlocks, vectors};
-ghost use Rattle.vectors.specs.Start.{macroNo, started, Waiting};
+ghost use Rattle.vectors.specs.Start.{macroNo, Waiting};
+ghost use Rattle.motion.specs.Kept.{started, RowInRange, MotionInRange, zeroVector};
 ghost use Rattle.vectors.specs.Memory.{stateOf, StoredState, asStep};
-ghost use Rattle.vectors.specs.Motion.{zeroVector, behind, still, moving, movingGolden, ifCoded, row, lastRead, movingFour, motion, meanOfTwo, meanOfFour, lumaVector, chromaVector, fourVector, predictionOf, RowInRange, MotionInRange, asRow, asMoved};
+ghost use Rattle.vectors.specs.Motion.{motion, moving, movingGolden, ifCoded, row, movingFour, meanOfTwo, meanOfFour, lumaVector, chromaVector, fourVector, predictionOf, asRow, asMoved};
 
 // A component and the place behind it, or the number of the refusal and its place; likewise the enums below.
 enum ComponentRead {
@@ -36,28 +40,9 @@ enum VectorRead {
     Refused(u32, usize),
 }
 
-// The vectors of two luma blocks beside each other.
-struct Row {
-    left: Vector,
-    right: Vector,
-}
-
 enum RowRead {
     Got(Row, usize),
     Refused(u32, usize),
-}
-
-// How a macro block moves: one prediction for all its blocks, or four luma vectors, A and B in the lower row, C and D in the upper.
-enum Motion {
-    One(Prediction),
-    Four(Row, Row),
-}
-
-// A macro block's motion, and the vectors that are kept behind it.
-struct Moved {
-    motion: Motion,
-    last: Vector,
-    last2: Vector,
 }
 
 enum MovedRead {
@@ -170,12 +155,6 @@ fn read_vector(packet: &[u8], at: usize, code: u32) -> VectorRead
     }
 }
 
-fn zero_vector() -> Vector
-    ensures { λ r. ⌜ r ≡ zeroVector ⌝ }
-{
-    Vector { x: 0, y: 0 }
-}
-
 // A vector for a coded block, else zero.
 fn read_if_coded(packet: &[u8], at: usize, code: u32, coded: bool) -> VectorRead
     requires { ⌜ length (now packet) ≤ longest ⌝ }
@@ -184,7 +163,7 @@ fn read_if_coded(packet: &[u8], at: usize, code: u32, coded: bool) -> VectorRead
     if coded {
         return read_vector(packet, at, code);
     }
-    VectorRead::Got(zero_vector(), at)
+    VectorRead::Got(motion::zero_vector(), at)
 }
 
 fn read_row(packet: &[u8], at: usize, code: u32, left: bool, right: bool) -> RowRead
@@ -204,37 +183,6 @@ fn read_row(packet: &[u8], at: usize, code: u32, left: bool, right: bool) -> Row
     }
 }
 
-// One prediction for all blocks of the macro block, and what is kept behind it.
-fn one_prediction(p: Prediction, last: Vector, last2: Vector) -> Moved
-    ensures { λ r. ⌜ r ≡ behind (Motion.One p) last last2 ⌝ }
-{
-    Moved {
-        motion: Motion::One(p),
-        last: last,
-        last2: last2,
-    }
-}
-
-// The modes that send nothing: INTRA, LAST, LAST2, GOLDEN_NOMV, NOMV.
-fn still_motion(mode: u8, last: Vector, last2: Vector) -> Moved
-    ensures { λ r. ⌜ r ≡ still mode last last2 ⌝ }
-{
-    if mode == 1 {
-        return one_prediction(Prediction::None, last, last2);
-    }
-    if mode == 3 {
-        return one_prediction(Prediction::Previous(last), last, last2);
-    }
-    if mode == 4 {
-        return one_prediction(Prediction::Previous(last2), last2, last);
-    }
-    let zero = zero_vector();
-    if mode == 5 {
-        return one_prediction(Prediction::Golden(zero), last, last2);
-    }
-    one_prediction(Prediction::Previous(zero), last, last2)
-}
-
 // MV: a vector, which is kept.
 fn read_moving(packet: &[u8], at: usize, code: u32, last: Vector) -> MovedRead
     requires { ⌜ length (now packet) ≤ longest ⌝ }
@@ -244,7 +192,7 @@ fn read_moving(packet: &[u8], at: usize, code: u32, last: Vector) -> MovedRead
     match one {
         VectorRead::Refused(k, e) => MovedRead::Refused(k, e),
         VectorRead::Got(v, next) => MovedRead::Got(
-            one_prediction(Prediction::Previous(v), v, last),
+            motion::one_prediction(Prediction::Previous(v), v, last),
             next,
         ),
     }
@@ -259,26 +207,10 @@ fn read_moving_golden(packet: &[u8], at: usize, code: u32, last: Vector, last2: 
     match one {
         VectorRead::Refused(k, e) => MovedRead::Refused(k, e),
         VectorRead::Got(v, next) => MovedRead::Got(
-            one_prediction(Prediction::Golden(v), last, last2),
+            motion::one_prediction(Prediction::Golden(v), last, last2),
             next,
         ),
     }
-}
-
-// The vector of the last coded block of A, B, C, D, of which one is coded.
-fn last_read(b: bool, c: bool, d: bool, lower: Row, upper: Row) -> Vector
-    ensures { λ r. ⌜ r ≡ lastRead b c d lower upper ⌝ }
-{
-    if d {
-        return upper.right;
-    }
-    if c {
-        return upper.left;
-    }
-    if b {
-        return lower.right;
-    }
-    lower.left
 }
 
 // FOUR: a vector for each coded luma block, in the order A, B, C, D; the last one is kept.
@@ -303,7 +235,7 @@ fn read_moving_four(
             match second {
                 RowRead::Refused(k, e) => MovedRead::Refused(k, e),
                 RowRead::Got(upper, end) => {
-                    let newest = last_read(b, c, d, lower, upper);
+                    let newest = motion::last_read(b, c, d, lower, upper);
                     MovedRead::Got(
                         Moved {
                             motion: Motion::Four(lower, upper),
@@ -343,7 +275,7 @@ fn read_motion(
     if mode == 7 {
         return read_moving_four(packet, at, code, a, b, c, d, last);
     }
-    MovedRead::Got(still_motion(mode, last, last2), at)
+    MovedRead::Got(motion::still_motion(mode, last, last2), at)
 }
 
 fn mean_2(a: i32, b: i32) -> i32
@@ -577,8 +509,8 @@ fn read_each(
     ensures { λ r. ⌜ StoredState (now (records .exit)) (macroBlocks format w h code (now (modes .entry)) (length (now (modes .entry))) 0 (stateOf (now (records .entry)) zeroVector zeroVector) (now (packet .entry)) at) ⌝ }
 {
     let n = modes.len();
-    let mut last = zero_vector();
-    let mut last2 = zero_vector();
+    let mut last = motion::zero_vector();
+    let mut last2 = motion::zero_vector();
     let mut place = at;
     let mut m: usize = 0;
     while m < n {
@@ -611,17 +543,6 @@ fn read_each(
     End::At(place)
 }
 
-// How the record of a block starts: that of a coded one as mode 0 has it, previous with the vector 0.
-fn start_record(n: u32) -> u32
-    requires { ⌜ IsPacked n ⌝ }
-    ensures { λ r. ⌜ r ≡ started n ⌝ }
-{
-    if block_record::is_coded(n) {
-        return block_record::with_prediction(n, Prediction::Previous(zero_vector()));
-    }
-    n
-}
-
 // All of them: a loop without a jump, two instructions for a block.
 fn start_records(records: &mut [u32])
     requires { ⌜ AllPacked (now records) ⌝ }
@@ -629,7 +550,7 @@ fn start_records(records: &mut [u32])
 {
     let mut i = 0;
     while i < records.len() {
-        records[i] = start_record(records[i]);
+        records[i] = motion::start_record(records[i]);
         i += 1;
     }
 }

@@ -37,9 +37,10 @@ use Rattle.shot.proofs.Calls.{passes, number-0, shot-refused, shot-empty, shot-
 use Rattle.film.specs.Film.{filmOf}
 use Rattle.checked_packets.specs.declared.Watched.{Watched}
 use Rattle.checked_packets.specs.Watch.{watched, watchedAll, ChecksAll}
-use Rattle.vendor_check.specs.declared.CheckAnswer.{CheckAnswer}
-use Rattle.vendor_check.specs.declared.CheckAnswer.the-variants.{Refused}
-use Rattle.vendor_check.specs.Check.{compared, firstRefused, turnsOf, checkedShot, CheckDone, checkDone, checkOf, Lent, fresh, CheckLeft, unplayed, bySetup, bySession, checked, begunBy, saidBy}
+use Rattle.check_answer.specs.declared.CheckAnswer.{CheckAnswer}
+use Rattle.check_answer.specs.declared.CheckAnswer.the-variants.{Refused}
+use Rattle.vendor_check.specs.Check.{compared, firstRefused, turnsOf, checkedShot, CheckDone, checkDone, checkOf, Lent, fresh, CheckLeft, unplayed, bySetup, bySession, checked, begunBy}
+use Rattle.check_answer.specs.Said.{saidBy}
 use Rattle.vendor_check.proofs.Films.{film-said}
 
 -- ---- the answer and what is left

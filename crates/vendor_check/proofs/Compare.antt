@@ -14,8 +14,9 @@ use Rattle.text.proofs.Texts.{same-eq, same-refl}
 use Rattle.stream_check.specs.declared.Compared.{Compared}
 use Rattle.stream_check.specs.Compared.{difference, onward, beginning}
 use Rattle.stream_check.proofs.Onward.{onward-on}
-use Rattle.vendor_check.specs.declared.CheckAnswer.the-variants.{Passes, Differs}
-use Rattle.vendor_check.specs.Check.{compared, comparedAll}
+use Rattle.check_answer.specs.declared.CheckAnswer.the-variants.{Passes, Differs}
+use Rattle.vendor_check.specs.Check.{compared}
+use Rattle.check_answer.specs.Said.{comparedAll}
 
 -- a list and itself
 pub difference-same : (l : List ℕ) → difference l l ≡ length l

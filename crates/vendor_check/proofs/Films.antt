@@ -29,8 +29,9 @@ use Rattle.stream_check.proofs.Onward.{onward-none, onward-parts}
 use Rattle.checked_packets.specs.declared.Watched.{Watched}
 use Rattle.checked_packets.specs.Watch.{byVerdict, watched, watchedAll}
 use Rattle.checked_packets.proofs.Steps.{watched-stays}
-use Rattle.vendor_check.specs.declared.CheckAnswer.the-variants.{Refused}
-use Rattle.vendor_check.specs.Check.{compared, refusedOr, firstRefused, begunBy, comparedAll, saidBy}
+use Rattle.check_answer.specs.declared.CheckAnswer.the-variants.{Refused}
+use Rattle.vendor_check.specs.Check.{compared, refusedOr, firstRefused, begunBy}
+use Rattle.check_answer.specs.Said.{comparedAll, saidBy}
 use Rattle.vendor_check.proofs.Compare.{compared-whole}
 
 -- ---- the texts of some frames

@@ -3,7 +3,7 @@ use Prim.Native.Nat.{ℕ}
 use mathlib.Core.Path.{_≡_}
 use mathlib.Core.Bool.{false}
 use mathlib.Core.List.{List, [], _∷_, map}
-use lib.Dec.{eqb, ltb}
+use lib.Dec.{eqb}
 use lib.ListN.{length}
 use Rattle.bitstream.specs.Reading.{Outcome, got, refused, choose}
 use Rattle.headers.specs.declared.Session.{Session}
@@ -25,11 +25,10 @@ use Rattle.shot_packets.specs.Play.{stateOf}
 use Rattle.shot.specs.Call.{ShotCall, shotNumber, startOf, byShot}
 use Rattle.shot.specs.Claims.{callsOf, answerOf}
 use Rattle.film.specs.Film.{filmOf}
-use Rattle.stream_check.specs.declared.Compared.{Compared}
 use Rattle.stream_check.specs.Compared.{difference, onward, beginning}
 use Rattle.checked_packets.specs.declared.Watched.{Watched}
-use Rattle.vendor_check.specs.declared.CheckAnswer.{CheckAnswer}
-use Rattle.vendor_check.specs.declared.CheckAnswer.the-variants.{Passes, Differs, Refused}
+use Rattle.check_answer.specs.declared.CheckAnswer.{CheckAnswer}
+use Rattle.check_answer.specs.declared.CheckAnswer.the-variants.{Passes, Differs, Refused}
 
 -- ---- the answer
 -- "It passes the file exactly if .. the file is what Ask 1 would write .. Otherwise it names the first differing byte"
@@ -121,10 +120,3 @@ checked header setup file l = bySession (identification header 0) setup file l
 -- the header's line is compared
 abbrev pub begunBy : Session → (file : List ℕ) → Watched
 begunBy s file = record { compared = onward beginning (headerText (numbersOf s)) file; refused = false; number = 0; bit = 0 }
-
--- all is compared: "too long differs at the shorter length"
-abbrev pub comparedAll : Compared → (file : List ℕ) → CheckAnswer
-comparedAll c file = choose (c .differs) (Differs (c .place)) (choose (ltb (c .place) (length file)) (Differs (c .place)) Passes)
-
-unfoldable pub saidBy : Watched → (file : List ℕ) → CheckAnswer
-saidBy w file = choose (w .refused) (Refused (w .number) (w .bit)) (comparedAll (w .compared) file)

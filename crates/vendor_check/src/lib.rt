@@ -1,6 +1,7 @@
 // The vendor's file, checked: two headers and packets are decoded, and a file is compared with the stream of their frames.
 use bitstream::End;
 use buffer_names::Names;
+use check_answer::CheckAnswer;
 use checked_packets::Watched;
 use headers::IdentificationAnswer;
 use headers::Session;
@@ -14,14 +15,7 @@ ghost use Rattle.headers.specs.Fits.{sessionFits};
 ghost use Rattle.work_memory.specs.Memory.{memory};
 ghost use Rattle.shot_packets.specs.Inner.{TableLoaded};
 ghost use Rattle.shot.specs.Call.{shotCall, lentNumber};
-ghost use Rattle.vendor_check.specs.Check.{begunBy, saidBy, lent, checkDone, ShotChecked, checkLeft, checked};
-
-// The file is what it must be; the first byte at which it differs; or the number of the first refusal and its place.
-pub enum CheckAnswer {
-    Passes,
-    Differs(u64),
-    Refused(u32, usize),
-}
+ghost use Rattle.vendor_check.specs.Check.{begunBy, lent, checkDone, ShotChecked, checkLeft, checked};
 
 // The header of a session's stream compared, before the first packet.
 fn begin(s: Session, file: &[u8]) -> Watched
@@ -35,23 +29,6 @@ fn begin(s: Session, file: &[u8]) -> Watched
         number: 0,
         bit: 0,
     }
-}
-
-// What is answered after the last packet: a refusal wins over any difference, and a file with more bytes differs where they begin.
-fn conclude(w: Watched, file: &[u8]) -> CheckAnswer
-    ensures { λ r. ⌜ r ≡ saidBy w (now (file .entry)) ⌝ }
-{
-    if w.refused {
-        return CheckAnswer::Refused(w.number, w.bit);
-    }
-    let compared = w.compared;
-    if compared.differs {
-        return CheckAnswer::Differs(compared.place as u64);
-    }
-    if compared.place < file.len() {
-        return CheckAnswer::Differs(compared.place as u64);
-    }
-    CheckAnswer::Passes
 }
 
 // A check whose lent lengths passed their tests, by the setup that table memory holds.
@@ -88,7 +65,7 @@ fn check_loaded(
     }
     let begun = begin(s, file);
     if lengths.len() == 0 {
-        return conclude(begun, file);
+        return check_answer::conclude(begun, file);
     }
     let both = buffer_names::names_of(s, names);
     work_memory::clear_memory(
@@ -127,7 +104,7 @@ fn check_loaded(
         third,
         answers,
     );
-    conclude(seen, file)
+    check_answer::conclude(seen, file)
 }
 
 // A check from a session on: request 6's call, and the file compared.

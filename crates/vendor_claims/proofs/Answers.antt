@@ -26,8 +26,8 @@ use Rattle.shot.specs.Call.{ShotCall, shotLengthsFit, reaches, lentNumber, shot
 use Rattle.shot.specs.Claims.{answerOf}
 use Rattle.film.specs.Film.{filmOf}
 use Rattle.stream_check.specs.Compared.{difference}
-use Rattle.vendor_check.specs.declared.CheckAnswer.{CheckAnswer}
-use Rattle.vendor_check.specs.declared.CheckAnswer.the-variants.{Passes, Differs, Refused}
+use Rattle.check_answer.specs.declared.CheckAnswer.{CheckAnswer}
+use Rattle.check_answer.specs.declared.CheckAnswer.the-variants.{Passes, Differs, Refused}
 use Rattle.vendor_check.specs.Check.{compared, refusedOr, firstRefused, turnsOf, checkedShot, checkOf, Lent, fresh, CheckLeft, unplayed, bySetup, bySession, checked}
 use Rattle.vendor_check.proofs.Calls.{answer-refused, answer-played}
 use Rattle.vendor_claims.specs.Claims.{Begins, IsAccepted, AllAccepted, Accepts, answer, FirstDifference, PassesExactly, DiffersFirst, RefusalsWin, LeftAsShots, Never8}

@@ -19,8 +19,8 @@ use Rattle.y4m.specs.Film.{holds, filmIn}
 use Rattle.shot.specs.Call.{ShotCall, shotNumber, byShot}
 use Rattle.shot.specs.Claims.{answerOf}
 use Rattle.film.specs.Film.{framesOf, joined, filmOf}
-use Rattle.vendor_check.specs.declared.CheckAnswer.{CheckAnswer}
-use Rattle.vendor_check.specs.declared.CheckAnswer.the-variants.{Passes, Differs, Refused}
+use Rattle.check_answer.specs.declared.CheckAnswer.{CheckAnswer}
+use Rattle.check_answer.specs.declared.CheckAnswer.the-variants.{Passes, Differs, Refused}
 use Rattle.vendor_check.specs.Check.{turnsOf, Lent, fresh, checked, unplayed}
 
 -- both headers are accepted, and the packets are those of this shot call

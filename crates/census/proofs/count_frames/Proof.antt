@@ -1,6 +1,5 @@
 -- `census::count_frames` meets its contract. Assumes nothing.
 use borrow.Author.Needs.{needs}
-use native.Mathlib.Omega.{arith}
 use mathlib.Core.Path.{refl, ap, _∙_}
 use Rattle.work_memory.specs.Memory.{Memory, memory}
 use Rattle.work_memory.specs.Lengths.{lengthsOf}
@@ -61,11 +60,8 @@ same-length-10 c = (c .before .active2) .given ∙ (c .before .before .before .b
 returns : tie.Need-returns
 returns c = let a = (c .before .before .before .before .before .before .before .before .before .before .before .before .before .before .before .before .before .before .before .before .before .before .before .before .before .before .before .before .before .before .before .before .before .before .before .before .before .before .before .before .before .before .before .before .before .before .before .before .before .before .before .before .before .before .before .before .before .before .before .before .before .before .before .before .before .before .before .before .before .before .before .before .before .before .before .before .before .before .before .before .before .before .before .before .before .args) in by-read (lent (a .table .now) (memory (a .records .now) (a .coded .now) (a .coefs .now) (a .dc .now) (a .lasts .now) (a .flags .now) (a .bits .now) (a .supers .now) (a .modes .now) (a .active .now)) (a .golden .now) (a .previous .now) (a .new .now)) (a .table .now) (a .lengths .now) (a .packets .now) (a .start) (a .s) ((c .before .before .before .before .before .before .before .before .before .before .before .before .before .before .before .before .before .before .before .before .before .before .before .before .before .before .before .before .before .before .before .before .before .before .before .before .before .before .before .before .before .before .before .before .before .before .before .before .before .before .before .before .before .before .before .before .before .before .before .before .before .before .before .before .before .before .before .before .before .before .before .before .before .before .before .before .before .before .before .before .before .before .before .before .before .pre) .0) (a .running) ((tests-are (a .s) (a .golden .now) (a .previous .now) (a .new .now) (a .table .now) (memory (a .records .now) (a .coded .now) (a .coefs .now) (a .dc .now) (a .lasts .now) (a .flags .now) (a .bits .now) (a .supers .now) (a .modes .now) (a .active .now)) ((c .before .before .before .before .before .before .before .before .before .before .before .before .before .before .before .before .before .before .before .before .before .before .before .before .before .before .before .before .before .before .before .before .before .before .before .before .before .before .before .before .before .before .before .before .before .before .before .before .before .before .before .before .before .before .before .before .before .before .before .before .before .before .before .before .before .before .before .before .before .before .lengths-of) .ensures) ((c .before .before .before .before .before .before .before .before .before .before .before .before .before .before .before .before .before .before .before .before .before .before .before .before .before .before .before .before .before .before .before .before .before .before .before .before .before .before .before .before .before .before .before .before .before .before .before .before .before .before .before .before .before .before .before .before .before .before .before .before .before .before .before .before .before .before .before .before .before .buffers-fit) .ensures) ((c .before .before .before .before .before .before .before .before .before .before .before .before .before .before .before .before .before .before .before .before .before .before .before .before .before .before .before .before .before .before .before .before .before .before .before .before .before .before .before .before .before .before .before .before .before .before .before .before .before .before .before .before .before .before .before .before .before .before .lengths-fit) .ensures)) ∙ (c .before .before .before .before .before .before .before .before .before .before .before .before .before .before .before .before .before .before .before .before .before .before .before .before .before .before .before .before .before .before .before .before .before .before .before .before .before .before .before .before .before .before .before .before .before .before .before .before .before .before .before .before .before .before .before .before .before .if1) .taken) _ ((c .before .before .before .before .before .before .before .before .before .before .before .before .before .before .before .before .before .count-packets) .ensures)
 
-sub-frames : tie.Need-sub-frames
-sub-frames c = omega (arith, (c .before .before .before .before .before .before .before .before .before .before .before .before .before .before .before .before .before .before .before .before .before .before .before .before .before .before .before .before .pre) .2)
-
-add-refusals-requires : tie.Need-add-refusals-requires
-add-refusals-requires c κs = (omega arith, omega arith)
+refuse-frames-requires : tie.Need-refuse-frames-requires
+refuse-frames-requires c κs = (c .before .before .before .before .before .before .before .before .before .before .before .before .before .before .before .before .before .before .before .before .before .before .before .before .before .before .before .before .pre) .2
 
 same-length-11 : tie.Need-same-length-11
 same-length-11 c = refl
@@ -98,7 +94,7 @@ same-length-20 : tie.Need-same-length-20
 same-length-20 c = refl
 
 returns-2 : tie.Need-returns-2
-returns-2 c = let a = (c .before .before .before .before .before .before .before .before .before .before .before .before .before .before .before .before .before .before .before .before .before .before .before .before .before .before .before .before .before .args) in by-wrong (lent (a .table .now) (memory (a .records .now) (a .coded .now) (a .coefs .now) (a .dc .now) (a .lasts .now) (a .flags .now) (a .bits .now) (a .supers .now) (a .modes .now) (a .active .now)) (a .golden .now) (a .previous .now) (a .new .now)) (a .table .now) (a .lengths .now) (a .packets .now) (a .start) (a .s) ((c .before .before .before .before .before .before .before .before .before .before .before .before .before .before .before .before .before .before .before .before .before .before .before .before .before .before .before .before .before .pre) .0) (a .running) ((tests-are (a .s) (a .golden .now) (a .previous .now) (a .new .now) (a .table .now) (memory (a .records .now) (a .coded .now) (a .coefs .now) (a .dc .now) (a .lasts .now) (a .flags .now) (a .bits .now) (a .supers .now) (a .modes .now) (a .active .now)) ((c .before .before .before .before .before .before .before .before .before .before .before .before .before .before .lengths-of) .ensures) ((c .before .before .before .before .before .before .before .before .before .before .before .before .before .buffers-fit) .ensures) ((c .before .before .lengths-fit) .ensures)) ∙ (c .before .if1) .left) _ ((c .add-refusals) .ensures)
+returns-2 c = let a = (c .before .before .before .before .before .before .before .before .before .before .before .before .before .before .before .before .before .before .before .before .before .before .before .before .before .before .before .before .before .args) in by-wrong (lent (a .table .now) (memory (a .records .now) (a .coded .now) (a .coefs .now) (a .dc .now) (a .lasts .now) (a .flags .now) (a .bits .now) (a .supers .now) (a .modes .now) (a .active .now)) (a .golden .now) (a .previous .now) (a .new .now)) (a .table .now) (a .lengths .now) (a .packets .now) (a .start) (a .s) ((c .before .before .before .before .before .before .before .before .before .before .before .before .before .before .before .before .before .before .before .before .before .before .before .before .before .before .before .before .before .pre) .0) (a .running) ((tests-are (a .s) (a .golden .now) (a .previous .now) (a .new .now) (a .table .now) (memory (a .records .now) (a .coded .now) (a .coefs .now) (a .dc .now) (a .lasts .now) (a .flags .now) (a .bits .now) (a .supers .now) (a .modes .now) (a .active .now)) ((c .before .before .before .before .before .before .before .before .before .before .before .before .before .before .lengths-of) .ensures) ((c .before .before .before .before .before .before .before .before .before .before .before .before .before .buffers-fit) .ensures) ((c .before .before .lengths-fit) .ensures)) ∙ (c .before .if1) .left) _ ((c .refuse-frames) .ensures)
 
 pub count-frames-spec : {M : Type 1} → statement M
 count-frames-spec =
@@ -121,8 +117,7 @@ count-frames-spec =
     same-length-9
     same-length-10
     returns
-    sub-frames
-    add-refusals-requires
+    refuse-frames-requires
     same-length-11
     same-length-12
     same-length-13

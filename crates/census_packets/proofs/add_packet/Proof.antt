@@ -7,7 +7,7 @@ use Rattle.census_packets.proofs.add_packet.Tie as tie
 use Rattle.census_packets.proofs.add_packet.Reads as reads
 use Rattle.census_packets.proofs.add_packet.Lts as lts
 use Rattle.census_packets.proofs.add_frame.Reads as add-frame-reads
-use Rattle.census_packets.proofs.add_refusals.Reads as add-refusals-reads
+use Rattle.report.proofs.add_refusals.Reads as add-refusals-reads
 
 enum-known-verdict : tie.Need-enum-known-verdict
 enum-known-verdict c = search needs

@@ -10,7 +10,8 @@ use Rattle.block_record.specs.declared.BlockRecord.{BlockRecord}
 use Rattle.block_record.specs.Packed.{unpacked}
 use Rattle.block_record.specs.Record.{referenceOf}
 use Rattle.block_record.proofs.Laws.{unpacked-at}
-use Rattle.dc_prediction.specs.Planes.{DcState, codedStep, blockStep}
+use Rattle.dc_prediction.specs.Planes.{codedStep, blockStep}
+use Rattle.dc_neighbours.specs.Block.{DcState}
 use Rattle.dc_prediction.proofs.Rows.{uncoded}
 use Rattle.dc_prediction.proofs.predict_block.Statement.{statement}
 use Rattle.dc_prediction.proofs.predict_block.Tie as tie

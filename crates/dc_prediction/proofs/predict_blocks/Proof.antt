@@ -5,7 +5,8 @@ use Prim.Native.Nat.{ℕ, _≤_, _-_}
 use native.Mathlib.Omega.{arith}
 use lib.ListN.{length}
 use Rattle.block_record.specs.Packed.{unpacked}
-use Rattle.dc_prediction.specs.Planes.{stateOf, blockStep, row}
+use Rattle.dc_prediction.specs.Planes.{blockStep, row}
+use Rattle.dc_neighbours.specs.Block.{stateOf}
 use Rattle.ways.specs.Loops.{upTo}
 use Rattle.ways.proofs.Steps.{upTo-more}
 use Rattle.dc_prediction.proofs.predict_blocks.Statement.{statement}

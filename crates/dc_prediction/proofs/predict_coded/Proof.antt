@@ -9,7 +9,8 @@ use mir.Syntax.{w16, w32}
 use Rattle.numeric.specs.Cut.{cut}
 use Rattle.numeric.proofs.Known.{Known, k-wide, ask-wide, back, k-got, k-add, ask-add}
 use Rattle.block_record.specs.Packed.{unpacked}
-use Rattle.dc_prediction.specs.Planes.{stateOf, prediction, codedStep}
+use Rattle.dc_prediction.specs.Planes.{codedStep}
+use Rattle.dc_neighbours.specs.Block.{stateOf, prediction}
 use Rattle.dc_prediction.proofs.predict_coded.Statement.{statement}
 use Rattle.dc_prediction.proofs.predict_coded.Tie as tie
 

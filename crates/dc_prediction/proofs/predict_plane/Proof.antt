@@ -9,7 +9,8 @@ use lib.Dec.{ltb}
 use lib.ListN.{length}
 use Rattle.block_record.specs.declared.BlockRecord.{BlockRecord}
 use Rattle.block_record.specs.Packed.{unpacked}
-use Rattle.dc_prediction.specs.Planes.{DcState, stateOf, atFirst, row, plane}
+use Rattle.dc_prediction.specs.Planes.{atFirst, row, plane}
+use Rattle.dc_neighbours.specs.Block.{DcState, stateOf}
 use Rattle.ways.specs.Loops.{upTo}
 use Rattle.ways.proofs.Steps.{upTo-more}
 use Rattle.dc_prediction.proofs.predict_plane.Statement.{statement}

@@ -1,5 +1,5 @@
 -- `dc_prediction::predict_row` meets its contract. Assumes nothing.
-use Rattle.dc_prediction.specs.Planes.{stateOf}
+use Rattle.dc_neighbours.specs.Block.{stateOf}
 use Rattle.dc_prediction.proofs.Rows.{none-row}
 use borrow.Author.Needs.{needs}
 use Rattle.dc_prediction.proofs.predict_row.Statement.{statement}

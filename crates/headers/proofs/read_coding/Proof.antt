@@ -3,7 +3,7 @@ use borrow.Author.Needs.{needs}
 use mathlib.Core.Path.{_≡_, sym}
 use Rattle.bitstream.specs.Reading.{got, field}
 use Rattle.bitstream.proofs.Fields.{read-got, read-refused}
-use Rattle.headers.specs.Judgement.{formatCode, exactly}
+use Rattle.header_fields.specs.Tests.{formatCode, exactly}
 use Rattle.headers.specs.Identification.{coding}
 use Rattle.headers.proofs.read_coding.Statement.{statement}
 use Rattle.headers.proofs.read_coding.Tie as tie

@@ -7,7 +7,8 @@ use mathlib.Core.List.{_∷_}
 use lib.ListN.{drop, getD}
 use lib.Dec.{lit≤}
 use Rattle.bitstream.proofs.Fields.{read-got, read-refused}
-use Rattle.headers.specs.Judgement.{exactly, spelled, theora, commonHeader}
+use Rattle.headers.specs.Judgement.{spelled, theora, commonHeader}
+use Rattle.header_fields.specs.Tests.{exactly}
 use Rattle.bitstream.specs.Answer.{asEnd}
 use Rattle.headers.proofs.Judged.{spelled-next, spelled-refused}
 use Rattle.headers.proofs.read_common_header.Statement.{statement}

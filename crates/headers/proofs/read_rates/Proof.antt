@@ -3,7 +3,7 @@ use borrow.Author.Needs.{needs}
 use mathlib.Core.Path.{_≡_, sym}
 use Rattle.bitstream.specs.Reading.{got, field}
 use Rattle.bitstream.proofs.Fields.{read-got, read-refused}
-use Rattle.headers.specs.Judgement.{positive}
+use Rattle.header_fields.specs.Tests.{positive}
 use Rattle.headers.specs.Identification.{rates}
 use Rattle.headers.proofs.read_rates.Statement.{statement}
 use Rattle.headers.proofs.read_rates.Tie as tie

@@ -11,7 +11,8 @@ use Rattle.numeric.proofs.Magnitude.{plus-ok}
 use Rattle.numeric.proofs.Known.{Known, k-any, k-lit, test-lt, ask-nat, nat-of}
 use Rattle.prediction.specs.declared.Start.{Start}
 use Rattle.prediction.specs.declared.Start.the-variants.{At}
-use Rattle.prediction.proofs.Facts.{in-plane, plane-size, start-left, start-under, start-right, start-over, start-at}
+use Rattle.prediction.proofs.Facts.{plane-size, start-left, start-under, start-right, start-over, start-at}
+use Rattle.fetches.proofs.Leads.{in-plane}
 use borrow.Author.Needs.{needs}
 use Rattle.prediction.proofs.start_of.Statement.{statement}
 use Rattle.prediction.proofs.start_of.Tie as tie

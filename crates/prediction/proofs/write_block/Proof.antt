@@ -11,7 +11,8 @@ use Rattle.geometry.specs.Sample.{sampleAt}
 use Rattle.block_record.specs.Record.{PredictionInRange}
 use Rattle.ways.specs.Corner.{blockAt}
 use Rattle.prediction.specs.Predicted.{summed}
-use Rattle.prediction.specs.Block.{Lies, withResidual}
+use Rattle.prediction.specs.Block.{withResidual}
+use Rattle.fetches.specs.Fetched.{Lies}
 use Rattle.prediction.proofs.Facts.{block-same, of-grey, sum-none, sum-previous, sum-golden, frame-lies, corner-end, in-small}
 use borrow.Author.Needs.{needs}
 use Rattle.prediction.proofs.write_block.Statement.{statement}

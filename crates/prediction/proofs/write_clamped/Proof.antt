@@ -2,7 +2,8 @@
 -- Assumes nothing.
 use mathlib.Core.Path.{ap, _∙_}
 use Prim.Native.Nat.{_+_, _*_}
-use Rattle.prediction.specs.Block.{meanAt, withResidual}
+use Rattle.prediction.specs.Block.{withResidual}
+use Rattle.fetches.specs.Fetched.{meanAt}
 use Rattle.prediction.proofs.Facts.{block-same, of-means}
 use borrow.Author.Needs.{needs}
 use Rattle.prediction.proofs.write_clamped.Statement.{statement}

@@ -6,9 +6,10 @@ use native.Mathlib.Omega.{arith}
 use mir.Syntax.{w32}
 use Rattle.numeric.proofs.Known.{back}
 use Rattle.geometry.specs.declared.Plane.{Plane}
-use Rattle.prediction.specs.declared.Fetches.{Fetches}
+use Rattle.fetches.specs.declared.Fetches.{Fetches}
 use Rattle.prediction.specs.declared.Start.the-variants.{At}
-use Rattle.prediction.specs.Block.{meanAt, withResidual, startOf}
+use Rattle.prediction.specs.Block.{withResidual, startOf}
+use Rattle.fetches.specs.Fetched.{meanAt}
 use Rattle.prediction.proofs.Facts.{block-same, inner-end, of-inner}
 use borrow.Author.Needs.{needs}
 use Rattle.prediction.proofs.write_moved.Statement.{statement}

@@ -5,9 +5,9 @@ use mathlib.Core.Path.{_≡_, refl, ap, sym, _∙_}
 use lib.ListN.{length}
 use Rattle.bitstream.specs.Reading.{got}
 use Rattle.bitstream.proofs.Fields.{read-got, read-refused}
-use Rattle.quantization.specs.Parameters.{index, rangeSize}
+use Rattle.set_fields.specs.Fields.{index, rangeSize}
 use Rattle.quantization.specs.Answer.{endOf}
-use Rattle.quantization.proofs.Steps.{index-lt, size-le}
+use Rattle.set_fields.proofs.Fields.{index-lt, size-le}
 use Rattle.quantization.proofs.Sets.{Reading, new-bad, reading-start, reading-done, reading-size, reading-index, reading-more, set-refused}
 use borrow.Author.Needs.{needs}
 use Rattle.quantization.proofs.read_new.Statement.{statement}

@@ -7,7 +7,7 @@ use mathlib.Core.List.{List}
 use lib.ListN.{length}
 use Rattle.bitstream.specs.Reading.{got}
 use Rattle.bitstream.proofs.Fields.{read-got, read-refused}
-use Rattle.quantization.specs.Parameters.{origin}
+use Rattle.set_fields.specs.Fields.{origin}
 use Rattle.quantization.specs.Answer.{endOf}
 use Rattle.quantization.proofs.Sets.{Sets, origin-is, sets-start, sets-done, sets-origin, sets-refused, sets-more, sets-bad, sets-long}
 use borrow.Author.Needs.{needs}

@@ -9,11 +9,12 @@ use mir.Syntax.{w32}
 use Rattle.numeric.proofs.Magnitude.{size}
 use Rattle.numeric.proofs.Known.{Known, k-call, k-add, ask-add}
 use Rattle.geometry.specs.Order.{inTurn}
-use Rattle.rgb.specs.Rule.{luma, entry}
+use Rattle.colour_tables.specs.Rule.{luma, entry}
 use Rattle.rgb.specs.Pixel.{toByte}
-use Rattle.rgb.specs.Sums.{ofCb, ofCr, three}
-use Rattle.rgb.proofs.Tables.{tables-length, luma-at}
-use Rattle.rgb.proofs.Facts.{rows-length, cb-at, cr-at, cb-small, cr-small, sum-is, laid, no-bytes, byte-more, bytes-done}
+use Rattle.colour_tables.specs.Parts.{ofCb, ofCr, three}
+use Rattle.colour_tables.proofs.Tables.{tables-length, luma-at}
+use Rattle.rgb.proofs.Facts.{sum-is, laid, no-bytes, byte-more, bytes-done}
+use Rattle.colour_tables.proofs.Parts.{rows-length, cb-at, cr-at, cb-small, cr-small}
 use borrow.Author.Needs.{needs}
 use Rattle.rgb.proofs.put_pixel.Statement.{statement}
 use Rattle.rgb.proofs.put_pixel.Tie as tie

@@ -3,7 +3,8 @@ use borrow.Author.Needs.{needs}
 use mathlib.Core.Path.{ap, _∙_}
 use borrow.Author.Tests.{eqb-true}
 use Rattle.bitstream.proofs.ListLaws.{and-both}
-use Rattle.theora_c.specs.Face.{sessionReturned, identificationCall}
+use Rattle.theora_c.specs.Face.{identificationCall}
+use Rattle.answer_lists.specs.Lists.{sessionReturned}
 use Rattle.theora_c.proofs.wedgepetal_identification.Statement.{statement}
 use Rattle.theora_c.proofs.wedgepetal_identification.Tie as tie
 

@@ -2,7 +2,8 @@
 use borrow.Author.Needs.{needs}
 use borrow.Author.Tests.{eq-eqb, ne-eqb}
 use mathlib.Core.Path.{ap, _∙_}
-use Rattle.theora_c.specs.Face.{numberReturned, limitCall}
+use Rattle.theora_c.specs.Face.{limitCall}
+use Rattle.answer_lists.specs.Lists.{numberReturned}
 use Rattle.theora_c.proofs.wedgepetal_loop_limit.Statement.{statement}
 use Rattle.theora_c.proofs.wedgepetal_loop_limit.Tie as tie
 

@@ -3,7 +3,8 @@ use borrow.Author.Needs.{needs}
 use mathlib.Core.Path.{sym, _∙_}
 use lib.ListN.{length}
 use Rattle.work_memory.specs.Memory.{memory}
-use Rattle.tiles_shot_c.proofs.Calls.{lists-long, face-made, face-unmade}
+use Rattle.tiles_shot_c.proofs.Calls.{face-made, face-unmade}
+use Rattle.settings_list.proofs.ShotLists.{lists-long}
 use Rattle.tiles_shot_c.proofs.wedgepetal_tiles_shot.Statement.{statement}
 use Rattle.tiles_shot_c.proofs.wedgepetal_tiles_shot.Tie as tie
 

@@ -2,8 +2,9 @@
 use Prim.Native.Nat.{_-_}
 use mathlib.Core.Path.{sym, ap, _∙_, subst}
 use Rattle.block_record.specs.declared.Prediction.the-variants.{Previous}
-use Rattle.vectors.specs.declared.Motion.{Motion}
-use Rattle.vectors.specs.Motion.{predictionOf, MotionInRange}
+use Rattle.motion.specs.declared.Motion.{Motion}
+use Rattle.vectors.specs.Motion.{predictionOf}
+use Rattle.motion.specs.Kept.{MotionInRange}
 use borrow.Author.Needs.{needs}
 use Rattle.vectors.proofs.prediction_of.Statement.{statement}
 use Rattle.vectors.proofs.prediction_of.Tie as tie

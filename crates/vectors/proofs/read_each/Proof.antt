@@ -9,11 +9,11 @@ use Rattle.geometry.proofs.SizeLaws.{sizes-small}
 use Rattle.block_record.specs.declared.BlockRecord.{BlockRecord}
 use mathlib.Core.List.{List}
 use Rattle.block_record.specs.Memory.{AllPacked, recordsOf}
-use Rattle.vectors.specs.Motion.{zeroVector}
+use Rattle.motion.specs.Kept.{zeroVector}
 use Rattle.vectors.specs.Vectors.{VectorState, macroBlocks}
 use Rattle.vectors.specs.Memory.{stateOf}
 use Rattle.vectors.specs.Start.{Waiting}
-use Rattle.vectors.proofs.Motions.{zero-small}
+use Rattle.motion.proofs.Kept.{zero-small}
 use Rattle.vectors.proofs.Records.{this, each-done, each-end, each-on, macro-through, step-next, step-refused, on-each, on-each-refused}
 use Rattle.vectors.proofs.Start.{waiting-on}
 use borrow.Author.Needs.{needs}

@@ -1,7 +1,7 @@
 -- `vectors::read_motion` meets its contract. Assumes nothing.
 use Prim.Native.Nat.{_-_}
 use mathlib.Core.Path.{sym, ap, _∙_}
-use Rattle.vectors.specs.declared.Moved.{Moved}
+use Rattle.motion.specs.declared.Moved.{Moved}
 use Rattle.vectors.specs.declared.MovedRead.the-variants as moved-read
 use Rattle.vectors.specs.Motion.{asMoved}
 use Rattle.vectors.proofs.Motions.{motion-mv, motion-golden, motion-four, motion-still}

@@ -1,0 +1,2 @@
+-- Steps: a test of two flags.
+pub mod Steps

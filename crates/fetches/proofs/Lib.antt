@@ -1,0 +1,2 @@
+-- Leads: where fetches lead. Assumes nothing.
+pub mod Leads

@@ -1,0 +1,2 @@
+-- Padding: padding-holds. Assumes nothing.
+pub mod Padding

@@ -1,0 +1,2 @@
+-- Fields: how each field goes, by what is read. Assumes nothing.
+pub mod Fields
