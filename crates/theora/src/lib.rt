@@ -140,5 +140,5 @@ pub fn frame(
         }
         return reading::refusal(1, 0, s);
     }
-    reading::refusal(8, 0, s)
+    reading::refusal(bitstream::NOT_GENUINE, 0, s)
 }
