@@ -99,11 +99,12 @@ fn decode_into<'a>(
     let verdict = answer.verdict;
     let header = answer.header;
     let kind = header.kind;
+    let matrices = decoded.kept;
     let after = buffer_names::names_after(names, free, verdict, kind);
     Played {
         answer,
         names: after,
-        kept: decoded.kept,
+        kept: matrices,
     }
 }
 
