@@ -23,12 +23,12 @@ ghost use Rattle.reading.specs.Answer.{readBy, read};
 ghost use Rattle.decoding.specs.Answer.{state, done, decoded};
 
 // The loop limit of the first qi.
-fn limit_of(loaded: LoadedSetup, qis: [u8; 3]) -> u32
-    requires { ⌜ (getD qis 0 0 < 64) × (getD (loaded .limits) (getD qis 0 0) 0 ≤ 127) ⌝ }
-    ensures { λ r. ⌜ r ≡ getD (loaded .limits) (getD qis 0 0) 0 ⌝ }
+fn limit_of(limits: [u16; 64], qis: [u8; 3]) -> u32
+    requires { ⌜ (getD qis 0 0 < 64) × (getD limits (getD qis 0 0) 0 ≤ 127) ⌝ }
+    ensures { λ r. ⌜ r ≡ getD limits (getD qis 0 0) 0 ⌝ }
 {
     let first = qis[0] as usize;
-    loaded.limits[first] as u32
+    limits[first] as u32
 }
 
 // What a packet answers, and the matrices that are kept after it.
@@ -108,7 +108,8 @@ pub fn decode_packet(
                 header.count,
                 kept,
             );
-            let limit = limit_of(loaded, qis);
+            let limits = loaded.limits;
+            let limit = limit_of(limits, qis);
             reconstruct::make_frame(
                 new,
                 golden,
