@@ -111,6 +111,7 @@ pub fn check_packets(
 {
     let mut session = s;
     let mut both = names;
+    let mut kept = kept_matrices::none();
     let mut seen = begun;
     let mut at: usize = 0;
     let mut i: usize = 0;
@@ -123,6 +124,7 @@ pub fn check_packets(
             &packets[at..end],
             table,
             loaded,
+            kept,
             records,
             coded,
             coefs,
@@ -145,6 +147,7 @@ pub fn check_packets(
         reading::store_answer(verdict, header, &mut answers[from..to]);
         session = answer.session;
         both = played.names;
+        kept = played.kept;
         seen = watch_named(seen, s, verdict, both.previous, first, second, third, file);
         at = end;
         i += 1;

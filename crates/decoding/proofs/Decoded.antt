@@ -41,7 +41,8 @@ use Rattle.reading.specs.declared.Verdict.the-variants.{Accepted}
 use Rattle.headers.specs.Sizes.{format}
 use Rattle.reading.specs.Answer.{staysCounted, counted, readBy, sessionAfter, answerFor}
 use Rattle.decoding.specs.Answer.{state, done, picture, decoded}
-use Rattle.decoding.specs.Made.{AllQi, BlocksLent}
+use Rattle.kept_matrices.specs.Kept.{AllQi}
+use Rattle.decoding.proofs.Made.{BlocksLent}
 
 -- ---- a list with zeros behind it
 module _ {A : Type 0} (z : A) where

@@ -1,4 +1,3 @@
-pub mod Matrices
 pub mod Made
 pub mod Decoded
 pub mod Answers

@@ -209,17 +209,17 @@ pub fn load_table(table: &[u8]) -> SetupRead
     ensures { λ r. ⌜ r ≡ asSetupRead (heldSetup (now (table .entry))) ⌝ }
 {
     if table.len() != TABLE_BYTES {
-        return not_read(8, 0);
+        return not_read(bitstream::NOT_GENUINE, 0);
     }
     let read = load(table);
     let place = read.place;
     match place {
-        End::Refused(_, _) => not_read(8, 0),
+        End::Refused(_, _) => not_read(bitstream::NOT_GENUINE, 0),
         End::At(end) => {
             if table_memory::rest_is_zero(table, end) {
                 return read;
             }
-            not_read(8, 0)
+            not_read(bitstream::NOT_GENUINE, 0)
         }
     }
 }

@@ -1,6 +1,7 @@
 // The packets of a shot, applied in order: one packet by a setup that was loaded, and all of a list.
 use buffer_names::Names;
 use headers::Session;
+use kept_matrices::KeptMatrices;
 use reading::FrameAnswer;
 use setup::LoadedSetup;
 ghost use mathlib.Core.Path.{_≡_};
@@ -10,6 +11,7 @@ ghost use Prim.Native.Nat.{_*_, _≤_};
 ghost use lib.ListN.{length};
 ghost use Rattle.bitstream.specs.Reading.{choose};
 ghost use Rattle.headers.specs.Fits.{sessionFits};
+ghost use Rattle.kept_matrices.specs.Kept.{Keeps};
 ghost use Rattle.ways.specs.Ways.{firstWay};
 ghost use Rattle.work_memory.specs.Memory.{memory};
 ghost use Rattle.work_memory.specs.Lengths.{blocks, lengthsOf, cleared};
@@ -18,7 +20,7 @@ ghost use Rattle.reading.specs.Answer.{read};
 ghost use Rattle.decoding.specs.Answer.{state, done, decoded};
 ghost use Rattle.theora.specs.Call.{byRules};
 ghost use Rattle.packet_list.specs.Packets.{total, packetsIn};
-ghost use Rattle.buffer_names.specs.Names.{Sound};
+ghost use Rattle.buffer_names.specs.Names.{namesAfter, Sound};
 ghost use Rattle.shot_packets.specs.Play.{shot, oneMore, answerSize};
 ghost use Rattle.shot_packets.specs.Inner.{TableLoaded, PlaysAll};
 
@@ -32,12 +34,21 @@ fn one_of<'a>(second: bool, a: &'a [u8], b: &'a [u8]) -> &'a [u8]
     a
 }
 
-// A packet, into one buffer, by golden and previous in the two others.
+// What one packet answers, the names after it, and the matrices that are kept.
+pub struct Played {
+    pub answer: FrameAnswer,
+    pub names: Names,
+    pub kept: KeptMatrices,
+}
+
+// A packet, into the buffer of the number `free`, by golden and previous in the two others.
 fn decode_into<'a>(
     s: Session,
+    names: Names,
     packet: &[u8],
     table: &[u8],
     loaded: LoadedSetup,
+    kept: KeptMatrices,
     records: &mut [u32],
     coded: &mut [u64],
     coefs: &mut [i16],
@@ -53,20 +64,23 @@ fn decode_into<'a>(
     golden_high: bool,
     previous_high: bool,
     new: &mut [u8],
-) -> FrameAnswer
-    requires { ⌜ (sessionFits s ≡ true) × TableLoaded (now table) loaded ⌝ }
+    free: u64,
+) -> Played
+    requires { ⌜ (sessionFits s ≡ true) × TableLoaded (now table) loaded × Keeps (now table) (loaded .parameters) kept ⌝ }
     requires { ⌜ (memory (now records) (now coded) (now coefs) (now dc) (now lasts) (now flags) (now bits) (now supers) (now modes) (now active) ≡ cleared (lengthsOf s)) × (length (now new) ≡ 64 * blocks s) × (length (now low) ≡ 64 * blocks s) × (length (now high) ≡ 64 * blocks s) ⌝ }
-    ensures { λ r. ⌜ done r (now (new .exit)) (memory (now (records .exit)) (now (coded .exit)) (now (coefs .exit)) (now (dc .exit)) (now (lasts .exit)) (now (flags .exit)) (now (bits .exit)) (now (supers .exit)) (now (modes .exit)) (now (active .exit)))
+    ensures { λ r. ⌜ done (r .answer) (now (new .exit)) (memory (now (records .exit)) (now (coded .exit)) (now (coefs .exit)) (now (dc .exit)) (now (lasts .exit)) (now (flags .exit)) (now (bits .exit)) (now (supers .exit)) (now (modes .exit)) (now (active .exit)))
         ≡ decoded firstWay (state s (choose «golden_high» (now (high .entry)) (now (low .entry))) (choose «previous_high» (now (high .entry)) (now (low .entry)))) (now (new .entry)) (read s (now (table .entry)) (now (packet .entry))) ⌝ }
+    ensures { λ r. ⌜ (r .names ≡ namesAfter names free (r .answer .verdict) (r .answer .header .kind)) × Keeps (now (table .entry)) (loaded .parameters) (r .kept) ⌝ }
 {
     let part = bitstream::readable(packet);
     let golden = one_of(golden_high, low, high);
     let previous = one_of(previous_high, low, high);
-    decoding::decode_packet(
+    let decoded = decoding::decode_packet(
         s,
         part,
         table,
         loaded,
+        kept,
         records,
         coded,
         coefs,
@@ -80,13 +94,18 @@ fn decode_into<'a>(
         golden,
         previous,
         new,
-    )
-}
-
-// What one packet answers, and the names after it.
-pub struct Played {
-    pub answer: FrameAnswer,
-    pub names: Names,
+    );
+    let answer = decoded.answer;
+    let verdict = answer.verdict;
+    let header = answer.header;
+    let kind = header.kind;
+    let matrices = decoded.kept;
+    let after = buffer_names::names_after(names, free, verdict, kind);
+    Played {
+        answer,
+        names: after,
+        kept: matrices,
+    }
 }
 
 // One packet of a shot: a frame call whose new frame goes into the free buffer.
@@ -96,6 +115,7 @@ pub fn play_packet(
     packet: &[u8],
     table: &[u8],
     loaded: LoadedSetup,
+    kept: KeptMatrices,
     records: &mut [u32],
     coded: &mut [u64],
     coefs: &mut [i16],
@@ -110,20 +130,23 @@ pub fn play_packet(
     second: &mut [u8],
     third: &mut [u8],
 ) -> Played
-    requires { ⌜ (sessionFits s ≡ true) × Sound s names × TableLoaded (now table) loaded ⌝ }
+    requires { ⌜ (sessionFits s ≡ true) × Sound s names × TableLoaded (now table) loaded × Keeps (now table) (loaded .parameters) kept ⌝ }
     requires { ⌜ (memory (now records) (now coded) (now coefs) (now dc) (now lasts) (now flags) (now bits) (now supers) (now modes) (now active) ≡ cleared (lengthsOf s)) × (length (now first) ≡ 64 * blocks s) × (length (now second) ≡ 64 * blocks s) × (length (now third) ≡ 64 * blocks s) ⌝ }
     ensures { λ r. ⌜ ((answers : List FrameAnswer) → shot (r .answer .session) ((now (first .exit)) ∷ (now (second .exit)) ∷ (now (third .exit)) ∷ []) (r .names) (memory (now (records .exit)) (now (coded .exit)) (now (coefs .exit)) (now (dc .exit)) (now (lasts .exit)) (now (flags .exit)) (now (bits .exit)) (now (supers .exit)) (now (modes .exit)) (now (active .exit))) (answers ++ (r .answer ∷ []))
         ≡ oneMore (byRules firstWay) (now (table .entry)) (shot s ((now (first .entry)) ∷ (now (second .entry)) ∷ (now (third .entry)) ∷ []) names (memory (now (records .entry)) (now (coded .entry)) (now (coefs .entry)) (now (dc .entry)) (now (lasts .entry)) (now (flags .entry)) (now (bits .entry)) (now (supers .entry)) (now (modes .entry)) (now (active .entry))) answers) (now (packet .entry))) ⌝ }
+    ensures { λ r. ⌜ Keeps (now (table .entry)) (loaded .parameters) (r .kept) ⌝ }
 {
     let free = buffer_names::free_buffer(names);
     if free == 0 {
         let golden_high = names.golden == 2;
         let previous_high = names.previous == 2;
-        let answer = decode_into(
+        return decode_into(
             s,
+            names,
             packet,
             table,
             loaded,
+            kept,
             records,
             coded,
             coefs,
@@ -139,24 +162,19 @@ pub fn play_packet(
             golden_high,
             previous_high,
             first,
+            0,
         );
-        let verdict = answer.verdict;
-        let header = answer.header;
-        let kind = header.kind;
-        let after = buffer_names::names_after(names, 0, verdict, kind);
-        return Played {
-            answer,
-            names: after,
-        };
     }
     if free == 1 {
         let golden_high = names.golden == 2;
         let previous_high = names.previous == 2;
-        let answer = decode_into(
+        return decode_into(
             s,
+            names,
             packet,
             table,
             loaded,
+            kept,
             records,
             coded,
             coefs,
@@ -172,23 +190,18 @@ pub fn play_packet(
             golden_high,
             previous_high,
             second,
+            1,
         );
-        let verdict = answer.verdict;
-        let header = answer.header;
-        let kind = header.kind;
-        let after = buffer_names::names_after(names, 1, verdict, kind);
-        return Played {
-            answer,
-            names: after,
-        };
     }
     let golden_high = names.golden != 0;
     let previous_high = names.previous != 0;
-    let answer = decode_into(
+    decode_into(
         s,
+        names,
         packet,
         table,
         loaded,
+        kept,
         records,
         coded,
         coefs,
@@ -204,15 +217,8 @@ pub fn play_packet(
         golden_high,
         previous_high,
         third,
-    );
-    let verdict = answer.verdict;
-    let header = answer.header;
-    let kind = header.kind;
-    let after = buffer_names::names_after(names, 2, verdict, kind);
-    Played {
-        answer,
-        names: after,
-    }
+        2,
+    )
 }
 
 // The session and the names after some packets.
@@ -252,6 +258,7 @@ pub fn play_packets(
 {
     let mut session = s;
     let mut both = names;
+    let mut kept = kept_matrices::none();
     let mut at: usize = 0;
     let mut i: usize = 0;
     while i < lengths.len() {
@@ -263,6 +270,7 @@ pub fn play_packets(
             &packets[at..end],
             table,
             loaded,
+            kept,
             records,
             coded,
             coefs,
@@ -285,6 +293,7 @@ pub fn play_packets(
         reading::store_answer(verdict, header, &mut answers[from..to]);
         session = answer.session;
         both = played.names;
+        kept = played.kept;
         at = end;
         i += 1;
     }

@@ -53,6 +53,7 @@ pub fn play_packets(
 {
     let mut session = s;
     let mut both = names;
+    let mut kept = kept_matrices::none();
     let mut at: usize = 0;
     let mut i: usize = 0;
     while i < lengths.len() {
@@ -64,6 +65,7 @@ pub fn play_packets(
             &packets[at..end],
             table,
             loaded,
+            kept,
             records,
             coded,
             coefs,
@@ -96,6 +98,7 @@ pub fn play_packets(
         );
         session = answer.session;
         both = played.names;
+        kept = played.kept;
         at = end;
         i += 1;
     }

@@ -18,11 +18,17 @@ refusal-requires c κs = search needs
 enum-told-2 : tie.Need-enum-told-2
 enum-told-2 c = search needs
 
+none-requires : tie.Need-none-requires
+none-requires c κs = search needs
+
 decode-packet-requires : tie.Need-decode-packet-requires
 decode-packet-requires c κs =
-    let z = c .before .before .before .before .before .before .before .before .before .before .before .before .before .before .before .before .before .before .before .before .before .before .before .before .before .before .before in
+    let z = c .before .before .before .before .before .before .before .before .before .before .before .before .before .before .before .before .before .before .before .before .before .before .before .before .before .before .before .before in
     let t = z .args .table .now in
-    ((z .pre .0, z .pre .1, omega (arith, z .pre .2), (_, genuine-holds t (c .before .before .before .before .before .before .before .before .before .before .before .before .before .load-table .ensures) (c .before .before .before .before .before .before .before .before .before .before .before .enum-told2 .given .1))), (z .pre .3, z .pre .4, z .pre .5, z .pre .6))
+    let r = c .before .before .before .before .before .before .before .before .before .before .before .before .before .before .load-table in (
+      (z .pre .0, z .pre .1, omega (arith, z .pre .2), (_, genuine-holds t (r .ensures) (c .before .before .before .before .before .before .before .before .before .before .before .before .enum-told2 .given .1)), c .before .before .before .before .before .before .before .before .before .before .before .none .ensures t (r .result .setup .parameters)),
+      (z .pre .3, z .pre .4, z .pre .5, z .pre .6),
+    )
 
 returns : tie.Need-returns
 returns c =
@@ -65,11 +71,11 @@ same-length-11 c = search needs
 
 returns-2 : tie.Need-returns-2
 returns-2 c =
-    let a = c .before .before .before .before .before .before .before .before .before .before .before .before .before .before .before .before .before .before .before .before .before .before .before .before .before .before .before .before .before .before .before .before .before .before .before .before .before .before .before .before .before .before .before .before .before .before .before .before .args in
+    let a = c .before .before .before .before .before .before .before .before .before .before .before .before .before .before .before .before .before .before .before .before .before .before .before .before .before .before .before .before .before .before .before .before .before .before .before .before .before .before .before .before .before .before .before .before .before .before .before .before .before .before .args in
     let t = a .table .now in
-    let r = c .before .before .before .before .before .before .before .before .before .before .before .before .before .before .before .before .before .before .before .before .before .before .before .before .before .before .before .before .before .before .before .before .before .before .load-table in
-    let g = c .before .before .before .before .before .before .before .before .before .before .before .before .before .before .before .before .before .before .before .before .before .before .before .before .before .before .before .before .before .before .before .before .enum-told2 .given .1 in
-    decoded-by (a .s) (a .golden .now) (a .previous .now) (a .packet .now) t (a .new .now) (genuine-held t (r .ensures) g) _ (c .before .before .before .before .before .before .before .before .before .before .before .before .before .before .before .before .before .before .before .before .decode-packet .ensures (genuine-setup t (r .ensures) g) (genuine-holds t (r .ensures) g))
+    let r = c .before .before .before .before .before .before .before .before .before .before .before .before .before .before .before .before .before .before .before .before .before .before .before .before .before .before .before .before .before .before .before .before .before .before .before .before .load-table in
+    let g = c .before .before .before .before .before .before .before .before .before .before .before .before .before .before .before .before .before .before .before .before .before .before .before .before .before .before .before .before .before .before .before .before .before .before .enum-told2 .given .1 in
+    decoded-by (a .s) (a .golden .now) (a .previous .now) (a .packet .now) t (a .new .now) (genuine-held t (r .ensures) g) _ (c .before .before .before .before .before .before .before .before .before .before .before .before .before .before .before .before .before .before .before .before .before .decode-packet .ensures .0 (genuine-setup t (r .ensures) g) (genuine-holds t (r .ensures) g))
 
 pub decode-spec : {M : Type 1} → statement M
 decode-spec =
@@ -79,6 +85,7 @@ decode-spec =
     enum-told
     refusal-requires
     enum-told-2
+    none-requires
     decode-packet-requires
     returns
     same-length

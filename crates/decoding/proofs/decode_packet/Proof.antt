@@ -1,14 +1,17 @@
 -- `decoding::decode_packet` meets its contract. Assumes nothing.
 use Prim.Native.Nat.{_*_}
+use native.Mathlib.Omega.{arith}
 use lib.IntN.{pos}
-use lib.ListN.{replicate}
+use lib.ListN.{getD, replicate}
 use Rattle.geometry.specs.Sizes.{blocksOf}
 use mathlib.Core.Path.{_≡_, sym, ap, _∙_}
 use Rattle.geometry.specs.declared.PixelFormat.{PixelFormat}
 use Rattle.headers.proofs.Fitting.{fits-macro-blocks}
 use Rattle.work_memory.specs.Memory.{Memory}
 use Rattle.work_memory.specs.Lengths.{blocks, published, cleared}
+use Rattle.setup.proofs.Held.{held-few, held-parameters}
 use Rattle.reading.proofs.Held.{tables-held, trees-held}
+use Rattle.decoding.proofs.Made.{frame-is}
 use Rattle.decoding.proofs.Decoded.{on-refused, on-17, lent, header-few, on-accepted}
 use borrow.Author.Needs.{needs}
 use borrow.Author.Tests.{not-true, not-false}
@@ -76,33 +79,57 @@ same-length-9 : tie.Need-same-length-9
 same-length-9 c = c .before .before .before .before .before .before .before .before .before .before .before .before .before .before .before .before .before .before .before .before .active .given
 
 returns : tie.Need-returns
-returns c = λ setup h.
+returns c =
     let z = c .before .before .before .before .before .before .before .before .before .before .before .before .before .before .before .before .before .before .before .before .before .before .before .before .before .before .before .before .before .before .before .before .before .before .before .before .before .before .before .before .before .before .before .before .before .before .before .before .before .before .before .before .before .before .before .before .before .before .before .before .before .before .before in
     let a = z .args in
-    let r = c .before .before .before .before .before .before .before .before .before .before .before .before .before .before .before .before .before .before .before .before .before .before .before .before .before .before .before .before .before .before .before .before .before .before .before .before .read-frame in
-    on-17 (a .s) setup (a .packet .now) (a .t4 .nodes) (trees-held (a .table .now) (a .t4) h) (c .before .before .before .before .before .before .before .before .before .before .before .before .before .before .before .before .before .before .before .before .before .before .before .before .before .before .before .before .before .before .before .before .before .before .before .before .before .before .before .before .before .before .before .before .before .before .before .before .before .pixel-format .ensures) (r .ensures .0) (r .ensures .1) (c .before .before .before .before .before .before .before .before .before .before .before .before .before .before .before .before .before .read2 .given .1)
-    (a .golden .now) (a .previous .now) (a .new .now) _ _ _ (a .dc .now) _ (ap (λ (m : Memory). m .dc) (z .pre .1 .0)) (c .before .before .before .before .before .before .before .before .clear-read .ensures)
-    (sym (c .before .before .before .before .before .before .before .before .before .before .before .before .before .before .stays-counted .ensures) ∙ not-true _ (c .before .before .before .before .before .before .before .before .before .before .before .before .before .if1 .taken)) (c .refusal2 .result) (c .refusal2 .ensures)
+    let r = c .before .before .before .before .before .before .before .before .before .before .before .before .before .before .before .before .before .before .before .before .before .before .before .before .before .before .before .before .before .before .before .before .before .before .before .before .read-frame in (
+      (λ setup h. on-17 (a .s) setup (a .packet .now) (a .t4 .nodes) (trees-held (a .table .now) (a .t4) h) (c .before .before .before .before .before .before .before .before .before .before .before .before .before .before .before .before .before .before .before .before .before .before .before .before .before .before .before .before .before .before .before .before .before .before .before .before .before .before .before .before .before .before .before .before .before .before .before .before .before .pixel-format .ensures) (r .ensures .0) (r .ensures .1) (c .before .before .before .before .before .before .before .before .before .before .before .before .before .before .before .before .before .read2 .given .1)
+          (a .golden .now) (a .previous .now) (a .new .now) _ _ _ (a .dc .now) _ (ap (λ (m : Memory). m .dc) (z .pre .1 .0)) (c .before .before .before .before .before .before .before .before .clear-read .ensures)
+          (sym (c .before .before .before .before .before .before .before .before .before .before .before .before .before .before .stays-counted .ensures) ∙ not-true _ (c .before .before .before .before .before .before .before .before .before .before .before .before .before .if1 .taken)) (c .refusal2 .result) (c .refusal2 .ensures)),
+      z .pre .0 .4,
+    )
 
-make-requires : tie.Need-make-requires
-make-requires c κs =
-    let z = c .before .before .before .before .before .before .before .before .before .before .before .before .before .before .before .before .before .before .before .before .before .before .before .before .before .before .before .before .before .before .before .before .before .before .before .before .before .before .before .before .before .before .before .before .before .before .before .before .before .before .before .before .before .before .before .before in
+kept-for-requires : tie.Need-kept-for-requires
+kept-for-requires c κs =
+    let z = c .before .before .before .before .before .before .before .before .before .before .before .before .before .before .before .before .before .before .before .before .before .before .before .before .before .before .before .before .before .before .before .before .before .before .before .before .before .before .before .before .before .before .before .before .before .before .before .before .before .before .before .before in
     let a = z .args in
-    let r = c .before .before .before .before .before .before .before .before .before .before .before .before .before .before .before .before .before .before .before .before .before .before .before .before .before .before .before .before .before .read-frame in
-    let setup = z .pre .0 .3 .0 in
-    let t = trees-held (a .table .now) (a .t4) (z .pre .0 .3 .1) in
-    let ef = c .before .before .before .before .before .before .before .before .before .before .before .before .before .before .before .before .before .before .before .before .before .before .before .before .before .before .before .before .before .before .before .before .before .before .before .before .before .before .before .before .before .before .pixel-format .ensures in
+    let r = c .before .before .before .before .before .before .before .before .before .before .before .before .before .before .before .before .before .before .before .before .before .before .before .before .before .read-frame in
+    let q = header-few (a .s) (z .pre .0 .3 .0) (a .packet .now) (a .t4 .nodes) (trees-held (a .table .now) (a .t4) (z .pre .0 .3 .1)) (c .before .before .before .before .before .before .before .before .before .before .before .before .before .before .before .before .before .before .before .before .before .before .before .before .before .before .before .before .before .before .before .before .before .before .before .before .before .before .pixel-format .ensures) (r .ensures .0) (r .ensures .1) (c .before .before .before .before .before .before .read2 .given .1) in
+    (z .pre .0 .2, (_, held-parameters (a .table .now) (a .t4) (z .pre .0 .3 .1)), (λ i l. q .1 i (omega (arith, q .0))), q .0, z .pre .0 .4)
+
+limit-of-requires : tie.Need-limit-of-requires
+limit-of-requires c κs =
+    let z = c .before .before .before .before .before .before .before .before .before .before .before .before .before .before .before .before .before .before .before .before .before .before .before .before .before .before .before .before .before .before .before .before .before .before .before .before .before .before .before .before .before .before .before .before .before .before .before .before .before .before .before .before .before .before in
+    let a = z .args in
+    let r = c .before .before .before .before .before .before .before .before .before .before .before .before .before .before .before .before .before .before .before .before .before .before .before .before .before .before .before .read-frame in
+    let q = header-few (a .s) (z .pre .0 .3 .0) (a .packet .now) (a .t4 .nodes) (trees-held (a .table .now) (a .t4) (z .pre .0 .3 .1)) (c .before .before .before .before .before .before .before .before .before .before .before .before .before .before .before .before .before .before .before .before .before .before .before .before .before .before .before .before .before .before .before .before .before .before .before .before .before .before .before .before .pixel-format .ensures) (r .ensures .0) (r .ensures .1) (c .before .before .before .before .before .before .before .before .read2 .given .1) in
+    let l = q .1 0 (omega arith) in
+    (l, held-few (a .table .now) (a .t4) (z .pre .0 .3 .1) (getD (r .result .header .qis) 0 0) l)
+
+make-frame-requires : tie.Need-make-frame-requires
+make-frame-requires c κs =
+    let z = c .before .before .before .before .before .before .before .before .before .before .before .before .before .before .before .before .before .before .before .before .before .before .before .before .before .before .before .before .before .before .before .before .before .before .before .before .before .before .before .before .before .before .before .before .before .before .before .before .before .before .before .before .before .before .before .before .before .before .before .before .before .before .before .before in
+    let a = z .args in
+    let r = c .before .before .before .before .before .before .before .before .before .before .before .before .before .before .before .before .before .before .before .before .before .before .before .before .before .before .before .before .before .before .before .before .before .before .before .before .before .read-frame in
+    let q = header-few (a .s) (z .pre .0 .3 .0) (a .packet .now) (a .t4 .nodes) (trees-held (a .table .now) (a .t4) (z .pre .0 .3 .1)) (c .before .before .before .before .before .before .before .before .before .before .before .before .before .before .before .before .before .before .before .before .before .before .before .before .before .before .before .before .before .before .before .before .before .before .before .before .before .before .before .before .before .before .before .before .before .before .before .before .before .before .pixel-format .ensures) (r .ensures .0) (r .ensures .1) (c .before .before .before .before .before .before .before .before .before .before .before .before .before .before .before .before .before .before .read2 .given .1) in
+    let b = lent (a .s) (z .pre .0 .3 .0) (a .packet .now) (a .t4 .nodes) (trees-held (a .table .now) (a .t4) (z .pre .0 .3 .1)) (c .before .before .before .before .before .before .before .before .before .before .before .before .before .before .before .before .before .before .before .before .before .before .before .before .before .before .before .before .before .before .before .before .before .before .before .before .before .before .before .before .before .before .before .before .before .before .before .before .before .before .pixel-format .ensures) (r .ensures .0) (r .ensures .1) (c .before .before .before .before .before .before .before .before .before .before .before .before .before .before .before .before .before .before .read2 .given .1) in
     let k = fits-macro-blocks (a .s) (z .pre .0 .0) in
-    let q = header-few (a .s) setup (a .packet .now) (a .t4 .nodes) t ef (r .ensures .0) (r .ensures .1) (c .before .before .before .before .before .before .before .before .before .before .read2 .given .1) in
-    let b = lent (a .s) setup (a .packet .now) (a .t4 .nodes) t ef (r .ensures .0) (r .ensures .1) (c .before .before .before .before .before .before .before .before .before .before .read2 .given .1) in
     let m = z .pre .1 in
-    let n : 64 * blocks (a .s) ≡ 64 * blocksOf (c .before .before .before .before .before .before .before .before .before .before .before .before .before .before .before .before .before .before .before .before .before .before .before .before .before .before .before .before .before .before .before .before .before .before .before .before .before .before .before .before .before .before .pixel-format .result) (a .s .fields .fmbw) (a .s .fields .fmbh) = ap (λ (f : PixelFormat). 64 * blocksOf f (a .s .fields .fmbw) (a .s .fields .fmbh)) (sym ef) in (
-      (z .pre .0 .2, z .pre .0 .3, q .1, q .0, k .1, k .3),
-      (b, ap (λ (m : Memory). m .dc) (m .0) ∙ ap (λ (f : PixelFormat). replicate (blocksOf f (a .s .fields .fmbw) (a .s .fields .fmbh)) (pos 0)) (sym ef), m .1 ∙ n, m .2 ∙ n, m .3 ∙ n),
+    let s = c .before .before .before .before .before .before .before .before .before .before .before .kept-for in
+    let n : 64 * blocks (a .s) ≡ 64 * blocksOf (c .before .before .before .before .before .before .before .before .before .before .before .before .before .before .before .before .before .before .before .before .before .before .before .before .before .before .before .before .before .before .before .before .before .before .before .before .before .before .before .before .before .before .before .before .before .before .before .before .before .before .pixel-format .result) (a .s .fields .fmbw) (a .s .fields .fmbh) = ap (λ (f : PixelFormat). 64 * blocksOf f (a .s .fields .fmbw) (a .s .fields .fmbh)) (sym (c .before .before .before .before .before .before .before .before .before .before .before .before .before .before .before .before .before .before .before .before .before .before .before .before .before .before .before .before .before .before .before .before .before .before .before .before .before .before .before .before .before .before .before .before .before .before .before .before .before .before .pixel-format .ensures)) in (
+      k .1,
+      k .3,
+      b .lent (s .result .values) (s .ensures .keeps .long),
+      b .behind,
+      ap (λ (m : Memory). m .dc) (m .0) ∙ ap (λ (f : PixelFormat). replicate (blocksOf f (a .s .fields .fmbw) (a .s .fields .fmbh)) (pos 0)) (sym (c .before .before .before .before .before .before .before .before .before .before .before .before .before .before .before .before .before .before .before .before .before .before .before .before .before .before .before .before .before .before .before .before .before .before .before .before .before .before .before .before .before .before .before .before .before .before .before .before .before .before .pixel-format .ensures)),
+      omega (arith, c .before .before .before .before .before .before .before .before .before .limit-of .ensures, held-few (a .table .now) (a .t4) (z .pre .0 .3 .1) (getD (r .result .header .qis) 0 0) (q .1 0 (omega arith))),
+      m .1 ∙ n,
+      m .2 ∙ n,
+      m .3 ∙ n,
     )
 
 session-after-requires : tie.Need-session-after-requires
-session-after-requires c κs = (c .before .before .before .before .before .before .before .before .before .before .before .before .before .before .before .before .before .before .before .before .before .before .before .before .before .before .before .before .before .before .before .before .before .before .before .before .before .before .before .before .before .before .before .before .before .before .before .before .before .before .before .before .before .before .before .before .before .before .before .before .before .before .before .before .before .before .before .pre .0 .0, sym (c .before .before .before .before .before .before .before .before .before .before .before .before .before .before .before .before .before .before .stays-counted .ensures) ∙ not-false _ (c .before .before .before .before .before .before .before .before .before .before .before .before .before .before .before .before .before .if1 .left))
+session-after-requires c κs = (c .before .before .before .before .before .before .before .before .before .before .before .before .before .before .before .before .before .before .before .before .before .before .before .before .before .before .before .before .before .before .before .before .before .before .before .before .before .before .before .before .before .before .before .before .before .before .before .before .before .before .before .before .before .before .before .before .before .before .before .before .before .before .before .before .before .before .before .before .before .before .before .before .before .before .before .pre .0 .0, sym (c .before .before .before .before .before .before .before .before .before .before .before .before .before .before .before .before .before .before .before .before .before .before .before .before .before .before .stays-counted .ensures) ∙ not-false _ (c .before .before .before .before .before .before .before .before .before .before .before .before .before .before .before .before .before .before .before .before .before .before .before .before .before .if1 .left))
 
 same-length-10 : tie.Need-same-length-10
 same-length-10 c = c .before .before .before .before .before .before .before .before .before .before .before .before .before .before .before .before .before .before .before .before .records .given
@@ -132,55 +159,65 @@ same-length-18 : tie.Need-same-length-18
 same-length-18 c = c .before .before .before .before .before .active .given
 
 returns-2 : tie.Need-returns-2
-returns-2 c = λ setup h.
+returns-2 c =
     let z = c .before .before .before .before .before .before .before .before .before .before .before .before .before .before .before .before .before .before .before .before .before .before .before .before .before .before .before .before .before .before .before .before .before .before .before .before .before .before .before .before .before .before .before .before .before .before .before .before in
     let a = z .args in
-    let r = c .before .before .before .before .before .before .before .before .before .before .before .before .before .before .before .before .before .before .before .before .before .read-frame in
-    on-refused (a .s) setup (a .packet .now) (a .t4 .nodes) (trees-held (a .table .now) (a .t4) h) (c .before .before .before .before .before .before .before .before .before .before .before .before .before .before .before .before .before .before .before .before .before .before .before .before .before .before .before .before .before .before .before .before .before .before .pixel-format .ensures) (r .ensures .0) (r .ensures .1) (a .golden .now) (a .previous .now) (a .new .now)
-    (c .before .before .read .given .1) (c .refusal .result) (c .refusal .ensures) (a .dc .now) (ap (λ (m : Memory). m .dc) (z .pre .1 .0))
+    let r = c .before .before .before .before .before .before .before .before .before .before .before .before .before .before .before .before .before .before .before .before .before .read-frame in (
+      (λ setup h. on-refused (a .s) setup (a .packet .now) (a .t4 .nodes) (trees-held (a .table .now) (a .t4) h) (c .before .before .before .before .before .before .before .before .before .before .before .before .before .before .before .before .before .before .before .before .before .before .before .before .before .before .before .before .before .before .before .before .before .before .pixel-format .ensures) (r .ensures .0) (r .ensures .1) (a .golden .now) (a .previous .now) (a .new .now)
+          (c .before .before .read .given .1) (c .refusal .result) (c .refusal .ensures) (a .dc .now) (ap (λ (m : Memory). m .dc) (z .pre .1 .0))),
+      z .pre .0 .4,
+    )
 
 same-length-19 : tie.Need-same-length-19
-same-length-19 c = c .before .before .before .before .before .before .before .before .before .before .records3 .given ∙ c .before .before .before .before .before .before .before .before .before .before .before .before .before .before .before .before .before .before .before .before .before .before .before .before .before .before .before .before .before .before .before .before .before .before .before .before .before .before .before .before .records .given
+same-length-19 c = c .before .before .before .before .before .before .before .before .records3 .given ∙ c .before .before .before .before .before .before .before .before .before .before .before .before .before .before .before .before .before .before .before .before .before .before .before .before .before .before .before .before .before .before .before .before .before .before .before .before .before .before .before .before .before .before .before .before .before .before .before .before .records .given
 
 same-length-20 : tie.Need-same-length-20
-same-length-20 c = c .before .before .before .before .before .before .before .before .coded3 .given ∙ c .before .before .before .before .before .before .before .before .before .before .before .before .before .before .before .before .before .before .before .before .before .before .before .before .before .before .before .before .before .before .before .before .before .before .before .before .before .before .coded .given
+same-length-20 c = c .before .before .before .before .before .before .coded3 .given ∙ c .before .before .before .before .before .before .before .before .before .before .before .before .before .before .before .before .before .before .before .before .before .before .before .before .before .before .before .before .before .before .before .before .before .before .before .before .before .before .before .before .before .before .before .before .before .before .coded .given
 
 same-length-21 : tie.Need-same-length-21
-same-length-21 c = c .before .before .before .before .before .before .coefs3 .given ∙ c .before .before .before .before .before .before .before .before .before .before .before .before .before .before .before .before .before .before .before .before .before .before .before .before .before .before .before .before .before .before .before .before .before .before .before .before .coefs .given
+same-length-21 c = c .before .before .before .before .coefs3 .given ∙ c .before .before .before .before .before .before .before .before .before .before .before .before .before .before .before .before .before .before .before .before .before .before .before .before .before .before .before .before .before .before .before .before .before .before .before .before .before .before .before .before .before .before .before .before .coefs .given
 
 same-length-22 : tie.Need-same-length-22
-same-length-22 c = c .before .before .before .before .before .dc .given
+same-length-22 c = c .before .before .before .dc .given
 
 same-length-23 : tie.Need-same-length-23
-same-length-23 c = c .before .before .before .before .lasts3 .given ∙ c .before .before .before .before .before .before .before .before .before .before .before .before .before .before .before .before .before .before .before .before .before .before .before .before .before .before .before .before .before .before .before .before .before .before .before .lasts .given
+same-length-23 c = c .before .before .lasts3 .given ∙ c .before .before .before .before .before .before .before .before .before .before .before .before .before .before .before .before .before .before .before .before .before .before .before .before .before .before .before .before .before .before .before .before .before .before .before .before .before .before .before .before .before .before .before .lasts .given
 
 same-length-24 : tie.Need-same-length-24
-same-length-24 c = c .before .before .before .before .before .before .before .before .before .before .before .before .before .before .before .before .before .before .before .before .before .before .before .before .before .before .before .before .before .before .before .before .before .flags .given
+same-length-24 c = c .before .before .before .before .before .before .before .before .before .before .before .before .before .before .before .before .before .before .before .before .before .before .before .before .before .before .before .before .before .before .before .before .before .before .before .before .before .before .before .before .before .flags .given
 
 same-length-25 : tie.Need-same-length-25
-same-length-25 c = c .before .before .before .before .before .before .before .before .before .before .before .before .before .before .before .before .before .before .before .before .before .before .before .before .before .before .before .before .before .before .before .bits .given
+same-length-25 c = c .before .before .before .before .before .before .before .before .before .before .before .before .before .before .before .before .before .before .before .before .before .before .before .before .before .before .before .before .before .before .before .before .before .before .before .before .before .before .before .bits .given
 
 same-length-26 : tie.Need-same-length-26
-same-length-26 c = c .before .before .before .before .before .before .before .before .before .before .before .before .before .before .before .before .before .before .before .before .before .before .before .before .before .before .before .before .before .supers .given
+same-length-26 c = c .before .before .before .before .before .before .before .before .before .before .before .before .before .before .before .before .before .before .before .before .before .before .before .before .before .before .before .before .before .before .before .before .before .before .before .before .before .supers .given
 
 same-length-27 : tie.Need-same-length-27
-same-length-27 c = c .before .before .before .before .before .before .before .before .before .before .before .before .before .before .before .before .before .before .before .before .before .before .before .before .before .before .before .modes .given
+same-length-27 c = c .before .before .before .before .before .before .before .before .before .before .before .before .before .before .before .before .before .before .before .before .before .before .before .before .before .before .before .before .before .before .before .before .before .before .before .modes .given
 
 same-length-28 : tie.Need-same-length-28
-same-length-28 c = c .before .before .before .before .before .before .before .before .before .before .before .before .before .before .before .before .before .before .before .before .before .before .before .before .before .active .given
+same-length-28 c = c .before .before .before .before .before .before .before .before .before .before .before .before .before .before .before .before .before .before .before .before .before .before .before .before .before .before .before .before .before .before .before .before .before .active .given
 
 same-length-29 : tie.Need-same-length-29
-same-length-29 c = c .before .before .new .given
+same-length-29 c = c .before .before .before .before .before .before .before .before .before .before .new .given
 
 returns-3 : tie.Need-returns-3
-returns-3 c = λ setup h.
-    let z = c .before .before .before .before .before .before .before .before .before .before .before .before .before .before .before .before .before .before .before .before .before .before .before .before .before .before .before .before .before .before .before .before .before .before .before .before .before .before .before .before .before .before .before .before .before .before .before .before .before .before .before .before .before .before .before .before .before .before .before .before .before .before .before .before .before .before .before .before in
+returns-3 c =
+    let z = c .before .before .before .before .before .before .before .before .before .before .before .before .before .before .before .before .before .before .before .before .before .before .before .before .before .before .before .before .before .before .before .before .before .before .before .before .before .before .before .before .before .before .before .before .before .before .before .before .before .before .before .before .before .before .before .before .before .before .before .before .before .before .before .before .before .before .before .before .before .before .before .before .before .before .before .before in
     let a = z .args in
-    let r = c .before .before .before .before .before .before .before .before .before .before .before .before .before .before .before .before .before .before .before .before .before .before .before .before .before .before .before .before .before .before .before .before .before .before .before .before .before .before .before .before .before .read-frame in
-    let k = c .before .before .before .before .before .before .before .before .before .before .before .make in
-    on-accepted (a .s) setup (a .packet .now) (a .t4 .nodes) (trees-held (a .table .now) (a .t4) h) (c .before .before .before .before .before .before .before .before .before .before .before .before .before .before .before .before .before .before .before .before .before .before .before .before .before .before .before .before .before .before .before .before .before .before .before .before .before .before .before .before .before .before .before .before .before .before .before .before .before .before .before .before .before .before .pixel-format .ensures) (r .ensures .0) (r .ensures .1) (c .before .before .before .before .before .before .before .before .before .before .before .before .before .before .before .before .before .before .before .before .before .before .read2 .given .1)
-    (a .golden .now) (a .previous .now) _ (k .ensures .0 setup h) _ _ _ _ (a .dc .now) _ (ap (λ (m : Memory). m .dc) (z .pre .1 .0)) (k .ensures .1)
-    (a .new .now) (c .session-after .result) (sym (c .before .before .before .before .before .before .before .before .before .before .before .before .before .before .before .before .before .before .before .stays-counted .ensures) ∙ not-false _ (c .before .before .before .before .before .before .before .before .before .before .before .before .before .before .before .before .before .before .if1 .left)) (c .session-after .ensures)
+    let r = c .before .before .before .before .before .before .before .before .before .before .before .before .before .before .before .before .before .before .before .before .before .before .before .before .before .before .before .before .before .before .before .before .before .before .before .before .before .before .before .before .before .before .before .before .before .before .before .before .before .read-frame in
+    let s = c .before .before .before .before .before .before .before .before .before .before .before .before .before .before .before .before .before .before .before .before .before .before .before .kept-for in
+    let k = c .before .before .before .before .before .before .before .before .before .before .before .make-frame in (
+      (λ setup h.
+          let t = trees-held (a .table .now) (a .t4) h in
+          let b = lent (a .s) setup (a .packet .now) (a .t4 .nodes) t (c .before .before .before .before .before .before .before .before .before .before .before .before .before .before .before .before .before .before .before .before .before .before .before .before .before .before .before .before .before .before .before .before .before .before .before .before .before .before .before .before .before .before .before .before .before .before .before .before .before .before .before .before .before .before .before .before .before .before .before .before .before .before .pixel-format .ensures) (r .ensures .0) (r .ensures .1) (c .before .before .before .before .before .before .before .before .before .before .before .before .before .before .before .before .before .before .before .before .before .before .before .before .before .before .before .before .before .before .read2 .given .1) in
+          on-accepted (a .s) setup (a .packet .now) (a .t4 .nodes) t (c .before .before .before .before .before .before .before .before .before .before .before .before .before .before .before .before .before .before .before .before .before .before .before .before .before .before .before .before .before .before .before .before .before .before .before .before .before .before .before .before .before .before .before .before .before .before .before .before .before .before .before .before .before .before .before .before .before .before .before .before .before .before .pixel-format .ensures) (r .ensures .0) (r .ensures .1) (c .before .before .before .before .before .before .before .before .before .before .before .before .before .before .before .before .before .before .before .before .before .before .before .before .before .before .before .before .before .before .read2 .given .1)
+          (a .golden .now) (a .previous .now) _
+          (frame-is (c .before .before .before .before .before .before .before .before .before .before .before .before .before .before .before .before .before .before .before .before .before .before .before .before .before .before .before .before .before .before .before .before .before .before .before .before .before .before .before .before .before .before .before .before .before .before .before .before .before .before .before .before .before .before .before .before .before .before .before .before .before .before .pixel-format .result) (a .s .fields .fmbw) (a .s .fields .fmbh) _ _ _ _ _ (r .result .header .count) b (a .table .now) (a .t4) (r .result .header .qis) (s .result .values) _ (a .golden .now) (a .previous .now) _ (s .ensures .asked) (c .before .before .before .before .before .before .before .before .before .before .before .before .before .before .before .before .before .before .before .before .before .limit-of .ensures) (k .ensures .0) setup h)
+          _ _ _ _ (a .dc .now) _ (ap (λ (m : Memory). m .dc) (z .pre .1 .0)) (k .ensures .1)
+          (a .new .now) (c .session-after .result) (sym (c .before .before .before .before .before .before .before .before .before .before .before .before .before .before .before .before .before .before .before .before .before .before .before .before .before .before .before .stays-counted .ensures) ∙ not-false _ (c .before .before .before .before .before .before .before .before .before .before .before .before .before .before .before .before .before .before .before .before .before .before .before .before .before .before .if1 .left)) (c .session-after .ensures)),
+      s .ensures .keeps,
+    )
 
 pub decode-packet-spec : {M : Type 1} → statement M
 decode-packet-spec =
@@ -204,7 +241,9 @@ decode-packet-spec =
     same-length-8
     same-length-9
     returns
-    make-requires
+    kept-for-requires
+    limit-of-requires
+    make-frame-requires
     session-after-requires
     same-length-10
     same-length-11

@@ -15,7 +15,7 @@ use Rattle.quantization.specs.Sound.{Holds}
 use Rattle.quantization.specs.declared.LoadedParameters.{LoadedParameters}
 use Rattle.matrices.specs.Matrix.{matrixOf, MatrixIs}
 use Rattle.reconstruct.specs.Lent.{matrixIn}
-use Rattle.decoding.specs.Made.{MatricesAre}
+use Rattle.kept_matrices.specs.Kept.{MatricesAre}
 
 -- ---- 64 elements put in the place of others
 part-of-front : (l : List ℕ) (d a : ℕ) → d + 64 ≤ a → take 64 (drop d (take a l)) ≡ take 64 (drop d l)

@@ -1,14 +1,14 @@
--- `decoding::load_matrices` meets its contract. The invariant: the matrices of the turns so far stand in the slice. Assumes nothing.
+-- `kept_matrices::load_matrices` meets its contract. The invariant: the matrices of the turns so far stand in the slice. Assumes nothing.
 use Prim.Native.Nat.{_+_, _-_, _*_, _/_, _≤_, _<_}
 use native.Mathlib.Omega.{arith}
 use mathlib.Core.Path.{_≡_, _∙_}
 use lib.ListN.{length}
 use borrow.Author.Count.{below-none}
 use borrow.Rule.Slice.PartMut.{mid-len}
-use Rattle.decoding.proofs.Matrices.{placeOf, LoadedTo, loaded-more, loaded-all}
+use Rattle.kept_matrices.proofs.Matrices.{placeOf, LoadedTo, loaded-more, loaded-all}
 use borrow.Author.Needs.{needs}
-use Rattle.decoding.proofs.load_matrices.Statement.{statement}
-use Rattle.decoding.proofs.load_matrices.Tie as tie
+use Rattle.kept_matrices.proofs.load_matrices.Statement.{statement}
+use Rattle.kept_matrices.proofs.load_matrices.Tie as tie
 
 abbrev Inv-loop : tie.InvT-loop
 Inv-loop table parameters count matrices₀ qis j₀ matrices j = (j ≤ 6 * count) × (length matrices ≡ 1152) × LoadedTo table parameters qis j matrices
