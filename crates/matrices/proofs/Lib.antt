@@ -1,5 +1,6 @@
 pub mod Ranges
 pub mod Borders
 pub mod Values
+pub mod Reciprocals
 pub mod Matrices
 pub mod Examples

@@ -1,41 +1,31 @@
 -- What the functions on single values compute. Assumes nothing.
-use Prim.Native.Nat.{ℕ, _+_, _-_, _*_, _/_, _≤_, _<_}
+use Prim.Native.Nat.{ℕ, zero, suc, _+_, _-_, _*_, _/_, _%_, _^_, _≤_, _<_}
 use native.Mathlib.Omega.{arith}
-use native.Mathlib.Nat.{mul-le-mul, div-le-self}
-use mathlib.Core.Path.{_≡_, ap, _∙_, subst}
+use native.Mathlib.Nat.{mul-le-mul}
+use mathlib.Core.Path.{_≡_, refl, sym, ap, ap₂, _∙_, subst}
+use mathlib.Core.List.{List}
 use lib.Arith.{digits-div}
+use lib.ListN.{getD}
 use borrow.Author.Tests.{eq-eqb, ne-eqb}
-use Rattle.matrices.specs.Matrix.{InRange, interpolated, minimum, scaled, valueAt}
+use Rattle.bitstream.specs.Bits.{number}
+use Rattle.bitstream.proofs.Bytes.{byte-number, bits-of-two}
+use Rattle.matrices.specs.Matrix.{interpolated, minimum, scaled, valueAt}
 use Rattle.matrices.specs.declared.Range.{Range}
 
--- ---- interpolation: all products fit
-pub part-fits : (x b : ℕ) → x ≤ 63 → b < 256 → 2 * x * b ≤ 32130
-part-fits x b h l = let m : 2 * x * b ≤ 126 * 255 = mul-le-mul {n₁ = 2 * x} {m₁ = b} {n₂ = 126} {m₂ = 255} (omega arith) (omega arith) in omega arith
-
-pub interpolated-lt : (r : Range) (qi b₁ b₂ : ℕ) → InRange r qi → b₁ < 256 → b₂ < 256 → interpolated r qi b₁ b₂ < 65536
-unfolding interpolated
-interpolated-lt r qi b₁ b₂ i h l =
-    omega (
-      arith,
-      div-le-self (2 * (r .start + r .size - qi) * b₁ + 2 * (qi - r .start) * b₂ + r .size) (2 * r .size),
-      part-fits (r .start + r .size - qi) b₁ (omega (arith, i .from, i .low)) h,
-      part-fits (qi - r .start) b₂ (omega (arith, i .from, i .to, i .low)) l,
-      i .low,
-    )
-
--- between equal values stands the same
-between-same : (x y b : ℕ) → 1 ≤ x + y → (2 * x * b + 2 * y * b + (x + y)) / (2 * (x + y)) ≡ b
-between-same x y b h =
-    let e : 2 * x * b + 2 * y * b + (x + y) ≡ b * (2 * (x + y)) + (x + y) = omega arith in
-    ap (λ (t : ℕ). t / (2 * (x + y))) e ∙ digits-div b (omega arith)
-
-pub interpolated-same : (r : Range) (qi b : ℕ) → InRange r qi → interpolated r qi b b ≡ b
-unfolding interpolated
-interpolated-same r qi b i =
-    let x = r .start + r .size - qi in
-    let y = qi - r .start in
-    let e : x + y ≡ r .size = omega (arith, i .from, i .to) in
-    subst (λ (n : ℕ). (2 * x * b + 2 * y * b + n) / (2 * n) ≡ b) e (between-same x y b (omega (arith, e, i .some)))
+-- ---- 8 bits out of the byte that they begin in and the next one, or the same again where they are it
+pub byte-of-two : (p : List ℕ) (i t : ℕ) → t < 8 → getD p i 0 < 256 → getD p (i + (t + 7) / 8) 0 < 256 → (getD p i 0 * 256 + getD p (i + (t + 7) / 8) 0) / 2 ^ (8 - t) % 256 ≡ number p (i * 8 + t) 8
+byte-of-two p i zero h a b =
+    let e : i + (0 + 7) / 8 ≡ i = omega arith in
+    let z : i * 8 + 0 ≡ i * 8 = omega arith in
+    let two : 2 ^ (8 - 0) ≡ 256 = refl in
+    rw (e, z, two, byte-number p i a) (ap (λ (x : ℕ). x % 256) (digits-div (getD p i 0) a) ∙ omega arith)
+byte-of-two p i (suc t) h a b =
+    let e : (i * 8 + suc t) / 8 ≡ i = omega arith in
+    let z : i + (suc t + 7) / 8 ≡ i + 1 = omega arith in
+    let next : getD p (i + 1) 0 < 256 = subst (λ (k : ℕ). getD p k 0 < 256) z b in
+    ap (λ (k : ℕ). (getD p i 0 * 256 + getD p k 0) / 2 ^ (8 - suc t) % 256) z
+    ∙ ap (λ (k : ℕ). (getD p k 0 * 256 + getD p (k + 1) 0) / 2 ^ (8 - suc t) % 256) (sym e)
+    ∙ bits-of-two p (i * 8 + suc t) 8 (8 - suc t) (omega arith) (subst (λ (k : ℕ). getD p k 0 < 256) (sym e) a) (subst (λ (k : ℕ). getD p (k + 1) 0 < 256) (sym e) next)
 
 -- ---- the least value
 module _ (type c : ℕ) where
@@ -55,29 +45,35 @@ module _ (type c : ℕ) where
   unfolding minimum
   least-inter-ac h l = rw (ne-eqb _ _ h, ne-eqb _ _ l)
 
+  -- all but the first have the same
+  least-same : (c ≡ 0 → ⊥) → minimum type 1 ≡ minimum type c
+  unfolding minimum
+  least-same h = rw (ne-eqb _ _ h)
+
 -- ---- scaling: the product fits
 pub product-fits : (s b : ℕ) → s < 65536 → b < 65536 → s * b ≤ 4294836225
 product-fits s b h l = let m : s * b ≤ 65535 * 65535 = mul-le-mul {n₁ = s} {m₁ = b} {n₂ = 65535} {m₂ = 65535} (omega arith) (omega arith) in omega arith
 
+-- a hundredth is a 25th of a quarter
 module _ (m s b : ℕ) (low : m ≤ 32) where
-  pub scaled-high : 4096 ≤ 4 * (s * b / 100) → 4096 ≡ scaled m s b
+  pub scaled-high : 25600 ≤ s * b / 4 → 4096 ≡ scaled m s b
   unfolding scaled
   scaled-high h = omega arith
 
-  pub scaled-low : 4 * (s * b / 100) < 4096 → 4 * (s * b / 100) ≤ m → m ≡ scaled m s b
+  pub scaled-low : s * b / 4 < 25600 → 4 * (s * b / 4 / 25) ≤ m → m ≡ scaled m s b
   unfolding scaled
   scaled-low h l = omega arith
 
-  pub scaled-middle : 4 * (s * b / 100) < 4096 → m < 4 * (s * b / 100) → 4 * (s * b / 100) ≡ scaled m s b
+  pub scaled-middle : s * b / 4 < 25600 → m < 4 * (s * b / 4 / 25) → 4 * (s * b / 4 / 25) ≡ scaled m s b
   unfolding scaled
   scaled-middle h l = omega arith
 
 -- ---- a value by its coefficient
-module _ (type dc ac : ℕ) (r : Range) (qi c b₁ b₂ : ℕ) where
-  pub value-dc : c ≡ 0 → scaled (minimum type c) dc (interpolated r qi b₁ b₂) ≡ valueAt type dc ac r qi c b₁ b₂
+module _ (type dc ac : ℕ) (r : Range) (qi c b₁ b₂ m v : ℕ) (is : v ≡ interpolated r qi b₁ b₂) where
+  pub value-dc : m ≡ minimum type c → c ≡ 0 → scaled m dc v ≡ valueAt type dc ac r qi c b₁ b₂
   unfolding valueAt
-  value-dc h = rw (eq-eqb _ _ h)
+  value-dc e h = ap₂ (λ (x y : ℕ). scaled x dc y) e is ∙ rw (eq-eqb _ _ h)
 
-  pub value-ac : (c ≡ 0 → ⊥) → scaled (minimum type c) ac (interpolated r qi b₁ b₂) ≡ valueAt type dc ac r qi c b₁ b₂
+  pub value-ac : m ≡ minimum type 1 → (c ≡ 0 → ⊥) → scaled m ac v ≡ valueAt type dc ac r qi c b₁ b₂
   unfolding valueAt
-  value-ac h = rw (ne-eqb _ _ h)
+  value-ac e h = ap₂ (λ (x y : ℕ). scaled x ac y) (e ∙ least-same type c h) is ∙ rw (ne-eqb _ _ h)

@@ -1,5 +1,5 @@
 -- The quantization matrix of a type, a plane and a qi (002, "Computing a Quantization Matrix").
-use Prim.Native.Nat.{ℕ, _+_, _-_, _*_, _/_, _≤_, min, max}
+use Prim.Native.Nat.{ℕ, _+_, _-_, _*_, _/_, _≤_, _<_, min, max}
 use mathlib.Core.Path.{_≡_}
 use mathlib.Core.List.{List, [], _∷_}
 use lib.Dec.{eqb, leb}
@@ -10,6 +10,7 @@ use Rattle.quantization.specs.Parameters.{Ranges, Quantization, none}
 use Rattle.quantization.specs.Sound.{total, Holds}
 use Rattle.quantization.specs.declared.LoadedParameters.{LoadedParameters}
 use Rattle.matrices.specs.declared.Range.{Range}
+use Rattle.matrices.specs.declared.Weights.{Weights}
 
 -- the first range that ends at qi or behind it: range k, which begins at s and has the size n, or one of those behind it, whose sizes are the list. What none before it has lies in the last
 unfoldable pub rangeFrom : ℕ → ℕ → ℕ → List ℕ → ℕ → Range
@@ -33,6 +34,19 @@ pub record InRange (r : Range) (qi : ℕ) : Type 0 where
 -- "in its range from s to e, size n, BM = (2(e−qi)·B1 + 2(qi−s)·B2 + n)//(2n)"
 unfoldable pub interpolated : Range → ℕ → ℕ → ℕ → ℕ
 interpolated r qi b₁ b₂ = (2 * (r .start + r .size - qi) * b₁ + 2 * (qi - r .start) * b₂ + r .size) / (2 * r .size)
+
+-- ---- the same without a division
+-- weights of two bytes, whose sum 16 bits hold
+abbrev pub Light : Weights → Type 0
+Light w = (w .before + w .behind ≤ 63) × (w .half ≤ 31)
+
+-- the value between b₁ and b₂ by weights
+unfoldable pub weighed : Weights → ℕ → ℕ → ℕ
+weighed w b₁ b₂ = (w .before * b₁ + w .behind * b₂ + w .half) * w .reciprocal / 1048576
+
+-- the weights of qi in a range: for any two bytes they give what the division gives
+abbrev pub Weighs : Range → ℕ → Weights → Type 0
+Weighs r qi w = (b₁ b₂ : ℕ) → b₁ < 256 → b₂ < 256 → weighed w b₁ b₂ ≡ interpolated r qi b₁ b₂
 
 -- "m is 16 DC, 8 AC for intra, 32 DC, 16 AC for inter": of the type 0 or 1, at the coefficient c
 unfoldable pub minimum : ℕ → ℕ → ℕ
