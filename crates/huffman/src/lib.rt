@@ -148,7 +148,7 @@ pub fn walk(window: u64, from: usize, nodes: &[u8], values: &[u64]) -> u64
 }
 
 // Fills a part of a lookup.
-fn fill_with(lookup: &mut [u64], entry: u64)
+pub fn fill_with(lookup: &mut [u64], entry: u64)
     ensures { λ _. ⌜ now (lookup .exit) ≡ replicate (length (now (lookup .entry))) entry ⌝ }
 {
     let mut i = 0;

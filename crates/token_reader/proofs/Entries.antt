@@ -5,6 +5,7 @@ use native.Mathlib.Nat.{one-mul, mod-lt, lt-of-lt-of-le}
 use mathlib.Core.Path.{_≡_, refl, sym, ap, _∙_}
 use mathlib.Core.List.{List, [], _∷_, _++_}
 use mathlib.Core.Bool.{Bool, true, false}
+use mathlib.Core.Logic.{_⊎_, inl, inr}
 use lib.Dec.{eqb, leb}
 use lib.ListN.{getD, replicate, length-append, length-replicate}
 use lib.Pow.{pow-pos, pow-mono, shl-exact, shr-shr}
@@ -27,6 +28,7 @@ use Rattle.token.proofs.Rows.{bits-most, packed-lt, value-at}
 use Rattle.token.proofs.Facts.{extra-got}
 use Rattle.token_reader.specs.Reader.{token}
 use Rattle.token_reader.specs.Answer.{Lookup, lookedUp, entryAt, byRow, tokenBy}
+use Rattle.token_reader.proofs.Lookups.{none-set}
 use Rattle.token_reader.proofs.Ways.{token-got, token-past}
 use Rattle.token_reader.proofs.Laws.{token-lawful, token-four}
 
@@ -60,14 +62,19 @@ module _ (nodes lookup p : List ℕ) (at w : ℕ) (f : Formed nodes) (g : Lookup
   found : Found nodes tokenValues p at (formed-length f) e
   found = go (eqb (lookedUp lookup w (at % 8)) 0) refl
     where
-      first : lookedUp lookup w (at % 8) ≡ getD (lookupOf nodes tokenValues) (number p at 8) 0
-      first =
-          let x : w / 2 ^ (56 - at % 8) % 2 ^ 8 ≡ number p at 8 = ap (λ (y : ℕ). y / 2 ^ (56 - at % 8) % 2 ^ 8) is ∙ bits-of-window p at 8 (56 - at % 8) (omega arith) in
-          ap (λ (k : ℕ). getD lookup k 0) x ∙ ap (λ (l : List ℕ). getD l (number p at 8) 0) (g .is)
+      index : w / 2 ^ (56 - at % 8) % 256 ≡ number p at 8
+      index = ap (λ (y : ℕ). y / 2 ^ (56 - at % 8) % 2 ^ 8) is ∙ bits-of-window p at 8 (56 - at % 8) (omega arith)
+
+      said : lookedUp lookup w (at % 8) ≡ getD lookup (number p at 8) 0
+      said = ap (λ (k : ℕ). getD lookup k 0) index
+
+      by-code : (_≡_ {A = ℕ} (lookedUp lookup w (at % 8)) 0 → ⊥) → (_≡_ {A = ℕ} (getD lookup (number p at 8) 0) 0) ⊎ (getD lookup (number p at 8) 0 ≡ getD (lookupOf nodes tokenValues) (number p at 8) 0) → Found nodes tokenValues p at (formed-length f) (lookedUp lookup w (at % 8))
+      by-code n (inl z) = absurd (n (said ∙ z))
+      by-code n (inr s) = let first = said ∙ s in rw first (found-code nodes tokenValues p at (formed-length f) f (omega arith) (λ z. n (first ∙ z)))
 
       go : (t : Bool) → eqb (lookedUp lookup w (at % 8)) 0 ≡ t → Found nodes tokenValues p at (formed-length f) (choose t (entryIn (treeOf nodes) tokenValues w (at % 8) 0) (lookedUp lookup w (at % 8)))
       go true t = walk-code nodes tokenValues p at w f is (omega arith)
-      go false t = rw first (found-code nodes tokenValues p at (formed-length f) f (omega arith) (λ z. eqb-false (lookedUp lookup w (at % 8)) 0 t (first ∙ z)))
+      go false t = by-code (eqb-false (lookedUp lookup w (at % 8)) 0 t) (g .each (number p at 8))
 
   abbrev v : ℕ
   v = found .token
@@ -104,11 +111,6 @@ module _ (nodes lookup p : List ℕ) (at w : ℕ) (f : Formed nodes) (g : Lookup
       ∙ ((λ i. byRow v (sym x i) (q i)) ∙ (λ i. byRow (sym which i) (w / 2 / 2 ^ (63 - at % 8 - e / 2 ^ 36) % 2 ^ extraBits (sym which i)) (at + e / 2 ^ 36)))
 
 -- ---- any packet: with zeros behind it has the same window
-none-set : (n j : ℕ) → _≡_ {A = ℕ} (getD (replicate n 0) j 0) 0
-none-set zero j = refl
-none-set (suc n) zero = refl
-none-set (suc n) (suc j) = none-set n j
-
 same-byte : (p : List ℕ) (n j : ℕ) → getD (p ++ replicate n 0) j 0 ≡ getD p j 0
 same-byte [] n j = none-set n j
 same-byte (x ∷ p) n zero = refl

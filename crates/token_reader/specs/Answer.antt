@@ -2,6 +2,7 @@
 use Prim.Native.Nat.{ℕ, _+_, _-_, _/_, _%_, _^_}
 use mathlib.Core.Path.{_≡_}
 use mathlib.Core.List.{List}
+use mathlib.Core.Logic.{_⊎_}
 use lib.Dec.{eqb}
 use lib.ListN.{length, getD}
 use Rattle.bitstream.specs.Reading.{Outcome, got, choose}
@@ -10,10 +11,10 @@ use Rattle.huffman.specs.Lookup.{lookupOf, entryIn}
 use Rattle.token.specs.Token.{Meaning, rowOf, meaning}
 use Rattle.token.specs.Answer.{tokenValues, extraBits, signOf, sizeOf, zerosOf}
 
--- the lookup of a tree: the values of tokens, each with the bits of its code
+-- a lookup for a tree: each entry is 0, which says nothing, or the tree's: the value of a token with the bits of its code
 pub record Lookup (nodes lookup : List ℕ) : Type 0 where
   pub size : length lookup ≡ 256
-  pub is : lookup ≡ lookupOf nodes tokenValues
+  pub each : (i : ℕ) → (_≡_ {A = ℕ} (getD lookup i 0) 0) ⊎ (getD lookup i 0 ≡ getD (lookupOf nodes tokenValues) i 0)
 
 -- the entry of the code that stands in the window w from its bit k on: what the lookup has for eight bits, and where that is 0 the tree's
 abbrev pub lookedUp : List ℕ → ℕ → ℕ → ℕ
