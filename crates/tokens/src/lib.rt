@@ -248,7 +248,8 @@ fn fill_lookup(nodes: &[u8], k: usize, count: usize, lookup: &mut [u64])
         return;
     }
     let values = token::all_values();
-    huffman::fill_by(nodes, &values, lookup);
+    let complete = token::all_complete();
+    huffman::fill_by(nodes, &values, &complete, lookup);
 }
 
 // Fills the lookup of the table that is used at the position k by a choice, where a group begins; else it is there. For no block none is filled.
