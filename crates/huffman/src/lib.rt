@@ -5,10 +5,11 @@ ghost use Prim.Native.Nat.{ℕ, _+_, _-_, _*_, _/_, _%_, _<_, _≤_, _^_};
 ghost use lib.ListN.{length, getD, take, replicate};
 ghost use Rattle.bitstream.specs.Bits.{bits, number, longest};
 ghost use Rattle.bitstream.specs.Answer.{asEnd};
+ghost use Rattle.bitstream.specs.Lists.{tabulated};
 ghost use Rattle.huffman.specs.Tree.{tree, huffmanTree};
 ghost use Rattle.huffman.specs.Code.{treeOf, Formed};
 ghost use Rattle.huffman.specs.Answer.{nodesAfter, Told, Stored, branch};
-ghost use Rattle.huffman.specs.Lookup.{Values, spread, lookupOf, entryIn};
+ghost use Rattle.huffman.specs.Lookup.{Values, leafPart, spread, lookupOf, entryIn};
 
 // The byte at an index, 0 past the end.
 fn byte_or_zero(packet: &[u8], i: usize) -> u8
@@ -132,7 +133,7 @@ fn next_node(node: usize, value: u8, b: u8) -> usize
 // The entry of the code that stands in a window from its bit `from` on, by a walk over the nodes: the value of its token, and how many bits it has.
 // The window holds the whole code, which has at most 31 bits.
 pub fn walk(window: u64, from: usize, nodes: &[u8], values: &[u64]) -> u64
-    requires { ⌜ Formed (now nodes) × Values (now values) × (from < 8) ⌝ }
+    requires { ⌜ Formed (now nodes) × Values 32 (now values) × (from < 8) ⌝ }
     ensures { λ r. ⌜ r ≡ entryIn (treeOf (now (nodes .entry))) (now (values .entry)) window from 0 ⌝ }
 {
     let mut node = 0;
@@ -148,7 +149,7 @@ pub fn walk(window: u64, from: usize, nodes: &[u8], values: &[u64]) -> u64
 }
 
 // Fills a part of a lookup.
-fn fill_with(lookup: &mut [u64], entry: u64)
+pub fn fill_with(lookup: &mut [u64], entry: u64)
     ensures { λ _. ⌜ now (lookup .exit) ≡ replicate (length (now (lookup .entry))) entry ⌝ }
 {
     let mut i = 0;
@@ -158,17 +159,58 @@ fn fill_with(lookup: &mut [u64], entry: u64)
     }
 }
 
+// Fills a part of a lookup by the complete values from an index on, each for 2 ^ `shift` entries; to each so many bits are added.
+fn fill_extra(lookup: &mut [u64], complete: &[u64], from: usize, shift: usize, bits: u64)
+    requires { ⌜ Values 256 (now complete) × (shift ≤ 8) × (bits ≤ 2 ^ 40) × (from < 256) × ((i : ℕ) → i < length (now lookup) → from + i / 2 ^ shift < 256) ⌝ }
+    ensures { λ _. ⌜ now (lookup .exit) ≡ tabulated (λ i. getD (now (complete .entry)) (from + i / 2 ^ shift) 0 + bits) 0 (length (now (lookup .entry))) ⌝ }
+{
+    let mut i = 0;
+    while i < lookup.len() {
+        let of_token = complete[from + (i >> shift)];
+        lookup[i] = of_token + bits;
+        i += 1;
+    }
+}
+
+// The part of a lookup for the code of a token, below which `left` bits more are looked up. Where those hold its extra bits too, of which there are at most three,
+// its entries are complete. The values are ready in a table: to make each by itself took 6,000 instructions a lookup more.
+fn fill_leaf(values: &[u64], complete: &[u64], token: usize, left: usize, lookup: &mut [u64])
+    requires { ⌜ Values 32 (now values) × Values 256 (now complete) × (token < 32) × (left ≤ 8) × (length (now lookup) ≡ 2 ^ left) ⌝ }
+    ensures { λ _. ⌜ now (lookup .exit) ≡ leafPart (now (values .entry)) (now (complete .entry)) left token ⌝ }
+{
+    let of_token = values[token];
+    let extra = (of_token / 0x1000000000) as usize;
+    let taken = 8 - left;
+    let bits = taken as u64 * 0x1000000000;
+    if extra == 0 {
+        let of_complete = complete[8 * token];
+        fill_with(lookup, of_complete + bits);
+        return;
+    }
+    if (extra <= 3) & (extra <= left) {
+        fill_extra(lookup, complete, 8 * token, left - extra, bits);
+        return;
+    }
+    fill_with(lookup, of_token + bits);
+}
+
 // The part of a lookup for the codes that lead to a node, below which `left` bits more are looked up.
-fn spread(nodes: &[u8], values: &[u64], node: usize, left: usize, lookup: &mut [u64])
-    requires { ⌜ (length (now nodes) ≡ 64) × Values (now values) × (node < 200) × (left ≤ 8) × (length (now lookup) ≡ 2 ^ left) ⌝ }
-    ensures { λ _. ⌜ now (lookup .exit) ≡ spread (now (nodes .entry)) (now (values .entry)) left node ⌝ }
+fn spread(
+    nodes: &[u8],
+    values: &[u64],
+    complete: &[u64],
+    node: usize,
+    left: usize,
+    lookup: &mut [u64],
+)
+    requires { ⌜ (length (now nodes) ≡ 64) × Values 32 (now values) × Values 256 (now complete) × (node < 200) × (left ≤ 8) × (length (now lookup) ≡ 2 ^ left) ⌝ }
+    ensures { λ _. ⌜ now (lookup .exit) ≡ spread (now (nodes .entry)) (now (values .entry)) (now (complete .entry)) left node ⌝ }
 {
     let at = node % 64;
     let value = nodes[at];
     if value < 128 {
-        let of_token = values[(value % 32) as usize];
-        let taken = 8 - left;
-        fill_with(lookup, of_token + taken as u64 * 0x1000000000);
+        let token = (value % 32) as usize;
+        fill_leaf(values, complete, token, left, lookup);
         return;
     }
     if left == 0 {
@@ -177,10 +219,18 @@ fn spread(nodes: &[u8], values: &[u64], node: usize, left: usize, lookup: &mut [
     }
     let end = lookup.len();
     let half = end / 2;
-    spread(nodes, values, at + 1, left - 1, &mut lookup[..half]);
     spread(
         nodes,
         values,
+        complete,
+        at + 1,
+        left - 1,
+        &mut lookup[..half],
+    );
+    spread(
+        nodes,
+        values,
+        complete,
         value as usize - 128,
         left - 1,
         &mut lookup[half..end],
@@ -188,9 +238,9 @@ fn spread(nodes: &[u8], values: &[u64], node: usize, left: usize, lookup: &mut [
 }
 
 // The lookup of a tree by eight bits. Each node is gone to once: a tree has at most 63, and a step for each of 256 strings of bits would take more.
-pub fn fill_by(nodes: &[u8], values: &[u64], lookup: &mut [u64])
-    requires { ⌜ (length (now nodes) ≡ 64) × Values (now values) × (length (now lookup) ≡ 256) ⌝ }
-    ensures { λ _. ⌜ now (lookup .exit) ≡ lookupOf (now (nodes .entry)) (now (values .entry)) ⌝ }
+pub fn fill_by(nodes: &[u8], values: &[u64], complete: &[u64], lookup: &mut [u64])
+    requires { ⌜ (length (now nodes) ≡ 64) × Values 32 (now values) × Values 256 (now complete) × (length (now lookup) ≡ 256) ⌝ }
+    ensures { λ _. ⌜ now (lookup .exit) ≡ lookupOf (now (nodes .entry)) (now (values .entry)) (now (complete .entry)) ⌝ }
 {
-    spread(nodes, values, 0, 8, lookup);
+    spread(nodes, values, complete, 0, 8, lookup);
 }

@@ -7,9 +7,9 @@ ghost use lib.ListN.{length};
 ghost use Rattle.bitstream.specs.Bits.{longest};
 ghost use Rattle.huffman.specs.Code.{treeOf, Formed};
 ghost use Rattle.token.specs.Token.{rowOf};
-ghost use Rattle.token.specs.Answer.{asToken, packed, tokenValues};
+ghost use Rattle.token.specs.Answer.{asToken, packed, tokenValues, kindOf};
 ghost use Rattle.token_reader.specs.Reader.{token};
-ghost use Rattle.token_reader.specs.Answer.{Lookup, entryAt, tokenBy};
+ghost use Rattle.token_reader.specs.Answer.{Lookup, entryAt, tokenBy, tokenOf};
 
 // The entry of the code that stands in a window from its bit `from` on: that of its first eight bits, or by the tree where they are no whole code.
 fn entry_in(window: u64, from: usize, nodes: &[u8], lookup: &[u64], values: &[u64]) -> u64
@@ -24,7 +24,7 @@ fn entry_in(window: u64, from: usize, nodes: &[u8], lookup: &[u64], values: &[u6
     entry
 }
 
-// The token of an entry: one load behind the window tells its row and all its bits, where the tree, the token and its row were three, one after the other.
+// The token of an entry that is not complete: one load behind the window tells its row and all its bits, where the tree, the token and its row were three, one after the other.
 // Its extra bits come out of the same window.
 fn token_by(entry: u64, window: u64, at: usize) -> Token
     requires { ⌜ (entry % 0x10000000 ≡ packed (rowOf (entry / 0x10000000 % 32))) × (entry / 0x1000000000 ≤ 43) × (at < 2 ^ 62) ⌝ }
@@ -38,6 +38,30 @@ fn token_by(entry: u64, window: u64, at: usize) -> Token
     let halved = window / 2;
     let x = ((halved >> (63 - at % 8 - bits)) % (1 << width)) as u32;
     token::meaning_by(t, row, x, at + bits)
+}
+
+// The token of an entry, which may be complete: then it says what comes out, and neither a row nor the window is looked at. In the recording cif 9 of 10 tokens are values
+// by such entries, each some 40 instructions less.
+fn token_of(entry: u64, window: u64, at: usize) -> Token
+    requires { ⌜ (kindOf entry ≡ 0 → entry % 0x10000000 ≡ packed (rowOf (entry / 0x10000000 % 32))) × (entry / 0x1000000000 ≤ 43) × (at < 2 ^ 62) ⌝ }
+    ensures { λ r. ⌜ r ≡ asToken (tokenOf entry window at) ⌝ }
+{
+    let kind = entry / 0x200000000 % 8;
+    if kind == 0 {
+        return token_by(entry, window, at);
+    }
+    let bits = (entry / 0x1000000000) as usize;
+    let next = at + bits;
+    if kind == 3 {
+        let zeros = (entry / 0x10000 % 64) as u16;
+        let value = (entry % 1024) as i16 - 512;
+        return Token::Coefficient(zeros, value, next);
+    }
+    let run = (entry % 0x10000) as u16;
+    if kind == 1 {
+        return Token::EndOfBlock(run, next);
+    }
+    Token::ZeroRun(run, next)
 }
 
 // Whether a packet of `size` bytes ends before so many bits from the place `at` on. Where it has the window whole nothing is cut, which saves eight instructions a token.
@@ -64,5 +88,5 @@ pub fn read_token(packet: &[u8], at: usize, nodes: &[u8], lookup: &[u64], values
     if is_cut(packet.len(), at, bits) {
         return Token::Refused(bitstream::PACKET_ENDS, at);
     }
-    token_by(entry, window, at)
+    token_of(entry, window, at)
 }

@@ -228,8 +228,31 @@ fn begins_group(k: usize) -> bool
     group_of(k) != group_of(k - 1)
 }
 
-// Fills the lookup of the table that is used at the position k by a choice, where a group begins; else it is there. For no block none is filled:
-// one takes some 2,700 instructions, and a frame has up to ten: a twentieth of the instructions for 1 by 1 macro blocks.
+// From how many blocks on a lookup is filled at the position k. Filling one takes some 2,600 instructions, and a token 50 more where its code is walked;
+// at the position 0, a group by itself, a block has at most one token.
+fn lookup_pays(k: usize) -> usize {
+    if k == 0 {
+        return 24;
+    }
+    8
+}
+
+// Fills the lookup of a tree for the codes of so many blocks from the position k on. For few all its entries are 0, so that their codes are walked:
+// a frame has up to ten lookups, a tenth of the instructions for 1 by 1 macro blocks.
+fn fill_lookup(nodes: &[u8], k: usize, count: usize, lookup: &mut [u64])
+    requires { ⌜ (length (now nodes) ≡ 64) × (length (now lookup) ≡ 256) ⌝ }
+    ensures { λ _. ⌜ Lookup (now (nodes .entry)) (now (lookup .exit)) ⌝ }
+{
+    if count < lookup_pays(k) {
+        huffman::fill_with(lookup, 0);
+        return;
+    }
+    let values = token::all_values();
+    let complete = token::all_complete();
+    huffman::fill_by(nodes, &values, &complete, lookup);
+}
+
+// Fills the lookup of the table that is used at the position k by a choice, where a group begins; else it is there. For no block none is filled.
 fn renew_lookup(nodes: &[u8], k: usize, choice: usize, count: usize, lookup: &mut [u64])
     requires { ⌜ Tables (now nodes) × (choice < 16) × Current (now nodes) k choice count (now lookup) ⌝ }
     ensures { λ _. ⌜ Ready (now (nodes .entry)) k choice count (now (lookup .exit)) ⌝ }
@@ -242,8 +265,7 @@ fn renew_lookup(nodes: &[u8], k: usize, choice: usize, count: usize, lookup: &mu
     }
     let from = 64 * (16 * group_of(k) + choice);
     let to = from + 64;
-    let values = token::all_values();
-    huffman::fill_by(&nodes[from..to], &values, lookup);
+    fill_lookup(&nodes[from..to], k, count, lookup);
 }
 
 // All positions in turn. `active` holds the ranks of all blocks, luma's first; at each position only the unfinished ones are looked at.

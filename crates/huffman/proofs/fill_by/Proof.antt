@@ -5,7 +5,7 @@ use Rattle.huffman.proofs.fill_by.Statement.{statement}
 use Rattle.huffman.proofs.fill_by.Tie as tie
 
 spread-requires : tie.Need-spread-requires
-spread-requires c κs = let p = c .before .before .before .before .pre in (p .0, p .1, omega arith, omega arith, p .2)
+spread-requires c κs = let p = c .before .before .before .before .before .pre in (p .0, p .1, p .2, omega arith, omega arith, p .3)
 
 same-length : tie.Need-same-length
 same-length c = search needs

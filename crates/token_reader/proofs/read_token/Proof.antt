@@ -40,8 +40,8 @@ returns c =
     let ends = ltb-true (length (a .packet .now)) (behind (a .at) (e .result)) (sym (c .before .is-cut .ensures) ∙ c .if1 .taken) in
     sym (ap asToken (entry-cut (a .nodes .now) (a .lookup .now) (a .packet .now) (a .at) (w .result) (e .result) (u .pre .1) (u .pre .2) (w .ensures) (e .ensures) (omega (arith, ends))))
 
-token-by-requires : tie.Need-token-by-requires
-token-by-requires c κs =
+token-of-requires : tie.Need-token-of-requires
+token-of-requires c κs =
     let u = c .before .before .before .before .before .before .before .before in
     let a = u .args in
     let e = c .before .before .entry-in in
@@ -59,7 +59,7 @@ returns-2 c =
     let e = c .before .before .before .entry-in in
     let w = c .before .before .before .before .window in
     let whole = ltb-false (length (a .packet .now)) (behind (a .at) (e .result)) (sym (c .before .before .is-cut .ensures) ∙ c .before .if1 .left) in
-    c .token-by .ensures ∙ sym (ap asToken (entry-got (a .nodes .now) (a .lookup .now) (a .packet .now) (a .at) (w .result) (e .result) (u .pre .1) (u .pre .2) (w .ensures) (e .ensures) (omega (arith, whole))))
+    c .token-of .ensures ∙ sym (ap asToken (entry-got (a .nodes .now) (a .lookup .now) (a .packet .now) (a .at) (w .result) (e .result) (u .pre .1) (u .pre .2) (w .ensures) (e .ensures) (omega (arith, whole))))
 
 pub read-token-spec : {M : Type 1} → statement M
-read-token-spec = tie.close (tie.spec window-requires entry-in-requires is-cut-requires returns token-by-requires returns-2)
+read-token-spec = tie.close (tie.spec window-requires entry-in-requires is-cut-requires returns token-of-requires returns-2)
