@@ -19,17 +19,13 @@ use Rattle.bitstream.proofs.Numbers.{bit-lt, number-lt, number-one, number-add}
 use Rattle.bitstream.proofs.Fields.{no-mix, field-got}
 use Rattle.huffman.specs.Tree.{Tree, leaf, fork, leaves, size, tree, huffmanTree, flat, nodesOf}
 use Rattle.huffman.specs.Answer.{leavesOf}
-use Rattle.huffman.proofs.Trees.{longest, longest-leaves, size-leaves, Spells, tree-spells, read-proper, huffman-lawful}
+use Rattle.huffman.proofs.Trees.{longest, longest-leaves, size-leaves, some-leaf, Spells, tree-spells, read-proper, huffman-lawful}
 use Rattle.huffman.proofs.Grows.{tree-leaf, fork-left, token-got, stored-leaf, stored-fork, flat-length, drop-zeros}
 
 -- ---- bits that spell a tree are read as that tree
 pub spells-ends : (p : List ℕ) (q : ℕ) (t : Tree) (e : ℕ) → Spells p q t e → e + 1 ≡ q + 7 * leaves t
 spells-ends p q (leaf t) e s = omega (arith, s .2)
 spells-ends p q (fork l r) e s = omega (arith, spells-ends p (q + 1) l (s .1) (s .2), spells-ends p (s .1) r e (s .3))
-
-some-leaf : (t : Tree) → 1 ≤ leaves t
-some-leaf (leaf t) = omega arith
-some-leaf (fork l r) = omega (arith, some-leaf l)
 
 spelled-tree : (d seen : ℕ) (p : List ℕ) (q : ℕ) (t : Tree) (e : ℕ) → Spells p q t e → longest t ≤ d → seen + leaves t ≤ 32 → e ≤ bits p → tree d seen p q ≡ got t e
 spelled-tree d seen p q (leaf t) e s l c b =

@@ -21,6 +21,10 @@ pub size-leaves : (t : Tree) → size t + 1 ≡ 2 * leaves t
 size-leaves (leaf t) = refl
 size-leaves (fork l r) = omega (arith, size-leaves l, size-leaves r)
 
+pub some-leaf : (t : Tree) → 1 ≤ leaves t
+some-leaf (leaf t) = omega arith
+some-leaf (fork l r) = omega (arith, some-leaf l)
+
 -- how many bits the longest code has. "A lone leaf has the empty code."
 abbrev pub longest : Tree → ℕ
 longest (leaf t) = 0
