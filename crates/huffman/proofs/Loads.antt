@@ -422,15 +422,36 @@ module _ (p : List ℕ) (q w i L : ℕ) (g : Shows p q w i L) (few : i ≤ 31 + 
         is = x ∙ (mul-assoc (number p (q + 6) (v - 6)) (2 ^ (64 - v)) (2 ^ 6) ∙ ap (λ (k : ℕ). number p (q + 6) (v - 6) * k) (sym (pow-add 2 (64 - v) 6) ∙ ap (λ (k : ℕ). 2 ^ k) (sym n)));
       }
 
--- ---- the loop's invariant: what is left, and what the window shows of it
+-- ---- the invariants. At each leaf: what is left, and what the window shows of it, if it is not filled anew; at each fork before it: what the window shows
+pub record Head (p : List ℕ) (at w i L top : ℕ) (ns : List ℕ) : Type 0 where
+  q : ℕ
+  left : Going p at q i L top ns
+  seen : (L % 4 ≡ 0 → ⊥) → Shows p q w i L
+
 pub record State (p : List ℕ) (at w i L top : ℕ) (ns : List ℕ) : Type 0 where
   q : ℕ
   left : Going p at q i L top ns
   seen : Shows p q w i L
 
 module _ (p : List ℕ) (at : ℕ) where
-  pub state-start : (w : ℕ) (ns : List ℕ) → w ≡ number p (at / 8 * 8) 64 * 2 ^ (at % 8) % 2 ^ 64 → ns ≡ replicate 64 0 → State p at w 0 0 64 ns
-  state-start w ns h z = record { q = at; left = going-start p at ns z; seen = shows-filled p at w 0 0 h refl (omega arith) }
+  pub head-start : (w : ℕ) (ns : List ℕ) → ns ≡ replicate 64 0 → Head p at w 0 0 64 ns
+  head-start w ns z = record { q = at; left = going-start p at ns z; seen = λ h. absurd (h refl) }
+
+  module _ (w i L top : ℕ) (ns : List ℕ) (s : Head p at w i L top ns) where
+    pub head-room : (i < 64) × (L ≤ 31)
+    head-room = going-room p at (s .q) i L top ns (s .left)
+
+    pub head-kept : (x : ℕ) → x ≡ w → (L % 4 ≡ 0 → ⊥) → State p at x i L top ns
+    head-kept x e h = record { q = s .q; left = s .left; seen = subst (λ (y : ℕ). Shows p (s .q) y i L) (sym e) (s .seen h) }
+
+    pub head-filled : (x : ℕ) → L % 4 ≡ 0 → x ≡ number p ((at + i + 5 * L) / 8 * 8) 64 * 2 ^ ((at + i + 5 * L) % 8) % 2 ^ 64 → State p at x i L top ns
+    head-filled x h e =
+        let y = s .left .place in
+        record {
+          q = s .q;
+          left = s .left;
+          seen = shows-filled p (s .q) x i L (e ∙ ap (λ (k : ℕ). number p (k / 8 * 8) 64 * 2 ^ (k % 8) % 2 ^ 64) (sym y)) h (going-less p at (s .q) i L top ns (s .left));
+        }
 
   module _ (w i L top : ℕ) (ns : List ℕ) (s : State p at w i L top ns) where
     pub state-room : (i < 64) × (L ≤ 31) × (top ≤ 64) × (length ns ≡ 64)
@@ -469,16 +490,5 @@ module _ (p : List ℕ) (at : ℕ) where
         after-leaf : Going p at (s .q + 6) (i + 1) (L + 1) (getD (set ns i (w / 2 ^ 58 % 32)) top 0) (set (set ns i (w / 2 ^ 58 % 32)) top (128 + (i + 1)))
         after-leaf = going-leaf p at (s .q) i L top ns (s .left) (w / 2 ^ 58 % 32) (is-leaf h) its-token n
 
-        pub state-leaf : ((L + 1) % 4 ≡ 0 → ⊥) → State p at (w * 2 ^ 6 % 2 ^ 64) (i + 1) (L + 1) (getD (set ns i (w / 2 ^ 58 % 32)) top 0) (set (set ns i (w / 2 ^ 58 % 32)) top (128 + (i + 1)))
-        state-leaf d = record { q = s .q + 6; left = after-leaf; seen = shows-next p (s .q) w i L (s .seen) (s .left .few) d }
-
-        -- where the window is filled anew
-        pub state-filled : (x : ℕ) → (L + 1) % 4 ≡ 0 → x ≡ number p ((at + (i + 1) + 5 * (L + 1)) / 8 * 8) 64 * 2 ^ ((at + (i + 1) + 5 * (L + 1)) % 8) % 2 ^ 64
-            → State p at x (i + 1) (L + 1) (getD (set ns i (w / 2 ^ 58 % 32)) top 0) (set (set ns i (w / 2 ^ 58 % 32)) top (128 + (i + 1)))
-        state-filled x d e =
-            let y = after-leaf .place in
-            record {
-              q = s .q + 6;
-              left = after-leaf;
-              seen = shows-filled p (s .q + 6) x (i + 1) (L + 1) (e ∙ ap (λ (k : ℕ). number p (k / 8 * 8) 64 * 2 ^ (k % 8) % 2 ^ 64) (sym y)) d (going-less p at (s .q + 6) (i + 1) (L + 1) _ _ after-leaf);
-            }
+        pub state-leaf : Head p at (w * 2 ^ 6 % 2 ^ 64) (i + 1) (L + 1) (getD (set ns i (w / 2 ^ 58 % 32)) top 0) (set (set ns i (w / 2 ^ 58 % 32)) top (128 + (i + 1)))
+        state-leaf = record { q = s .q + 6; left = after-leaf; seen = λ d. shows-next p (s .q) w i L (s .seen) (s .left .few) d }

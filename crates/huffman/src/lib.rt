@@ -110,21 +110,25 @@ pub fn read_tree(packet: &[u8], at: usize, nodes: &mut [u8]) -> End
     End::At(place)
 }
 
-// The same tree out of table memory, which every frame call reads back: how many leaves it has, 0 where no tree can be read. The nodes are zeros before; after a refusal they are open.
-// Node by node, with no call of itself and no answer but one number: 80 trees take 5 us, by `read_tree` 12. The bits stand in a window, whose first is the most significant;
-// 4 leaves and at most 31 forks are no more than 55 bits, so it is filled anew after every 4 leaves. A fork whose 1 branch is still to come has as its entry the fork that is open above it,
-// or 64. More than 31 forks make more than 32 leaves, and so does a code of more than 31 bits.
+// The same tree out of table memory, which every frame call reads back: how many leaves it has, 0 where there is none. The nodes are zeros before; after a refusal they are open.
+// Node by node, with no call of itself, the 80 trees take 93,000 instructions, by `read_tree` 262,000.
+// The bits stand in a window, the first the most significant. With at most 31 forks 4 leaves have at most 55 bits, so that it is filled at every fourth leaf: filled at each one, they took 3 us more.
+// A fork whose 1 branch is still to come has as its entry the fork that is open above it, or 64. A 32nd fork makes 33 leaves, and so would a code of 32 bits.
 pub fn load_tree(packet: &[u8], at: usize, nodes: &mut [u8]) -> usize
     requires { ⌜ (length (now packet) ≤ longest) × (at ≤ bits (now packet)) × (now nodes ≡ replicate 64 0) ⌝ }
     ensures { λ r. ⌜ r ≡ leavesOf (huffmanTree (now (packet .entry)) at) ⌝ }
     ensures { λ r. ⌜ IfGot (λ t. now (nodes .exit) ≡ nodesOf t) (huffmanTree (now (packet .entry)) at) ⌝ }
 {
-    let mut window = bitstream::window(packet, at) << (at % 8);
+    let mut window: u64 = 0;
     let mut index: usize = 0;
     let mut leaves: usize = 0;
     let mut open: usize = 64;
     loop {
-        if window < 0x8000000000000000 {
+        if leaves % 4 == 0 {
+            let place = at + index + 5 * leaves;
+            window = bitstream::window(packet, place) << (place % 8);
+        }
+        while window < 0x8000000000000000 {
             if index == 31 + leaves {
                 return 0;
             }
@@ -132,7 +136,6 @@ pub fn load_tree(packet: &[u8], at: usize, nodes: &mut [u8]) -> usize
             open = index;
             index += 1;
             window *= 2;
-            continue;
         }
         nodes[index] = (window / 0x400000000000000 % 32) as u8;
         index += 1;
@@ -147,10 +150,6 @@ pub fn load_tree(packet: &[u8], at: usize, nodes: &mut [u8]) -> usize
         open = nodes[fork] as usize;
         nodes[fork] = 128 + index as u8;
         window = window << 6;
-        if leaves % 4 == 0 {
-            let place = at + index + 5 * leaves;
-            window = bitstream::window(packet, place) << (place % 8);
-        }
     }
 }
 
