@@ -50,7 +50,7 @@ module _ (seen : ℕ) (p : List ℕ) (i : ℕ) where
   tree-deep : (d : ℕ) {b e : ℕ} → field 1 p i ≡ got b e → (b ≡ 1 → ⊥) → d ≡ 0 → tree d seen p i ≡ refused 7 i
   tree-deep d f h z = bit-refused d (bit-fails d seen p i f (rw (ne-eqb _ _ h) (le-ltb 0 d (omega arith))))
 
-  tree-leaf : (d : ℕ) {b e : ℕ} → field 1 p i ≡ got b e → b ≡ 1 → seen < 32 → tree d seen p i ≡ leafToken p e
+  pub tree-leaf : (d : ℕ) {b e : ℕ} → field 1 p i ≡ got b e → b ≡ 1 → seen < 32 → tree d seen p i ≡ leafToken p e
   unfolding tree
   tree-leaf zero f h l = rw (bit-passes zero seen p i f (rw (eq-eqb _ _ h) (lt-ltb seen 32 l)))
   tree-leaf (suc d) f h l = rw (bit-passes (suc d) seen p i f (rw (eq-eqb _ _ h) (lt-ltb seen 32 l)), eq-eqb _ _ h)
@@ -65,7 +65,7 @@ module _ (seen : ℕ) (p : List ℕ) (i : ℕ) where
   fork-refused : (d : ℕ) {b e k j : ℕ} → field 1 p i ≡ got b e → (b ≡ 1 → ⊥) → (d ≡ 0 → ⊥) → tree (d - 1) seen p e ≡ refused k j → tree d seen p i ≡ refused k j
   fork-refused d f h z r = tree-fork d f h z ∙ rw r
 
-  fork-left : (d : ℕ) {b e j : ℕ} {l : Tree} → field 1 p i ≡ got b e → (b ≡ 1 → ⊥) → (d ≡ 0 → ⊥) → tree (d - 1) seen p e ≡ got l j
+  pub fork-left : (d : ℕ) {b e j : ℕ} {l : Tree} → field 1 p i ≡ got b e → (b ≡ 1 → ⊥) → (d ≡ 0 → ⊥) → tree (d - 1) seen p e ≡ got l j
       → tree d seen p i ≡ after (tree (d - 1) (seen + leaves l) p j) (λ r e. got (fork l r) e)
   fork-left d f h z r = tree-fork d f h z ∙ rw r
 
@@ -74,7 +74,7 @@ module _ (p : List ℕ) (i : ℕ) where
   unfolding leafToken
   token-end f = rw f
 
-  token-got : {t e : ℕ} → field 5 p i ≡ got t e → leafToken p i ≡ got (leaf t) e
+  pub token-got : {t e : ℕ} → field 5 p i ≡ got t e → leafToken p i ≡ got (leaf t) e
   unfolding leafToken
   token-got f = rw f
 
@@ -169,7 +169,7 @@ module _ (base : ℕ) (old new₁ new₂ : List ℕ) (l r : Tree) (h : base < le
       let s : take (base + 1) old ≡ take base old ++ getD old base 0 ∷ [] = rw (add-one base) (take-suc old base 0 h) in
       rw (e, s) (put-before (take base old) (flat (base + 1) l) (drop mid old) _ (128 + mid) base (length-take-le base old (omega arith)))
 
-  stored-fork : new₁ ≡ take (base + 1) old ++ flat (base + 1) l ++ drop mid old
+  pub stored-fork : new₁ ≡ take (base + 1) old ++ flat (base + 1) l ++ drop mid old
       → new₂ ≡ take mid (set new₁ base (128 + mid)) ++ flat mid r ++ drop (mid + size r) (set new₁ base (128 + mid))
       → new₂ ≡ take base old ++ flat base (fork l r) ++ drop (base + size (fork l r)) old
   unfolding flat
@@ -231,7 +231,7 @@ filled-all d s = rw drop-length (append-nil _)
 zeros-split : (k n : ℕ) → k ≤ n → replicate n 0 ≡ replicate k 0 ++ replicate (n - k) (zero)
 zeros-split k n h = let e : n ≡ k + (n - k) = omega arith in ap (λ (m : ℕ). replicate m 0) e ∙ sym (replicate-append-replicate k (n - k) 0)
 
-drop-zeros : (k n : ℕ) → k ≤ n → drop k (replicate n 0) ≡ replicate (n - k) (zero)
+pub drop-zeros : (k n : ℕ) → k ≤ n → drop k (replicate n 0) ≡ replicate (n - k) (zero)
 drop-zeros k n h = ap (λ (l : List ℕ). drop k l) (zeros-split k n h) ∙ drop-at (replicate k 0) (replicate (n - k) 0) k (length-replicate k 0)
 
 take-zeros : (k n : ℕ) → k ≤ n → take k (replicate n 0) ≡ replicate k (zero)

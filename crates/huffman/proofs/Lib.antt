@@ -3,6 +3,7 @@ pub mod Trees
 pub mod Two
 pub mod Grows
 pub mod Nodes
+pub mod Loads
 pub mod Codes
 pub mod Spreads
 pub mod Walks

@@ -1,14 +1,15 @@
 -- What every tree that was read is, and the laws of its reading: Lawful, and at most 257 bits. Assumes nothing.
 use Prim.Native.Nat.{ℕ, zero, suc, _+_, _-_, _*_, _≤_, _<_, max}
 use native.Mathlib.Omega.{arith}
-use mathlib.Core.Path.{_≡_, refl, sym, ap, _∙_}
+use mathlib.Core.Path.{_≡_, refl, sym, ap, _∙_, subst}
 use mathlib.Core.List.{List}
 use mathlib.Core.Bool.{Bool, true, false}
 use lib.Dec.{eqb}
-use borrow.Author.Tests.{ltb-true}
-use Rattle.bitstream.specs.Bits.{number}
+use borrow.Author.Tests.{ltb-true, eqb-true, eqb-false}
+use Rattle.bitstream.specs.Bits.{bitAt, number}
 use Rattle.bitstream.specs.Lists.{among}
 use Rattle.bitstream.specs.Reading.{got, Parse, pure, bind, pick, field, judged}
+use Rattle.bitstream.proofs.Numbers.{number-one, bit-lt}
 use Rattle.bitstream.proofs.Fields.{no-mix, field-cases, field-value, field-lt, judged-end, judged-fails, judged-passes}
 use Rattle.bitstream.proofs.Laws.{Lawful, pure-lawful, pick-lawful, bind-lawful, field-lawful, judged-lawful, bind-got}
 use Rattle.bitstream.proofs.Inside.{Inside, inside, pure-inside, pick-inside, bind-inside, judged-inside, Refuses, refuses, pure-refuses, pick-refuses, bind-refuses, judged-refuses}
@@ -19,6 +20,10 @@ use Rattle.huffman.specs.Tree.{Tree, leaf, fork, leaves, size, allowed, 
 pub size-leaves : (t : Tree) → size t + 1 ≡ 2 * leaves t
 size-leaves (leaf t) = refl
 size-leaves (fork l r) = omega (arith, size-leaves l, size-leaves r)
+
+pub some-leaf : (t : Tree) → 1 ≤ leaves t
+some-leaf (leaf t) = omega arith
+some-leaf (fork l r) = omega (arith, some-leaf l)
 
 -- how many bits the longest code has. "A lone leaf has the empty code."
 abbrev pub longest : Tree → ℕ
@@ -105,6 +110,55 @@ tree-read (suc d) seen p i {t} {e} h =
 pub read-proper : (p : List ℕ) (i : ℕ) {t : Tree} {e : ℕ} → huffmanTree p i ≡ got t e → Proper t
 unfolding huffmanTree
 read-proper p i h = let r = tree-read 32 0 p i h in record { few = omega (arith, r .count); tokens = r .tokens }
+
+-- ---- the bits from a place to a place spell a tree
+abbrev pub Spells : List ℕ → ℕ → Tree → ℕ → Type 0
+Spells p q (leaf t) e = (bitAt p q ≡ 1) × (number p (q + 1) 5 ≡ t) × (e ≡ q + 6)
+Spells p q (fork l r) e = (bitAt p q ≡ 0) × (m : ℕ) × Spells p (q + 1) l m × Spells p m r e
+
+leaf-bit-is : (d seen : ℕ) (p : List ℕ) (i : ℕ) {b e : ℕ} → leafBit d seen p i ≡ got b e → b ≡ bitAt p i
+unfolding leafBit
+leaf-bit-is d seen p i h = field-value 1 p i (judged-got 1 (allowed d seen) 7 p i h .0) .0 ∙ number-one p i
+
+leaf-spells : (p : List ℕ) (i j : ℕ) {t : Tree} {e : ℕ} → bitAt p i ≡ 1 → j ≡ i + 1 → leafToken p j ≡ got t e → Spells p i t e
+unfolding leafToken
+leaf-spells p i j {t} {e} b s r =
+    let u = bind-got (field 5) (λ t. pure (leaf t)) p j r in
+    let v : leaf (u .0) ≡ t = cc in
+    let w : u .1 ≡ e = cc in
+    let x = field-value 5 p j (u .2) in
+    let y : number p (i + 1) 5 ≡ u .0 = ap (λ (k : ℕ). number p k 5) (sym s) ∙ sym (x .0) in
+    rw (← v) (b, y, omega (arith, x .1))
+
+pub tree-spells : (d seen : ℕ) (p : List ℕ) (i : ℕ) {t : Tree} {e : ℕ} → tree d seen p i ≡ got t e → Spells p i t e
+unfolding tree
+tree-spells zero seen p i h =
+    let u = bind-got (leafBit zero seen) (λ _. leafToken) p i h in
+    let g = leaf-bit-got zero seen p i (u .2) in
+    let b = leaf-bit-is zero seen p i (u .2) in
+    by-bit zero seen (u .0) (g .0) (λ x _. leaf-spells p i (u .1) (sym b ∙ eqb-true _ _ x) (g .1) (u .3)) (λ _ l. absurd (omega arith))
+tree-spells (suc d) seen p i {t} {e} h =
+    let u = bind-got (leafBit (suc d) seen) (λ b. pick (eqb b 1) leafToken (branches d seen)) p i h in
+    let g = leaf-bit-got (suc d) seen p i (u .2) in
+    let b = leaf-bit-is (suc d) seen p i (u .2) in
+    by-bit (suc d) seen (u .0) (g .0) (λ x _. leaf-spells p i (u .1) (sym b ∙ eqb-true _ _ x) (g .1) (picked (u .0) (u .1) true x (u .3)))
+    (λ x _. on-fork (u .1) (no-one (u .0) b (eqb-false _ _ x)) (g .1) (picked (u .0) (u .1) false x (u .3)) (λ s j t e r. tree-spells d s p j r))
+  where
+    no-one : (b : ℕ) → b ≡ bitAt p i → (b ≡ 1 → ⊥) → bitAt p i ≡ 0
+    no-one b h n = omega (arith, h, n, bit-lt p i)
+
+    picked : (b j : ℕ) (w : Bool) → eqb b 1 ≡ w → pick (eqb b 1) leafToken (branches d seen) p j ≡ got t e → pick w leafToken (branches d seen) p j ≡ got t e
+    picked b j w x r = rw x at r
+
+    on-fork : (j : ℕ) → bitAt p i ≡ 0 → j ≡ i + 1 → branches d seen p j ≡ got t e → ((s j : ℕ) (t : Tree) (e : ℕ) → tree d s p j ≡ got t e → Spells p j t e) → Spells p i t e
+    on-fork j z s r ih =
+        let u = bind-got (tree d seen) (λ l. bind (tree d (seen + leaves l)) (λ r. pure (fork l r))) p j r in
+        let w = bind-got (tree d (seen + leaves (u .0))) (λ r. pure (fork (u .0) r)) p (u .1) (u .3) in
+        let v : fork (u .0) (w .0) ≡ t = cc in
+        let x : w .1 ≡ e = cc in
+        let a = ih seen j (u .0) (u .1) (u .2) in
+        let b = ih (seen + leaves (u .0)) (u .1) (w .0) (w .1) (w .2) in
+        rw (← v) (z, u .1, subst (λ (k : ℕ). Spells p k (u .0) (u .1)) s a, subst (λ (k : ℕ). Spells p (u .1) (w .0) k) x b)
 
 -- ---- Local and Firm
 leaf-bit-lawful : (d seen : ℕ) → Lawful (leafBit d seen)

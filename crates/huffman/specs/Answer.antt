@@ -7,12 +7,17 @@ use lib.Dec.{eqb}
 use lib.ListN.{take, drop}
 use Rattle.bitstream.specs.Reading.{Outcome, got, refused, choose}
 use Rattle.bitstream.specs.Numbers.{packetEnds, badSetup}
-use Rattle.huffman.specs.Tree.{Tree, size, flat, nodesOf}
+use Rattle.huffman.specs.Tree.{Tree, leaves, size, flat, nodesOf}
 
 -- the table after a tree was read into it: a refusal leaves it as it was
 abbrev pub nodesAfter : List ℕ → Outcome Tree → List ℕ
 nodesAfter old (got t e) = nodesOf t
 nodesAfter old (refused k e) = old
+
+-- how many leaves a tree has that was read; 0 where none was
+abbrev pub leavesOf : Outcome Tree → ℕ
+leavesOf (got t e) = leaves t
+leavesOf (refused k e) = 0
 
 -- what the answer r says of a part of a tree: 4 times the place behind it; or 4 times the place at fault, and 1 for number 4 or 2 for number 7
 abbrev pub Told : ℕ → Outcome Tree → Type 0

@@ -3,7 +3,8 @@ use bitstream::End;
 use bitstream::Field;
 use quantization::LoadedParameters;
 use quantization::Parameters;
-ghost use Rattle.bitstream.specs.Bits.{longest};
+ghost use Rattle.bitstream.specs.Bits.{bits, longest};
+ghost use mathlib.Core.Bool.{false};
 ghost use mathlib.Core.Path.{_≡_};
 ghost use mathlib.Core.List.{List};
 ghost use Prim.Native.Nat.{ℕ, _+_, _-_, _*_, _≤_, _<_, _^_};
@@ -13,7 +14,7 @@ ghost use Rattle.huffman.specs.Tree.{huffmanTree};
 ghost use Rattle.quantization.specs.Answer.{Filled};
 ghost use Rattle.bitstream.specs.Answer.{asEnd};
 ghost use Rattle.setup.specs.Header.{loopLimits, setupHeader};
-ghost use Rattle.setup.specs.Answer.{TreesFilled};
+ghost use Rattle.setup.specs.Answer.{TreesFilled, told};
 ghost use Rattle.setup.specs.Loaded.{emptySetup, asSetupRead};
 ghost use Rattle.setup.specs.Table.{setupOutcome, asSetupAnswer, tableAfter, isTable, LeftBySome, heldSetup};
 
@@ -80,6 +81,40 @@ fn read_trees(packet: &[u8], at: usize, nodes: &mut [u8]) -> End
     End::At(place)
 }
 
+// The same trees out of table memory, which every frame call reads back: a refusal says no number and no place of its own.
+fn load_trees(packet: &[u8], at: usize, nodes: &mut [u8]) -> End
+    requires { ⌜ (length (now packet) ≤ longest) × (at ≤ bits (now packet)) × (now nodes ≡ replicate 5120 0) ⌝ }
+    ensures { λ r. ⌜ r ≡ asEnd (told false (many 80 huffmanTree (now (packet .entry)) at)) ⌝ }
+    ensures { λ r. ⌜ TreesFilled (many 80 huffmanTree (now (packet .entry)) at) (now (nodes .exit)) ⌝ }
+{
+    let mut place = at;
+    let mut k: usize = 0;
+    while k < 80 {
+        let start = k * 64;
+        let end = start + 64;
+        let leaves = huffman::load_tree(packet, place, &mut nodes[start..end]);
+        if leaves == 0 {
+            return End::Refused(bitstream::NOT_GENUINE, 0);
+        }
+        // a tree has 7 bits for each leaf, less 1: so the next one's place waits for no bit of this one
+        place = place + 7 * leaves - 1;
+        k += 1;
+    }
+    End::At(place)
+}
+
+// The trees by the reader that tells a refusal's number and place, or by the faster one that does not.
+fn trees(packet: &[u8], at: usize, placed: bool, nodes: &mut [u8]) -> End
+    requires { ⌜ (length (now packet) ≤ longest) × (at ≤ bits (now packet)) × (now nodes ≡ replicate 5120 0) ⌝ }
+    ensures { λ r. ⌜ r ≡ asEnd (told placed (many 80 huffmanTree (now (packet .entry)) at)) ⌝ }
+    ensures { λ r. ⌜ TreesFilled (many 80 huffmanTree (now (packet .entry)) at) (now (nodes .exit)) ⌝ }
+{
+    if placed {
+        return read_trees(packet, at, nodes);
+    }
+    load_trees(packet, at, nodes)
+}
+
 // No setup.
 fn empty() -> LoadedSetup
     ensures { λ r. ⌜ r ≡ emptySetup ⌝ }
@@ -112,15 +147,25 @@ fn not_read(number: u32, fault: usize) -> SetupRead
     }
 }
 
-// The whole header of a packet. The base matrices stay in the packet.
-fn load(packet: &[u8]) -> SetupRead
+// A header that is refused, with the number and the place or without.
+fn refuse(placed: bool, number: u32, fault: usize) -> SetupRead
+    ensures { λ r. ⌜ r ≡ asSetupRead (told placed (refused number fault)) ⌝ }
+{
+    if placed {
+        return not_read(number, fault);
+    }
+    not_read(bitstream::NOT_GENUINE, 0)
+}
+
+// The whole header of a packet, or of table memory, where a refusal's number and place are not wanted. The base matrices stay in the packet.
+fn load(packet: &[u8], placed: bool) -> SetupRead
     requires { ⌜ length (now packet) ≤ longest ⌝ }
-    ensures { λ r. ⌜ r ≡ asSetupRead (setupHeader (now (packet .entry)) 0) ⌝ }
+    ensures { λ r. ⌜ r ≡ asSetupRead (told placed (setupHeader (now (packet .entry)) 0)) ⌝ }
 {
     let head = headers::read_common_header(packet, 0, 0x82);
     let a = match head {
         End::Refused(number, fault) => {
-            return not_read(number, fault);
+            return refuse(placed, number, fault);
         }
         End::At(place) => place,
     };
@@ -128,7 +173,7 @@ fn load(packet: &[u8]) -> SetupRead
     let first = read_limits(packet, a, &mut limits);
     let b = match first {
         End::Refused(number, fault) => {
-            return not_read(number, fault);
+            return refuse(placed, number, fault);
         }
         End::At(place) => place,
     };
@@ -145,10 +190,10 @@ fn load(packet: &[u8]) -> SetupRead
         &mut indices,
     );
     match second {
-        Parameters::Refused(number, fault) => not_read(number, fault),
+        Parameters::Refused(number, fault) => refuse(placed, number, fault),
         Parameters::Read(place, c) => {
             let mut nodes = [0u8; 5120];
-            let third = read_trees(packet, c, &mut nodes);
+            let third = trees(packet, c, placed, &mut nodes);
             match third {
                 End::Refused(number, fault) => not_read(number, fault),
                 End::At(end) => {
@@ -182,7 +227,7 @@ pub fn setup(packet: &[u8], table: &mut [u8]) -> SetupAnswer
     if table.len() != TABLE_BYTES {
         return SetupAnswer::Refused(bitstream::WRONG_LENGTH, 0);
     }
-    let answer = scan(bitstream::readable(packet));
+    let answer = scan(bitstream::readable(packet), true);
     match answer {
         End::Refused(number, fault) => {
             table_memory::clear(table);
@@ -196,11 +241,11 @@ pub fn setup(packet: &[u8], table: &mut [u8]) -> SetupAnswer
 }
 
 // The header of a packet: what the packet says is not wanted any further.
-fn scan(packet: &[u8]) -> End
+fn scan(packet: &[u8], placed: bool) -> End
     requires { ⌜ length (now packet) ≤ longest ⌝ }
-    ensures { λ r. ⌜ r ≡ asEnd (setupHeader (now (packet .entry)) 0) ⌝ }
+    ensures { λ r. ⌜ r ≡ asEnd (told placed (setupHeader (now (packet .entry)) 0)) ⌝ }
 {
-    let read = load(packet);
+    let read = load(packet, placed);
     read.place
 }
 
@@ -211,7 +256,7 @@ pub fn load_table(table: &[u8]) -> SetupRead
     if table.len() != TABLE_BYTES {
         return not_read(bitstream::NOT_GENUINE, 0);
     }
-    let read = load(table);
+    let read = load(table, false);
     let place = read.place;
     match place {
         End::Refused(_, _) => not_read(bitstream::NOT_GENUINE, 0),
@@ -232,7 +277,7 @@ pub fn table_is_genuine(table: &[u8]) -> bool
     if table.len() != TABLE_BYTES {
         return false;
     }
-    match scan(table) {
+    match scan(table, false) {
         End::Refused(_, _) => false,
         End::At(end) => table_memory::rest_is_zero(table, end),
     }
