@@ -32,7 +32,7 @@ loop-holds c =
     (watching-first (a .table .now) (a .lengths .now) (a .packets .now) (a .file .now) (a .s) (a .names) _ (a .begun) (a .first .now) (a .second .now) (a .third .now) (a .answers .now) (q .1 .1 .0) (q .0 .0) (q .0 .1) (q .1 .0 .0) (q .1 .0 .1) (q .1 .0 .2) (q .1 .0 .3) (q .1 .1 .1) (q .1 .1 .2), c .none .ensures (a .table .now) (a .loaded .parameters))
 
 mul-n : tie.Need-mul-n Inv-loop μ-loop
-mul-n c = omega (arith, c .loop-test .taken)
+mul-n c = let q = c .before .before .before .before .before .before .before .before .before .before .before .before .before .before .before .before .before .before .before .good .1 .1 .0 in omega (arith, c .loop-test .taken, q .0, q .1)
 
 shared-slice-read-n : tie.Need-shared-slice-read-n Inv-loop μ-loop
 shared-slice-read-n c = c .before .loop-test .taken
