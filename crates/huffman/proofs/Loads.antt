@@ -444,13 +444,13 @@ module _ (p : List ℕ) (at : ℕ) where
     pub head-kept : (x : ℕ) → x ≡ w → (L % 4 ≡ 0 → ⊥) → State p at x i L top ns
     head-kept x e h = record { q = s .q; left = s .left; seen = subst (λ (y : ℕ). Shows p (s .q) y i L) (sym e) (s .seen h) }
 
-    pub head-filled : (x : ℕ) → L % 4 ≡ 0 → x ≡ number p ((at + i + 5 * L) / 8 * 8) 64 * 2 ^ ((at + i + 5 * L) % 8) % 2 ^ 64 → State p at x i L top ns
-    head-filled x h e =
-        let y = s .left .place in
+    pub head-filled : (x k : ℕ) → L % 4 ≡ 0 → k ≡ at + i + 5 * L → x ≡ number p (k / 8 * 8) 64 * 2 ^ (k % 8) % 2 ^ 64 → State p at x i L top ns
+    head-filled x k h n e =
+        let y : k ≡ s .q = n ∙ sym (s .left .place) in
         record {
           q = s .q;
           left = s .left;
-          seen = shows-filled p (s .q) x i L (e ∙ ap (λ (k : ℕ). number p (k / 8 * 8) 64 * 2 ^ (k % 8) % 2 ^ 64) (sym y)) h (going-less p at (s .q) i L top ns (s .left));
+          seen = shows-filled p (s .q) x i L (e ∙ ap (λ (k : ℕ). number p (k / 8 * 8) 64 * 2 ^ (k % 8) % 2 ^ 64) y) h (going-less p at (s .q) i L top ns (s .left));
         }
 
   module _ (w i L top : ℕ) (ns : List ℕ) (s : State p at w i L top ns) where

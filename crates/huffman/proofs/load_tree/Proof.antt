@@ -9,44 +9,30 @@ use Rattle.huffman.proofs.Loads.{Head, State, head-start, head-room, he
 use Rattle.huffman.proofs.load_tree.Statement.{statement}
 use Rattle.huffman.proofs.load_tree.Tie as tie
 
--- at the forks before a leaf, and at each leaf
+-- at the forks before a leaf, and at each leaf, where `from` is the place less the nodes at the next filling
 abbrev Inv-loop2 : tie.InvT-loop2
-Inv-loop2 packet at nodes₀ window₀ index₀ leaves open₀ nodes window index «open» = (index₀ ≤ index) × State packet at window index leaves «open» nodes
+Inv-loop2 packet at nodes₀ window₀ from₀ index₀ leaves open₀ nodes window index «open» = (index₀ ≤ index) × State packet at window index leaves «open» nodes
 
 abbrev μ-loop2 : tie.MeasureT-loop2
-μ-loop2 packet at nodes₀ window₀ index₀ leaves open₀ nodes window index «open» = 64 - index
+μ-loop2 packet at nodes₀ window₀ from₀ index₀ leaves open₀ nodes window index «open» = 64 - index
 
 abbrev Inv-loop : tie.InvT-loop
-Inv-loop packet at nodes₀ window₀ index₀ leaves₀ open₀ nodes window index leaves «open» = Head packet at window index leaves «open» nodes
+Inv-loop packet at nodes₀ window₀ from₀ index₀ leaves₀ open₀ nodes window from index leaves «open» = (from ≡ at + (leaves + 3) / 4 * 20) × Head packet at window index leaves «open» nodes
 
 abbrev μ-loop : tie.MeasureT-loop
-μ-loop packet at nodes₀ window₀ index₀ leaves₀ open₀ nodes window index leaves «open» = 64 - index
+μ-loop packet at nodes₀ window₀ from₀ index₀ leaves₀ open₀ nodes window from index leaves «open» = 64 - index
 
 loop-holds : tie.Need-loop-holds Inv-loop2 μ-loop2 Inv-loop μ-loop
 loop-holds c =
     let a = c .before .before .args in
-    head-start (a .packet .now) (a .at) 0 (a .nodes .now) (c .before .before .pre .2)
+    (omega arith, head-start (a .packet .now) (a .at) 0 (a .nodes .now) (c .before .before .pre .2))
 
 add-place : tie.Need-add-place Inv-loop2 μ-loop2 Inv-loop μ-loop
 add-place c =
     let o = c .before .loop in
     let a = c .before .before .before .before .args in
-    let r = head-room (a .packet .now) (a .at) (o .window) (o .index) (o .leaves) (o .«open») (o .nodes) (o .inv) in
-    record { fits = omega (arith, r .0, c .before .before .before .before .pre .0, c .before .before .before .before .pre .1) }
-
-mul-place : tie.Need-mul-place Inv-loop2 μ-loop2 Inv-loop μ-loop
-mul-place c =
-    let o = c .before .loop in
-    let a = c .before .before .before .before .args in
-    let r = head-room (a .packet .now) (a .at) (o .window) (o .index) (o .leaves) (o .«open») (o .nodes) (o .inv) in
-    record { fits = omega (arith, r .1) }
-
-add-place-2 : tie.Need-add-place-2 Inv-loop2 μ-loop2 Inv-loop μ-loop
-add-place-2 c =
-    let o = c .before .loop in
-    let a = c .before .before .before .before .args in
-    let r = head-room (a .packet .now) (a .at) (o .window) (o .index) (o .leaves) (o .«open») (o .nodes) (o .inv) in
-    record { fits = omega (arith, r .0, r .1, c .before .before .before .before .pre .0, c .before .before .before .before .pre .1) }
+    let r = head-room (a .packet .now) (a .at) (o .window) (o .index) (o .leaves) (o .«open») (o .nodes) (o .inv .1) in
+    record { fits = omega (arith, r .0, r .1, o .inv .0, c .before .before .before .before .pre .0, c .before .before .before .before .pre .1) }
 
 window-requires : tie.Need-window-requires Inv-loop2 μ-loop2 Inv-loop μ-loop
 window-requires c κs = search needs
@@ -54,17 +40,25 @@ window-requires c κs = search needs
 shl-window : tie.Need-shl-window Inv-loop2 μ-loop2 Inv-loop μ-loop
 shl-window c = search needs
 
+add-from : tie.Need-add-from Inv-loop2 μ-loop2 Inv-loop μ-loop
+add-from c =
+    let o = c .before .before .loop in
+    let a = c .before .before .before .before .before .args in
+    let r = head-room (a .packet .now) (a .at) (o .window) (o .index) (o .leaves) (o .«open») (o .nodes) (o .inv .1) in
+    record { fits = omega (arith, r .1, o .inv .0, c .before .before .before .before .before .pre .0, c .before .before .before .before .before .pre .1) }
+
 -- the window is filled anew, or as it was
-filled : (c : tie.Joined1 Inv-loop2 μ-loop2 Inv-loop μ-loop) → let o = c .before .loop in let a = c .before .before .before .before .args in State (a .packet .now) (a .at) (c .if1 .window) (o .index) (o .leaves) (o .«open») (o .nodes)
+filled : (c : tie.Joined1 Inv-loop2 μ-loop2 Inv-loop μ-loop) → let o = c .before .loop in let a = c .before .before .before .before .args in
+    (c .if1 .from ≡ a .at + (o .leaves + 1 + 3) / 4 * 20) × State (a .packet .now) (a .at) (c .if1 .window) (o .index) (o .leaves) (o .«open») (o .nodes)
 filled c =
     let o = c .before .loop in
     let a = c .before .before .before .before .args in
-    let k = a .at + o .index + 5 * o .leaves in
-    ⊎-elim (λ x. head-filled (a .packet .now) (a .at) (o .window) (o .index) (o .leaves) (o .«open») (o .nodes) (o .inv) (c .if1 .window) (x .0 .taken) (x .2 ∙ ap (λ (y : ℕ). y * 2 ^ (k % 8) % 2 ^ 64) (x .1 .ensures)))
-    (λ x. head-kept (a .packet .now) (a .at) (o .window) (o .index) (o .leaves) (o .«open») (o .nodes) (o .inv) (c .if1 .window) (x .1) (x .0 .left)) (c .if1 .came)
+    let k = o .from + o .index in
+    ⊎-elim (λ x. (omega (arith, o .inv .0, x .0 .taken, x .3), head-filled (a .packet .now) (a .at) (o .window) (o .index) (o .leaves) (o .«open») (o .nodes) (o .inv .1) (c .if1 .window) k (x .0 .taken) (omega (arith, o .inv .0, x .0 .taken)) (x .2 ∙ ap (λ (y : ℕ). y * 2 ^ (k % 8) % 2 ^ 64) (x .1 .ensures))))
+    (λ x. (omega (arith, o .inv .0, x .0 .left, x .2), head-kept (a .packet .now) (a .at) (o .window) (o .index) (o .leaves) (o .«open») (o .nodes) (o .inv .1) (c .if1 .window) (x .1) (x .0 .left))) (c .if1 .came)
 
 loop2-holds : tie.Need-loop2-holds Inv-loop2 μ-loop2 Inv-loop μ-loop
-loop2-holds c = (omega arith, filled c)
+loop2-holds c = (omega arith, filled c .1)
 
 add-if2 : tie.Need-add-if2 Inv-loop2 μ-loop2 Inv-loop μ-loop
 add-if2 c =
@@ -263,7 +257,7 @@ loop-again c =
     let o = c .before .before .before .before .before .before .loop in
     let a = c .before .before .before .before .before .before .before .before .before .args in
     let r = state-room (a .packet .now) (a .at) (l .window) (l .index) (o .leaves) (l .«open») (l .nodes) (l .inv .1) in
-    state-leaf (a .packet .now) (a .at) (l .window) (l .index) (o .leaves) (l .«open») (l .nodes) (l .inv .1) (omega (arith, c .before .before .before .loop2-test .left)) (c .before .if3 .left)
+    (filled (c .before .before .before .before .before) .0, state-leaf (a .packet .now) (a .at) (l .window) (l .index) (o .leaves) (l .«open») (l .nodes) (l .inv .1) (omega (arith, c .before .before .before .loop2-test .left)) (c .before .if3 .left))
 
 pub load-tree-spec : {M : Type 1} → statement M
 load-tree-spec =
@@ -275,10 +269,9 @@ load-tree-spec =
     μ-loop
     loop-holds
     add-place
-    mul-place
-    add-place-2
     window-requires
     shl-window
+    add-from
     loop2-holds
     add-if2
     same-length
