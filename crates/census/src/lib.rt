@@ -96,7 +96,9 @@ fn count_frames(
     new: &[u8],
 ) -> Running
     requires { ⌜ (sessionFits s ≡ true) × Loads (now table) × (3 ≤ length (now lengths)) × (start + total (drop 3 (now lengths)) ≤ length (now packets)) ⌝ }
-    ensures { λ r. ⌜ ((l : List ℕ) → Runs running l → Runs r (plus l (packetsAdd (outcomeLent (lent (now (table .entry)) (memory (now (records .entry)) (now (coded .entry)) (now (coefs .entry)) (now (dc .entry)) (now (lasts .entry)) (now (flags .entry)) (now (bits .entry)) (now (supers .entry)) (now (modes .entry)) (now (active .entry))) (now (golden .entry)) (now (previous .entry)) (now (new .entry))) (now (table .entry))) s (packetsIn (drop 3 (now (lengths .entry))) (drop start (now (packets .entry))))))) ⌝ }
+    ensures { λ r. ⌜ ((l : List ℕ) → Runs running l → Runs r (plus l (packetsAdd (outcomeLent (lent (now (table .entry))
+        (memory (now (records .entry)) (now (coded .entry)) (now (coefs .entry)) (now (dc .entry)) (now (lasts .entry)) (now (flags .entry)) (now (bits .entry)) (now (supers .entry)) (now (modes .entry)) (now (active .entry))) (now (golden .entry)) (now (previous .entry)) (now (new .entry))) (now (table .entry))) s
+        (packetsIn (drop 3 (now (lengths .entry))) (drop start (now (packets .entry))))))) ⌝ }
 {
     let l = work_memory::lengths_of(s);
     let buffers = theora::buffers_fit(l.records, golden, previous, new, table);
@@ -170,8 +172,10 @@ fn count(
     new: &[u8],
 ) -> u32
     requires { ⌜ total (now lengths) ≤ length (now packets) ⌝ }
-    ensures { λ r. ⌜ r ≡ countNumber (lent (now (table .entry)) (memory (now (records .entry)) (now (coded .entry)) (now (coefs .entry)) (now (dc .entry)) (now (lasts .entry)) (now (flags .entry)) (now (bits .entry)) (now (supers .entry)) (now (modes .entry)) (now (active .entry))) (now (golden .entry)) (now (previous .entry)) (now (new .entry))) (packetsIn (now (lengths .entry)) (now (packets .entry))) (now (report .entry)) ⌝ }
-    ensures { λ _. ⌜ now (report .exit) ≡ countReport (lent (now (table .entry)) (memory (now (records .entry)) (now (coded .entry)) (now (coefs .entry)) (now (dc .entry)) (now (lasts .entry)) (now (flags .entry)) (now (bits .entry)) (now (supers .entry)) (now (modes .entry)) (now (active .entry))) (now (golden .entry)) (now (previous .entry)) (now (new .entry))) (packetsIn (now (lengths .entry)) (now (packets .entry))) (now (report .entry)) ⌝ }
+    ensures { λ r. ⌜ r ≡ countNumber (lent (now (table .entry)) (memory (now (records .entry)) (now (coded .entry)) (now (coefs .entry)) (now (dc .entry)) (now (lasts .entry)) (now (flags .entry)) (now (bits .entry)) (now (supers .entry)) (now (modes .entry)) (now (active .entry))) (now (golden .entry)) (now (previous .entry)) (now (new .entry)))
+        (packetsIn (now (lengths .entry)) (now (packets .entry))) (now (report .entry)) ⌝ }
+    ensures { λ _. ⌜ now (report .exit) ≡ countReport (lent (now (table .entry)) (memory (now (records .entry)) (now (coded .entry)) (now (coefs .entry)) (now (dc .entry)) (now (lasts .entry)) (now (flags .entry)) (now (bits .entry)) (now (supers .entry)) (now (modes .entry)) (now (active .entry))) (now (golden .entry)) (now (previous .entry)) (now (new .entry)))
+        (packetsIn (now (lengths .entry)) (now (packets .entry))) (now (report .entry)) ⌝ }
 {
     if report.len() != 34 {
         return bitstream::WRONG_LENGTH;
@@ -222,7 +226,8 @@ fn zero_memory(
     modes: &mut [u8],
     active: &mut [u64],
 )
-    ensures { λ _. ⌜ memory (now (records .exit)) (now (coded .exit)) (now (coefs .exit)) (now (dc .exit)) (now (lasts .exit)) (now (flags .exit)) (now (bits .exit)) (now (supers .exit)) (now (modes .exit)) (now (active .exit)) ≡ zeroed (memory (now (records .entry)) (now (coded .entry)) (now (coefs .entry)) (now (dc .entry)) (now (lasts .entry)) (now (flags .entry)) (now (bits .entry)) (now (supers .entry)) (now (modes .entry)) (now (active .entry))) ⌝ }
+    ensures { λ _. ⌜ memory (now (records .exit)) (now (coded .exit)) (now (coefs .exit)) (now (dc .exit)) (now (lasts .exit)) (now (flags .exit)) (now (bits .exit)) (now (supers .exit)) (now (modes .exit)) (now (active .exit)) ≡ zeroed
+        (memory (now (records .entry)) (now (coded .entry)) (now (coefs .entry)) (now (dc .entry)) (now (lasts .entry)) (now (flags .entry)) (now (bits .entry)) (now (supers .entry)) (now (modes .entry)) (now (active .entry))) ⌝ }
 {
     work_memory::clear_read(records, coded, coefs, lasts);
     let values = dc.len();
@@ -283,7 +288,8 @@ pub fn census(
     previous: &mut [u8],
     new: &mut [u8],
 ) -> CensusAnswer
-    ensures { λ r. ⌜ CensusPromise (censusCall (now (lengths .entry)) (now (packets .entry)) (now (report .entry)) (lent (now (table .entry)) (memory (now (records .entry)) (now (coded .entry)) (now (coefs .entry)) (now (dc .entry)) (now (lasts .entry)) (now (flags .entry)) (now (bits .entry)) (now (supers .entry)) (now (modes .entry)) (now (active .entry))) (now (golden .entry)) (now (previous .entry)) (now (new .entry))))
+    ensures { λ r. ⌜ CensusPromise (censusCall (now (lengths .entry)) (now (packets .entry)) (now (report .entry)) (lent (now (table .entry))
+        (memory (now (records .entry)) (now (coded .entry)) (now (coefs .entry)) (now (dc .entry)) (now (lasts .entry)) (now (flags .entry)) (now (bits .entry)) (now (supers .entry)) (now (modes .entry)) (now (active .entry))) (now (golden .entry)) (now (previous .entry)) (now (new .entry))))
         (censusDone r (now (report .exit)) (lent (now (table .exit)) (memory (now (records .exit)) (now (coded .exit)) (now (coefs .exit)) (now (dc .exit)) (now (lasts .exit)) (now (flags .exit)) (now (bits .exit)) (now (supers .exit)) (now (modes .exit)) (now (active .exit))) (now (golden .exit)) (now (previous .exit)) (now (new .exit)))) ⌝ }
 {
     let reach = packet_list::lengths_reach(lengths, packets.len() as u64);

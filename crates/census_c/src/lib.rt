@@ -27,7 +27,8 @@ pub extern "C" fn wedgepetal_census(
     new: &mut [u8],
 ) -> u32
     ensures { λ r. ⌜ censusGives r (now (report .exit)) (lent (now (table .exit)) (memory (now (records .exit)) (now (coded .exit)) (now (coefs .exit)) (now (dc .exit)) (now (lasts .exit)) (now (flags .exit)) (now (bits .exit)) (now (supers .exit)) (now (modes .exit)) (now (active .exit))) (now (golden .exit)) (now (previous .exit)) (now (new .exit)))
-        ≡ censusFace (censusCall (now (lengths .entry)) (now (packets .entry)) (now (report .entry)) (lent (now (table .entry)) (memory (now (records .entry)) (now (coded .entry)) (now (coefs .entry)) (now (dc .entry)) (now (lasts .entry)) (now (flags .entry)) (now (bits .entry)) (now (supers .entry)) (now (modes .entry)) (now (active .entry))) (now (golden .entry)) (now (previous .entry)) (now (new .entry)))) ⌝ }
+        ≡ censusFace (censusCall (now (lengths .entry)) (now (packets .entry)) (now (report .entry)) (lent (now (table .entry))
+        (memory (now (records .entry)) (now (coded .entry)) (now (coefs .entry)) (now (dc .entry)) (now (lasts .entry)) (now (flags .entry)) (now (bits .entry)) (now (supers .entry)) (now (modes .entry)) (now (active .entry))) (now (golden .entry)) (now (previous .entry)) (now (new .entry)))) ⌝ }
 {
     let done = census::census(
         lengths,

@@ -31,7 +31,8 @@ pub extern "C" fn wedgepetal_check(
     found: &mut [u64],
 ) -> u32
     ensures { λ r. ⌜ checkGives (returned r (now (found .exit))) (now (table .exit)) (now (first .exit)) (now (second .exit)) (now (third .exit)) (memory (now (records .exit)) (now (coded .exit)) (now (coefs .exit)) (now (dc .exit)) (now (lasts .exit)) (now (flags .exit)) (now (bits .exit)) (now (supers .exit)) (now (modes .exit)) (now (active .exit))) (now (answers .exit))
-        ≡ checkFace (now (identification .entry)) (now (setup .entry)) (now (file .entry)) (lent (now (lengths .entry)) (now (packets .entry)) (now (table .entry)) (memory (now (records .entry)) (now (coded .entry)) (now (coefs .entry)) (now (dc .entry)) (now (lasts .entry)) (now (flags .entry)) (now (bits .entry)) (now (supers .entry)) (now (modes .entry)) (now (active .entry))) (now (first .entry)) (now (second .entry)) (now (third .entry)) (now (answers .entry))) (now (found .entry)) ⌝ }
+        ≡ checkFace (now (identification .entry)) (now (setup .entry)) (now (file .entry)) (lent (now (lengths .entry)) (now (packets .entry)) (now (table .entry))
+        (memory (now (records .entry)) (now (coded .entry)) (now (coefs .entry)) (now (dc .entry)) (now (lasts .entry)) (now (flags .entry)) (now (bits .entry)) (now (supers .entry)) (now (modes .entry)) (now (active .entry))) (now (first .entry)) (now (second .entry)) (now (third .entry)) (now (answers .entry))) (now (found .entry)) ⌝ }
 {
     if found.len() == 2 {
         let answer = vendor_check::check(

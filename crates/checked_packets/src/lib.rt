@@ -106,7 +106,8 @@ pub fn check_packets(
     requires { ⌜ (sessionFits s ≡ true) × Sound s names × TableLoaded (now table) loaded ⌝ }
     requires { ⌜ ((memory (now records) (now coded) (now coefs) (now dc) (now lasts) (now flags) (now bits) (now supers) (now modes) (now active)) ≡ cleared (lengthsOf s)) × (length (now first) ≡ 64 * blocks s) × (length (now second) ≡ 64 * blocks s) × (length (now third) ≡ 64 * blocks s) ⌝ }
     requires { ⌜ (total (now lengths) ≤ length (now packets)) × (length (now answers) ≡ answerSize * length (now lengths)) × (begun .compared .place ≤ length (now file)) ⌝ }
-    ensures { λ r. ⌜ ChecksAll (now (table .entry)) (now (file .entry)) begun (shot s ((now (first .entry)) ∷ (now (second .entry)) ∷ (now (third .entry)) ∷ []) names (memory (now (records .entry)) (now (coded .entry)) (now (coefs .entry)) (now (dc .entry)) (now (lasts .entry)) (now (flags .entry)) (now (bits .entry)) (now (supers .entry)) (now (modes .entry)) (now (active .entry))) []) (packetsIn (now (lengths .entry)) (now (packets .entry)))
+    ensures { λ r. ⌜ ChecksAll (now (table .entry)) (now (file .entry)) begun (shot s ((now (first .entry)) ∷ (now (second .entry)) ∷ (now (third .entry)) ∷ []) names
+        (memory (now (records .entry)) (now (coded .entry)) (now (coefs .entry)) (now (dc .entry)) (now (lasts .entry)) (now (flags .entry)) (now (bits .entry)) (now (supers .entry)) (now (modes .entry)) (now (active .entry))) []) (packetsIn (now (lengths .entry)) (now (packets .entry)))
         r ((now (first .exit)) ∷ (now (second .exit)) ∷ (now (third .exit)) ∷ []) (memory (now (records .exit)) (now (coded .exit)) (now (coefs .exit)) (now (dc .exit)) (now (lasts .exit)) (now (flags .exit)) (now (bits .exit)) (now (supers .exit)) (now (modes .exit)) (now (active .exit))) (now (answers .exit)) ⌝ }
 {
     let mut session = s;

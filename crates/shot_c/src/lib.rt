@@ -76,7 +76,8 @@ pub extern "C" fn wedgepetal_shot(
     answers: &mut [u64],
 ) -> u32
     ensures { λ r. ⌜ shotGives (lists r (now (session .exit)) (now (names .exit))) (now (first .exit)) (now (second .exit)) (now (third .exit)) (memory (now (records .exit)) (now (coded .exit)) (now (coefs .exit)) (now (dc .exit)) (now (lasts .exit)) (now (flags .exit)) (now (bits .exit)) (now (supers .exit)) (now (modes .exit)) (now (active .exit))) (now (answers .exit))
-        ≡ shotFace (now (session .entry)) (now (names .entry)) (now (lengths .entry)) (now (packets .entry)) (now (table .entry)) (memory (now (records .entry)) (now (coded .entry)) (now (coefs .entry)) (now (dc .entry)) (now (lasts .entry)) (now (flags .entry)) (now (bits .entry)) (now (supers .entry)) (now (modes .entry)) (now (active .entry))) (now (first .entry)) (now (second .entry)) (now (third .entry)) (now (answers .entry)) ⌝ }
+        ≡ shotFace (now (session .entry)) (now (names .entry)) (now (lengths .entry)) (now (packets .entry)) (now (table .entry))
+        (memory (now (records .entry)) (now (coded .entry)) (now (coefs .entry)) (now (dc .entry)) (now (lasts .entry)) (now (flags .entry)) (now (bits .entry)) (now (supers .entry)) (now (modes .entry)) (now (active .entry))) (now (first .entry)) (now (second .entry)) (now (third .entry)) (now (answers .entry)) ⌝ }
 {
     if (session.len() == 19) & (names.len() == 2) {
         let s = session_list::session_of(session);

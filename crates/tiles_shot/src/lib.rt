@@ -40,7 +40,8 @@ fn play_loaded(
     maps: &mut [u8],
 ) -> ShotAnswer
     requires { ⌜ (lentNumber (shotCall s names (now lengths) (now packets) (now table) (memory (now records) (now coded) (now coefs) (now dc) (now lasts) (now flags) (now bits) (now supers) (now modes) (now active)) (now first) (now second) (now third) (now answers)) ≡ 0) × TableLoaded (now table) loaded × (mapsNumber set s (length (now lengths)) (length (now maps)) ≡ 0) ⌝ }
-    ensures { λ r. ⌜ TilesShotPromise set (shotCall s names (now (lengths .entry)) (now (packets .entry)) (now (table .entry)) (memory (now (records .entry)) (now (coded .entry)) (now (coefs .entry)) (now (dc .entry)) (now (lasts .entry)) (now (flags .entry)) (now (bits .entry)) (now (supers .entry)) (now (modes .entry)) (now (active .entry))) (now (first .entry)) (now (second .entry)) (now (third .entry)) (now (answers .entry))) (now (maps .entry))
+    ensures { λ r. ⌜ TilesShotPromise set (shotCall s names (now (lengths .entry)) (now (packets .entry)) (now (table .entry))
+        (memory (now (records .entry)) (now (coded .entry)) (now (coefs .entry)) (now (dc .entry)) (now (lasts .entry)) (now (flags .entry)) (now (bits .entry)) (now (supers .entry)) (now (modes .entry)) (now (active .entry))) (now (first .entry)) (now (second .entry)) (now (third .entry)) (now (answers .entry))) (now (maps .entry))
         (tilesShotDone (shotDone r (now (first .exit)) (now (second .exit)) (now (third .exit)) (memory (now (records .exit)) (now (coded .exit)) (now (coefs .exit)) (now (dc .exit)) (now (lasts .exit)) (now (flags .exit)) (now (bits .exit)) (now (supers .exit)) (now (modes .exit)) (now (active .exit))) (now (answers .exit))) (now (maps .exit))) ⌝ }
 {
     let reach = packet_list::lengths_reach(lengths, packets.len() as u64);
@@ -124,7 +125,8 @@ pub fn shot(
     answers: &mut [u64],
     maps: &mut [u8],
 ) -> ShotAnswer
-    ensures { λ r. ⌜ TilesShotPromise set (shotCall s names (now (lengths .entry)) (now (packets .entry)) (now (table .entry)) (memory (now (records .entry)) (now (coded .entry)) (now (coefs .entry)) (now (dc .entry)) (now (lasts .entry)) (now (flags .entry)) (now (bits .entry)) (now (supers .entry)) (now (modes .entry)) (now (active .entry))) (now (first .entry)) (now (second .entry)) (now (third .entry)) (now (answers .entry))) (now (maps .entry))
+    ensures { λ r. ⌜ TilesShotPromise set (shotCall s names (now (lengths .entry)) (now (packets .entry)) (now (table .entry))
+        (memory (now (records .entry)) (now (coded .entry)) (now (coefs .entry)) (now (dc .entry)) (now (lasts .entry)) (now (flags .entry)) (now (bits .entry)) (now (supers .entry)) (now (modes .entry)) (now (active .entry))) (now (first .entry)) (now (second .entry)) (now (third .entry)) (now (answers .entry))) (now (maps .entry))
         (tilesShotDone (shotDone r (now (first .exit)) (now (second .exit)) (now (third .exit)) (memory (now (records .exit)) (now (coded .exit)) (now (coefs .exit)) (now (dc .exit)) (now (lasts .exit)) (now (flags .exit)) (now (bits .exit)) (now (supers .exit)) (now (modes .exit)) (now (active .exit))) (now (answers .exit))) (now (maps .exit))) ⌝ }
 {
     let number = shot_maps::maps_number(set, s, lengths.len(), maps.len());

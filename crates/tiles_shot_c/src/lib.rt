@@ -29,8 +29,10 @@ pub extern "C" fn wedgepetal_tiles_shot(
     answers: &mut [u64],
     maps: &mut [u8],
 ) -> u32
-    ensures { λ r. ⌜ tilesShotGives (shotGives (lists r (now (session .exit)) (now (names .exit))) (now (first .exit)) (now (second .exit)) (now (third .exit)) (memory (now (records .exit)) (now (coded .exit)) (now (coefs .exit)) (now (dc .exit)) (now (lasts .exit)) (now (flags .exit)) (now (bits .exit)) (now (supers .exit)) (now (modes .exit)) (now (active .exit))) (now (answers .exit))) (now (maps .exit))
-        ≡ tilesShotFace (now (settings .entry)) (now (session .entry)) (now (names .entry)) (now (lengths .entry)) (now (packets .entry)) (now (table .entry)) (memory (now (records .entry)) (now (coded .entry)) (now (coefs .entry)) (now (dc .entry)) (now (lasts .entry)) (now (flags .entry)) (now (bits .entry)) (now (supers .entry)) (now (modes .entry)) (now (active .entry))) (now (first .entry)) (now (second .entry)) (now (third .entry)) (now (answers .entry)) (now (maps .entry)) ⌝ }
+    ensures { λ r. ⌜ tilesShotGives (shotGives (lists r (now (session .exit)) (now (names .exit))) (now (first .exit)) (now (second .exit)) (now (third .exit))
+        (memory (now (records .exit)) (now (coded .exit)) (now (coefs .exit)) (now (dc .exit)) (now (lasts .exit)) (now (flags .exit)) (now (bits .exit)) (now (supers .exit)) (now (modes .exit)) (now (active .exit))) (now (answers .exit))) (now (maps .exit))
+        ≡ tilesShotFace (now (settings .entry)) (now (session .entry)) (now (names .entry)) (now (lengths .entry)) (now (packets .entry)) (now (table .entry))
+        (memory (now (records .entry)) (now (coded .entry)) (now (coefs .entry)) (now (dc .entry)) (now (lasts .entry)) (now (flags .entry)) (now (bits .entry)) (now (supers .entry)) (now (modes .entry)) (now (active .entry))) (now (first .entry)) (now (second .entry)) (now (third .entry)) (now (answers .entry)) (now (maps .entry)) ⌝ }
 {
     let k = settings_list::lists_refusal(settings, session.len(), names.len());
     if k == 0 {

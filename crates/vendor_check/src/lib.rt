@@ -56,7 +56,8 @@ fn check_loaded(
     answers: &mut [u64],
 ) -> CheckAnswer
     requires { ⌜ (lentNumber (shotCall s names (now lengths) (now packets) (now table) (memory (now records) (now coded) (now coefs) (now dc) (now lasts) (now flags) (now bits) (now supers) (now modes) (now active)) (now first) (now second) (now third) (now answers)) ≡ 0) × TableLoaded (now table) loaded ⌝ }
-    ensures { λ r. ⌜ ShotChecked (shotCall s names (now (lengths .entry)) (now (packets .entry)) (now (table .entry)) (memory (now (records .entry)) (now (coded .entry)) (now (coefs .entry)) (now (dc .entry)) (now (lasts .entry)) (now (flags .entry)) (now (bits .entry)) (now (supers .entry)) (now (modes .entry)) (now (active .entry))) (now (first .entry)) (now (second .entry)) (now (third .entry)) (now (answers .entry))) (now (file .entry))
+    ensures { λ r. ⌜ ShotChecked (shotCall s names (now (lengths .entry)) (now (packets .entry)) (now (table .entry))
+        (memory (now (records .entry)) (now (coded .entry)) (now (coefs .entry)) (now (dc .entry)) (now (lasts .entry)) (now (flags .entry)) (now (bits .entry)) (now (supers .entry)) (now (modes .entry)) (now (active .entry))) (now (first .entry)) (now (second .entry)) (now (third .entry)) (now (answers .entry))) (now (file .entry))
         (checkDone r (now (first .exit)) (now (second .exit)) (now (third .exit)) (memory (now (records .exit)) (now (coded .exit)) (now (coefs .exit)) (now (dc .exit)) (now (lasts .exit)) (now (flags .exit)) (now (bits .exit)) (now (supers .exit)) (now (modes .exit)) (now (active .exit))) (now (answers .exit))) ⌝ }
 {
     let reach = packet_list::lengths_reach(lengths, packets.len() as u64);
@@ -130,7 +131,8 @@ fn check_shot(
     third: &mut [u8],
     answers: &mut [u64],
 ) -> CheckAnswer
-    ensures { λ r. ⌜ ShotChecked (shotCall s names (now (lengths .entry)) (now (packets .entry)) (now (table .entry)) (memory (now (records .entry)) (now (coded .entry)) (now (coefs .entry)) (now (dc .entry)) (now (lasts .entry)) (now (flags .entry)) (now (bits .entry)) (now (supers .entry)) (now (modes .entry)) (now (active .entry))) (now (first .entry)) (now (second .entry)) (now (third .entry)) (now (answers .entry))) (now (file .entry))
+    ensures { λ r. ⌜ ShotChecked (shotCall s names (now (lengths .entry)) (now (packets .entry)) (now (table .entry))
+        (memory (now (records .entry)) (now (coded .entry)) (now (coefs .entry)) (now (dc .entry)) (now (lasts .entry)) (now (flags .entry)) (now (bits .entry)) (now (supers .entry)) (now (modes .entry)) (now (active .entry))) (now (first .entry)) (now (second .entry)) (now (third .entry)) (now (answers .entry))) (now (file .entry))
         (checkDone r (now (first .exit)) (now (second .exit)) (now (third .exit)) (memory (now (records .exit)) (now (coded .exit)) (now (coefs .exit)) (now (dc .exit)) (now (lasts .exit)) (now (flags .exit)) (now (bits .exit)) (now (supers .exit)) (now (modes .exit)) (now (active .exit))) (now (answers .exit))) ⌝ }
 {
     let k = shot::lent_number(
@@ -211,7 +213,8 @@ pub fn check(
     answers: &mut [u64],
 ) -> CheckAnswer
     ensures { λ r. ⌜ checkLeft r (now (table .exit)) (now (first .exit)) (now (second .exit)) (now (third .exit)) (memory (now (records .exit)) (now (coded .exit)) (now (coefs .exit)) (now (dc .exit)) (now (lasts .exit)) (now (flags .exit)) (now (bits .exit)) (now (supers .exit)) (now (modes .exit)) (now (active .exit))) (now (answers .exit))
-        ≡ checked (now (identification .entry)) (now (setup .entry)) (now (file .entry)) (lent (now (lengths .entry)) (now (packets .entry)) (now (table .entry)) (memory (now (records .entry)) (now (coded .entry)) (now (coefs .entry)) (now (dc .entry)) (now (lasts .entry)) (now (flags .entry)) (now (bits .entry)) (now (supers .entry)) (now (modes .entry)) (now (active .entry))) (now (first .entry)) (now (second .entry)) (now (third .entry)) (now (answers .entry))) ⌝ }
+        ≡ checked (now (identification .entry)) (now (setup .entry)) (now (file .entry)) (lent (now (lengths .entry)) (now (packets .entry)) (now (table .entry))
+        (memory (now (records .entry)) (now (coded .entry)) (now (coefs .entry)) (now (dc .entry)) (now (lasts .entry)) (now (flags .entry)) (now (bits .entry)) (now (supers .entry)) (now (modes .entry)) (now (active .entry))) (now (first .entry)) (now (second .entry)) (now (third .entry)) (now (answers .entry))) ⌝ }
 {
     match theora::identification(identification) {
         IdentificationAnswer::Refused(k, e) => CheckAnswer::Refused(k, e),
