@@ -1,10 +1,10 @@
 -- For callers: what the answers of `read_tree` and `load_tree` say. Assumes nothing.
 use Prim.Native.Nat.{ℕ, _+_, _-_, _*_}
 use native.Mathlib.Omega.{arith}
-use mathlib.Core.Path.{_≡_, refl, sym, ap, _∙_}
+use mathlib.Core.Path.{_≡_, refl, ap, _∙_}
 use mathlib.Core.List.{List}
 use Rattle.bitstream.specs.Reading.{Outcome, got, refused}
-use Rattle.huffman.specs.Tree.{Tree, leaves, huffmanTree, nodesOf}
+use Rattle.huffman.specs.Tree.{Tree, huffmanTree, nodesOf}
 use Rattle.huffman.specs.Answer.{nodesAfter, leavesOf}
 use Rattle.bitstream.specs.Answer.{asEnd, IfGot}
 use Rattle.bitstream.specs.declared.End.{End}

@@ -1,4 +1,4 @@
--- What other crates cite: Trees, Codes, Nodes, Spreads, Walks, Answers. Two and Grows have what the functions' proofs need, Examples worked examples. Assumes nothing.
+-- What other crates cite: Trees, Codes, Nodes, Spreads, Walks, Answers. Two, Grows and Loads have what the functions' proofs need, Examples worked examples. Assumes nothing.
 pub mod Trees
 pub mod Two
 pub mod Grows

@@ -1,26 +1,22 @@
 -- How `load_tree` goes, node by node: the trees that are still to come, what the open forks are, and what the window shows. Assumes nothing.
-use Prim.Native.Nat.{ℕ, zero, suc, _+_, _-_, _*_, _/_, _%_, _^_, _≤_, _<_}
+use Prim.Native.Nat.{ℕ, suc, _+_, _-_, _*_, _/_, _%_, _^_, _≤_, _<_}
 use native.Mathlib.Omega.{arith}
 use native.Mathlib.Nat.{zero-add, add-mul, mul-assoc, pow-suc}
-use native.Mathlib.Numerals.{add-one}
 use mathlib.Core.Path.{_≡_, refl, sym, ap, ap₂, _∙_, subst}
 use mathlib.Core.Logic.{_⊎_, inl, inr}
 use mathlib.Core.List.{List, [], _∷_, _++_}
-use mathlib.Core.Bool.{Bool, true, false}
-use lib.Dec.{leb}
-use lib.ListN.{length, getD, take, drop, set, replicate, length-set, length-append, length-replicate}
+use lib.ListN.{length, getD, take, drop, set, replicate, length-set}
 use lib.Seq.{getD-set-same, getD-set-other, take-set-le, drop-set-lt}
 use lib.Pow.{pow-add, shl-lt, low}
-use borrow.Author.Tests.{leb-true, leb-false}
 use Rattle.bitstream.specs.Bits.{bits, bitAt, number}
-use Rattle.bitstream.specs.Reading.{Outcome, got, refused, field}
+use Rattle.bitstream.specs.Reading.{Outcome, got, refused}
 use Rattle.bitstream.specs.Answer.{IfGot}
 use Rattle.bitstream.proofs.Numbers.{bit-lt, number-lt, number-one, number-add}
-use Rattle.bitstream.proofs.Fields.{no-mix, field-got}
+use Rattle.bitstream.proofs.Fields.{field-got}
 use Rattle.huffman.specs.Tree.{Tree, leaf, fork, leaves, size, tree, huffmanTree, flat, nodesOf}
 use Rattle.huffman.specs.Answer.{leavesOf}
-use Rattle.huffman.proofs.Trees.{longest, longest-leaves, size-leaves, some-leaf, Spells, tree-spells, read-proper, huffman-lawful}
-use Rattle.huffman.proofs.Grows.{tree-leaf, fork-left, token-got, stored-leaf, stored-fork, flat-length, drop-zeros}
+use Rattle.huffman.proofs.Trees.{longest, longest-leaves, size-leaves, some-leaf, Spells, tree-read, read-proper, huffman-lawful}
+use Rattle.huffman.proofs.Grows.{tree-leaf, fork-left, token-got, stored-leaf, stored-fork, drop-zeros}
 
 -- ---- bits that spell a tree are read as that tree
 pub spells-ends : (p : List ℕ) (q : ℕ) (t : Tree) (e : ℕ) → Spells p q t e → e + 1 ≡ q + 7 * leaves t
@@ -300,7 +296,7 @@ module _ (p : List ℕ) (at : ℕ) where
           where
             past : (s : Tree) (e : ℕ) → huffmanTree p at ≡ got s e → ⊥
             past s e r =
-                let w = tree-spells 32 0 p at r in
+                let w = tree-read 32 0 p at r .spells in
                 let x = ends-here (put 0 s (replicate 64 0)) (leaves s) e (subst (λ (fs : List ℕ). Rest p q i L fs ns (put 0 s (replicate 64 0)) (leaves s) e) no-forks (g .on (put 0 s (replicate 64 0)) (leaves s) e (whole-rest s e w))) in
                 omega (arith, x, spells-ends p at s e w, huffman-lawful .moves p at s e h r .1, d)
 
@@ -332,7 +328,7 @@ module _ (p : List ℕ) (at : ℕ) where
       where
         too-many : (t : Tree) (e : ℕ) → huffmanTree p at ≡ got t e → ⊥
         too-many t e r =
-            let x = fork-on p q i L (g .forks) ns (put 0 t (replicate 64 0)) (leaves t) e inside 0 b (g .on (put 0 t (replicate 64 0)) (leaves t) e (whole-rest t e (tree-spells 32 0 p at r))) in
+            let x = fork-on p q i L (g .forks) ns (put 0 t (replicate 64 0)) (leaves t) e inside 0 b (g .on (put 0 t (replicate 64 0)) (leaves t) e (whole-rest t e (tree-read 32 0 p at r .spells))) in
             omega (arith, x .each, x .count, at-least (x .trees), read-proper p at r .few, g .nodes, h)
 
         go : (o : Outcome Tree) → huffmanTree p at ≡ o → (0 ≡ leavesOf o) × IfGot (λ t. ns ≡ nodesOf t) o

@@ -52,9 +52,12 @@ judged-got n test k p i {v} {e} h = field-cases n p i (λ _ f. go (test (number 
         (f ∙ sym w, ap test x ∙ s)
     go false s f = no-mix (sym h ∙ judged-fails n test k p i f s)
 
-leaf-bit-got : (d seen : ℕ) (p : List ℕ) (i : ℕ) {b e : ℕ} → leafBit d seen p i ≡ got b e → (allowed d seen b ≡ true) × (e ≡ i + 1)
+leaf-bit-got : (d seen : ℕ) (p : List ℕ) (i : ℕ) {b e : ℕ} → leafBit d seen p i ≡ got b e → (allowed d seen b ≡ true) × (e ≡ i + 1) × (b ≡ bitAt p i)
 unfolding leafBit
-leaf-bit-got d seen p i h = let g = judged-got 1 (allowed d seen) 7 p i h in (g .1, field-value 1 p i (g .0) .1)
+leaf-bit-got d seen p i h =
+    let g = judged-got 1 (allowed d seen) 7 p i h in
+    let v = field-value 1 p i (g .0) in
+    (g .1, v .1, v .0 ∙ number-one p i)
 
 -- it is a leaf's, and fewer than 32 were seen, or a fork's, and codes may grow
 by-bit : {X : Type 0} (d seen b : ℕ) → allowed d seen b ≡ true → (eqb b 1 ≡ true → seen < 32 → X) → (eqb b 1 ≡ false → 0 < d → X) → X
@@ -64,93 +67,51 @@ by-bit {X} d seen b a f g = go (eqb b 1) refl
     go true h = f h (ltb-true seen 32 (rw h at a))
     go false h = g h (ltb-true 0 d (rw h at a))
 
--- ---- what is known of a tree that was read: its leaves, its tokens, and its 7 bits for each leaf, less 1
-pub record Read (seen i e : ℕ) (t : Tree) : Type 0 where
-  pub count : seen + leaves t ≤ 32
-  pub tokens : Tokens t
-  pub ends : e + 1 ≡ i + 7 * leaves t
-
-leaf-read : (seen : ℕ) (p : List ℕ) (i j : ℕ) {t : Tree} {e : ℕ} → seen < 32 → j ≡ i + 1 → leafToken p j ≡ got t e → Read seen i e t
-unfolding leafToken
-leaf-read seen p i j {t} {e} h s r =
-    let u = bind-got (field 5) (λ t. pure (leaf t)) p j r in
-    let v : leaf (u .0) ≡ t = cc in
-    let w : u .1 ≡ e = cc in
-    rw (← v) (record { count = omega arith; tokens = field-lt 5 p j (u .2); ends = omega (arith, field-value 5 p j (u .2) .1) })
-
--- the 0 branch and the 1 branch
-abbrev pub branches : ℕ → ℕ → Parse Tree
-branches d seen = bind (tree d seen) (λ l. bind (tree d (seen + leaves l)) (λ r. pure (fork l r)))
-
-pub tree-read : (d seen : ℕ) (p : List ℕ) (i : ℕ) {t : Tree} {e : ℕ} → tree d seen p i ≡ got t e → Read seen i e t
-unfolding tree
-tree-read zero seen p i h =
-    let u = bind-got (leafBit zero seen) (λ _. leafToken) p i h in
-    let g = leaf-bit-got zero seen p i (u .2) in
-    by-bit zero seen (u .0) (g .0) (λ _ l. leaf-read seen p i (u .1) l (g .1) (u .3)) (λ _ l. absurd (omega arith))
-tree-read (suc d) seen p i {t} {e} h =
-    let u = bind-got (leafBit (suc d) seen) (λ b. pick (eqb b 1) leafToken (branches d seen)) p i h in
-    let g = leaf-bit-got (suc d) seen p i (u .2) in
-    by-bit (suc d) seen (u .0) (g .0) (λ x l. leaf-read seen p i (u .1) l (g .1) (picked (u .0) (u .1) true x (u .3)))
-    (λ x _. on-fork (u .1) (g .1) (picked (u .0) (u .1) false x (u .3)) (λ s j t e r. tree-read d s p j r))
-  where
-    picked : (b j : ℕ) (w : Bool) → eqb b 1 ≡ w → pick (eqb b 1) leafToken (branches d seen) p j ≡ got t e → pick w leafToken (branches d seen) p j ≡ got t e
-    picked b j w x r = rw x at r
-
-    on-fork : (j : ℕ) → j ≡ i + 1 → branches d seen p j ≡ got t e → ((s j : ℕ) (t : Tree) (e : ℕ) → tree d s p j ≡ got t e → Read s j e t) → Read seen i e t
-    on-fork j s r ih =
-        let u = bind-got (tree d seen) (λ l. bind (tree d (seen + leaves l)) (λ r. pure (fork l r))) p j r in
-        let w = bind-got (tree d (seen + leaves (u .0))) (λ r. pure (fork (u .0) r)) p (u .1) (u .3) in
-        let v : fork (u .0) (w .0) ≡ t = cc in
-        let x : w .1 ≡ e = cc in
-        let a = ih seen j (u .0) (u .1) (u .2) in
-        let b = ih (seen + leaves (u .0)) (u .1) (w .0) (w .1) (w .2) in
-        rw (← v) (record { count = omega (arith, b .count); tokens = (a .tokens, b .tokens); ends = omega (arith, a .ends, b .ends) })
-
-pub read-proper : (p : List ℕ) (i : ℕ) {t : Tree} {e : ℕ} → huffmanTree p i ≡ got t e → Proper t
-unfolding huffmanTree
-read-proper p i h = let r = tree-read 32 0 p i h in record { few = omega (arith, r .count); tokens = r .tokens }
-
 -- ---- the bits from a place to a place spell a tree
 abbrev pub Spells : List ℕ → ℕ → Tree → ℕ → Type 0
 Spells p q (leaf t) e = (bitAt p q ≡ 1) × (number p (q + 1) 5 ≡ t) × (e ≡ q + 6)
 Spells p q (fork l r) e = (bitAt p q ≡ 0) × (m : ℕ) × Spells p (q + 1) l m × Spells p m r e
 
-leaf-bit-is : (d seen : ℕ) (p : List ℕ) (i : ℕ) {b e : ℕ} → leafBit d seen p i ≡ got b e → b ≡ bitAt p i
-unfolding leafBit
-leaf-bit-is d seen p i h = field-value 1 p i (judged-got 1 (allowed d seen) 7 p i h .0) .0 ∙ number-one p i
+-- what is known of a tree that was read: its leaves, its tokens, its 7 bits for each leaf, less 1, and that they spell it
+pub record Read (p : List ℕ) (seen i e : ℕ) (t : Tree) : Type 0 where
+  pub count : seen + leaves t ≤ 32
+  pub tokens : Tokens t
+  pub ends : e + 1 ≡ i + 7 * leaves t
+  pub spells : Spells p i t e
 
-leaf-spells : (p : List ℕ) (i j : ℕ) {t : Tree} {e : ℕ} → bitAt p i ≡ 1 → j ≡ i + 1 → leafToken p j ≡ got t e → Spells p i t e
+leaf-read : (seen : ℕ) (p : List ℕ) (i j : ℕ) {t : Tree} {e : ℕ} → seen < 32 → bitAt p i ≡ 1 → j ≡ i + 1 → leafToken p j ≡ got t e → Read p seen i e t
 unfolding leafToken
-leaf-spells p i j {t} {e} b s r =
+leaf-read seen p i j {t} {e} h b s r =
     let u = bind-got (field 5) (λ t. pure (leaf t)) p j r in
     let v : leaf (u .0) ≡ t = cc in
     let w : u .1 ≡ e = cc in
     let x = field-value 5 p j (u .2) in
     let y : number p (i + 1) 5 ≡ u .0 = ap (λ (k : ℕ). number p k 5) (sym s) ∙ sym (x .0) in
-    rw (← v) (b, y, omega (arith, x .1))
+    rw (← v) (record { count = omega arith; tokens = field-lt 5 p j (u .2); ends = omega (arith, x .1); spells = (b, y, omega (arith, x .1)) })
 
-pub tree-spells : (d seen : ℕ) (p : List ℕ) (i : ℕ) {t : Tree} {e : ℕ} → tree d seen p i ≡ got t e → Spells p i t e
+-- the 0 branch and the 1 branch
+abbrev pub branches : ℕ → ℕ → Parse Tree
+branches d seen = bind (tree d seen) (λ l. bind (tree d (seen + leaves l)) (λ r. pure (fork l r)))
+
+pub tree-read : (d seen : ℕ) (p : List ℕ) (i : ℕ) {t : Tree} {e : ℕ} → tree d seen p i ≡ got t e → Read p seen i e t
 unfolding tree
-tree-spells zero seen p i h =
+tree-read zero seen p i h =
     let u = bind-got (leafBit zero seen) (λ _. leafToken) p i h in
     let g = leaf-bit-got zero seen p i (u .2) in
-    let b = leaf-bit-is zero seen p i (u .2) in
-    by-bit zero seen (u .0) (g .0) (λ x _. leaf-spells p i (u .1) (sym b ∙ eqb-true _ _ x) (g .1) (u .3)) (λ _ l. absurd (omega arith))
-tree-spells (suc d) seen p i {t} {e} h =
+    by-bit zero seen (u .0) (g .0) (λ x l. leaf-read seen p i (u .1) l (sym (g .2) ∙ eqb-true _ _ x) (g .1) (u .3)) (λ _ l. absurd (omega arith))
+tree-read (suc d) seen p i {t} {e} h =
     let u = bind-got (leafBit (suc d) seen) (λ b. pick (eqb b 1) leafToken (branches d seen)) p i h in
     let g = leaf-bit-got (suc d) seen p i (u .2) in
-    let b = leaf-bit-is (suc d) seen p i (u .2) in
-    by-bit (suc d) seen (u .0) (g .0) (λ x _. leaf-spells p i (u .1) (sym b ∙ eqb-true _ _ x) (g .1) (picked (u .0) (u .1) true x (u .3)))
-    (λ x _. on-fork (u .1) (no-one (u .0) b (eqb-false _ _ x)) (g .1) (picked (u .0) (u .1) false x (u .3)) (λ s j t e r. tree-spells d s p j r))
+    by-bit (suc d) seen (u .0) (g .0) (λ x l. leaf-read seen p i (u .1) l (sym (g .2) ∙ eqb-true _ _ x) (g .1) (picked (u .0) (u .1) true x (u .3)))
+    (λ x _. on-fork (u .1) (no-one (u .0) (g .2) (eqb-false _ _ x)) (g .1) (picked (u .0) (u .1) false x (u .3)) (λ s j t e r. tree-read d s p j r))
   where
-    no-one : (b : ℕ) → b ≡ bitAt p i → (b ≡ 1 → ⊥) → bitAt p i ≡ 0
-    no-one b h n = omega (arith, h, n, bit-lt p i)
-
     picked : (b j : ℕ) (w : Bool) → eqb b 1 ≡ w → pick (eqb b 1) leafToken (branches d seen) p j ≡ got t e → pick w leafToken (branches d seen) p j ≡ got t e
     picked b j w x r = rw x at r
 
-    on-fork : (j : ℕ) → bitAt p i ≡ 0 → j ≡ i + 1 → branches d seen p j ≡ got t e → ((s j : ℕ) (t : Tree) (e : ℕ) → tree d s p j ≡ got t e → Spells p j t e) → Spells p i t e
+    no-one : (b : ℕ) → b ≡ bitAt p i → (b ≡ 1 → ⊥) → bitAt p i ≡ 0
+    no-one b h n = omega (arith, h, n, bit-lt p i)
+
+    on-fork : (j : ℕ) → bitAt p i ≡ 0 → j ≡ i + 1 → branches d seen p j ≡ got t e → ((s j : ℕ) (t : Tree) (e : ℕ) → tree d s p j ≡ got t e → Read p s j e t) → Read p seen i e t
     on-fork j z s r ih =
         let u = bind-got (tree d seen) (λ l. bind (tree d (seen + leaves l)) (λ r. pure (fork l r))) p j r in
         let w = bind-got (tree d (seen + leaves (u .0))) (λ r. pure (fork (u .0) r)) p (u .1) (u .3) in
@@ -158,7 +119,13 @@ tree-spells (suc d) seen p i {t} {e} h =
         let x : w .1 ≡ e = cc in
         let a = ih seen j (u .0) (u .1) (u .2) in
         let b = ih (seen + leaves (u .0)) (u .1) (w .0) (w .1) (w .2) in
-        rw (← v) (z, u .1, subst (λ (k : ℕ). Spells p k (u .0) (u .1)) s a, subst (λ (k : ℕ). Spells p (u .1) (w .0) k) x b)
+        let k = subst (λ (m : ℕ). Spells p m (u .0) (u .1)) s (a .spells) in
+        let m = subst (λ (m : ℕ). Spells p (u .1) (w .0) m) x (b .spells) in
+        rw (← v) (record { count = omega (arith, b .count); tokens = (a .tokens, b .tokens); ends = omega (arith, a .ends, b .ends); spells = (z, u .1, k, m) })
+
+pub read-proper : (p : List ℕ) (i : ℕ) {t : Tree} {e : ℕ} → huffmanTree p i ≡ got t e → Proper t
+unfolding huffmanTree
+read-proper p i h = let r = tree-read 32 0 p i h in record { few = omega (arith, r .count); tokens = r .tokens }
 
 -- ---- Local and Firm
 leaf-bit-lawful : (d seen : ℕ) → Lawful (leafBit d seen)

@@ -1,10 +1,10 @@
 -- `huffman::load_tree` meets its contract: what is left at each node comes to the same as all from the start (proofs/Loads). Assumes nothing.
 use borrow.Author.Needs.{needs}
-use Prim.Native.Nat.{ℕ, _+_, _-_, _*_, _/_, _%_, _^_, _<_, _≤_}
+use Prim.Native.Nat.{ℕ, _+_, _-_, _*_, _/_, _%_, _^_, _≤_}
 use native.Mathlib.Omega.{arith}
-use mathlib.Core.Path.{_≡_, refl, sym, ap, _∙_}
+use mathlib.Core.Path.{_≡_, sym, ap, _∙_}
 use mathlib.Core.Logic.{⊎-elim}
-use lib.ListN.{length, getD, length-set}
+use lib.ListN.{length, length-set}
 use Rattle.huffman.proofs.Loads.{Head, State, head-start, head-room, head-kept, head-filled, state-room, state-fork, state-full, state-cut, state-whole, state-open, state-leaf}
 use Rattle.huffman.proofs.load_tree.Statement.{statement}
 use Rattle.huffman.proofs.load_tree.Tie as tie
