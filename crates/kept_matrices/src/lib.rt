@@ -10,7 +10,7 @@ ghost use Rattle.quantization.specs.declared.LoadedParameters.{LoadedParameters
 ghost use Rattle.kept_matrices.specs.Kept.{AllQi, MatricesAre, Keeps, Serves, sameList};
 
 // The matrices of the first `count` qi, for each type, in it for each plane, in it for each qi. With a count of 0 nothing is kept.
-// It is handed on by value: about five copies a packet of 240 instructions each, and no wide function is lent a slice more.
+// It is handed on by value: eight copies a packet of 240 instructions each, and no wide function is lent a slice more.
 pub struct KeptMatrices {
     pub qis: [u8; 3],
     pub count: u8,
