@@ -18,7 +18,7 @@ use Rattle.theora.specs.Call.{Call}
 use Rattle.theora.specs.Demand.{handedOn}
 use Rattle.buffer_names.specs.declared.Names.{Names}
 use Rattle.buffer_names.specs.Names.{Sound}
-use Rattle.y4m.specs.declared.Numbers.{Numbers}
+use Rattle.stream_numbers.specs.declared.Numbers.{Numbers}
 use Rattle.y4m.specs.Stream.{frameText}
 use Rattle.stream_check.specs.declared.Compared.{Compared}
 use Rattle.stream_check.specs.Compared.{onward}

@@ -12,8 +12,9 @@ use Rattle.reading.specs.declared.Verdict.the-variants.{Accepted, Refused}
 use Rattle.decoding.specs.Answer.{State, Done}
 use Rattle.theora.specs.Call.{Call, byRules}
 use Rattle.buffer_names.specs.declared.Names.{Names}
-use Rattle.y4m.specs.declared.Numbers.{Numbers}
-use Rattle.y4m.specs.Stream.{numbersOf, frameText}
+use Rattle.stream_numbers.specs.declared.Numbers.{Numbers}
+use Rattle.stream_numbers.specs.Numbers.{numbersOf}
+use Rattle.y4m.specs.Stream.{frameText}
 use Rattle.stream_check.specs.Compared.{onward}
 use Rattle.shot_packets.specs.Play.{Shot, stateOf, callOf, after}
 use Rattle.shot_packets.specs.Inner.{PlaysAll}

@@ -13,7 +13,8 @@ use Rattle.theora.specs.Call.{byRules}
 use Rattle.theora.specs.Demand.{Turn, turns}
 use Rattle.output.specs.Output.{gives}
 use Rattle.output.proofs.Splices.{within-fits}
-use Rattle.y4m.specs.Stream.{numbersOf, frameBytes, streamText, streamFor, countOf}
+use Rattle.stream_numbers.specs.Numbers.{numbersOf}
+use Rattle.y4m.specs.Stream.{frameBytes, streamText, streamFor, countOf}
 use Rattle.y4m.proofs.Fitting.{bytes-some}
 use Rattle.y4m.proofs.Sessions.{numbers-fit}
 use Rattle.y4m.proofs.Streams.{stream-read, session-bytes}

@@ -14,7 +14,8 @@ use Rattle.decoding.specs.Answer.{State}
 use Rattle.theora.specs.Call.{Call, byRules}
 use Rattle.theora.specs.Demand.{Turn, turns}
 use Rattle.output.specs.Output.{gives}
-use Rattle.y4m.specs.Stream.{numbersOf, frameOf, streamText, streamFor}
+use Rattle.stream_numbers.specs.Numbers.{numbersOf}
+use Rattle.y4m.specs.Stream.{frameOf, streamText, streamFor}
 use Rattle.y4m.specs.Film.{holds, filmIn}
 use Rattle.packet_list.specs.Packets.{packetsIn}
 use Rattle.shot_packets.specs.Play.{stateOf, played}

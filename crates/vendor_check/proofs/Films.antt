@@ -15,8 +15,9 @@ use Rattle.decoding.specs.Answer.{State, Done}
 use Rattle.theora.specs.Call.{Call, byRules}
 use Rattle.theora.specs.Demand.{Turn, turns}
 use Rattle.buffer_names.specs.Names.{Sound}
-use Rattle.y4m.specs.declared.Numbers.{Numbers}
-use Rattle.y4m.specs.Stream.{numbersOf, frameBytes, frameOf, frameText, framesText, headerText, streamText}
+use Rattle.stream_numbers.specs.declared.Numbers.{Numbers}
+use Rattle.stream_numbers.specs.Numbers.{numbersOf}
+use Rattle.y4m.specs.Stream.{frameBytes, frameOf, frameText, framesText, headerText, streamText}
 use Rattle.y4m.proofs.Streams.{session-bytes}
 use Rattle.shot_packets.specs.Play.{Shot, stateOf, callOf, after, oneMore}
 use Rattle.shot_packets.proofs.Rules.{state-handed, three-after, sound-after}

@@ -19,7 +19,8 @@ use Rattle.theora.specs.Call.{byRules}
 use Rattle.theora.specs.Demand.{Turn, turns}
 use Rattle.packet_list.specs.Packets.{packetsIn}
 use Rattle.text.specs.Same.{same}
-use Rattle.y4m.specs.Stream.{numbersOf, headerText}
+use Rattle.stream_numbers.specs.Numbers.{numbersOf}
+use Rattle.y4m.specs.Stream.{headerText}
 use Rattle.buffer_names.specs.Names.{names}
 use Rattle.shot_packets.specs.Play.{stateOf}
 use Rattle.shot.specs.Call.{ShotCall, shotNumber, startOf, byShot}

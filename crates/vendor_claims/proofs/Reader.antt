@@ -7,8 +7,9 @@ use mathlib.Core.List.{List}
 use lib.Dec.{leb}
 use lib.ListN.{length}
 use Rattle.bitstream.specs.Reading.{choose}
-use Rattle.y4m.specs.declared.Numbers.{Numbers}
-use Rattle.y4m.specs.Stream.{numbersOf, frameBytes, streamText}
+use Rattle.stream_numbers.specs.declared.Numbers.{Numbers}
+use Rattle.stream_numbers.specs.Numbers.{numbersOf}
+use Rattle.y4m.specs.Stream.{frameBytes, streamText}
 use Rattle.y4m.specs.Film.{holds, refused, numbersIn, isStreamOf, bodyOf, framesOf as countIn, planesOf, filmIn}
 use Rattle.y4m.proofs.Streams.{stream-only}
 use Rattle.shot.proofs.Calls.{passes}

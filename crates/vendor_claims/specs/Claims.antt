@@ -14,7 +14,7 @@ use Rattle.ways.specs.Ways.{firstWay}
 use Rattle.reading.specs.declared.FrameAnswer.{FrameAnswer}
 use Rattle.reading.specs.declared.Verdict.{Verdict}
 use Rattle.reading.specs.declared.Verdict.the-variants as verdict
-use Rattle.y4m.specs.Stream.{numbersOf}
+use Rattle.stream_numbers.specs.Numbers.{numbersOf}
 use Rattle.y4m.specs.Film.{holds, filmIn}
 use Rattle.shot.specs.Call.{ShotCall, shotNumber, byShot}
 use Rattle.shot.specs.Claims.{answerOf}

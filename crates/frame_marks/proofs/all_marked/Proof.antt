@@ -1,4 +1,4 @@
--- `y4m::frames::all_marked` meets its contract. The loop's invariant: the first k frames are marked. Assumes nothing.
+-- `frame_marks::all_marked` meets its contract. The loop's invariant: the first k frames are marked. Assumes nothing.
 use Prim.Native.Nat.{ℕ, _+_, _*_, _-_, _≤_}
 use native.Mathlib.Omega.{arith}
 use mathlib.Core.Path.{_≡_, sym, ap, _∙_}
@@ -10,12 +10,11 @@ use borrow.Author.Tests.{not-true, not-false}
 use lib.ListN.{drop}
 use Rattle.output.specs.Output.{part}
 use Rattle.text.specs.Same.{same}
-use Rattle.y4m.specs.Stream.{frameLine}
-use Rattle.y4m.specs.Film.{marked}
-use Rattle.y4m.proofs.FrameLaws.{more-fits, marked-none, marked-not, marked-more, part-behind}
+use Rattle.frame_marks.specs.Marks.{frameLine, marked}
+use Rattle.frame_marks.proofs.Laws.{more-fits, marked-none, marked-not, marked-more, part-behind}
 use borrow.Author.Needs.{needs}
-use Rattle.y4m.proofs.frames.all_marked.Statement.{statement}
-use Rattle.y4m.proofs.frames.all_marked.Tie as tie
+use Rattle.frame_marks.proofs.all_marked.Statement.{statement}
+use Rattle.frame_marks.proofs.all_marked.Tie as tie
 
 abbrev Inv-loop : tie.InvT-loop
 Inv-loop stream at size count place₀ k₀ place k = (k ≤ count) × (place ≡ at + k * (6 + size)) × (marked (6 + size) (drop at stream) k ≡ true)

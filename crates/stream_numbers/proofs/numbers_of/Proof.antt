@@ -1,11 +1,11 @@
--- `y4m::header::numbers_of` meets its contract. Assumes nothing.
+-- `stream_numbers::numbers_of` meets its contract. Assumes nothing.
 use Prim.Native.Nat.{_*_, _-_}
 use native.Mathlib.Omega.{arith}
 use Rattle.headers.proofs.Fitting.{fits-macro-blocks}
-use Rattle.y4m.specs.Stream.{numbersOf}
+use Rattle.stream_numbers.specs.Numbers.{numbersOf}
 use borrow.Author.Needs.{needs}
-use Rattle.y4m.proofs.header.numbers_of.Statement.{statement}
-use Rattle.y4m.proofs.header.numbers_of.Tie as tie
+use Rattle.stream_numbers.proofs.numbers_of.Statement.{statement}
+use Rattle.stream_numbers.proofs.numbers_of.Tie as tie
 
 aspect-requires : tie.Need-aspect-requires
 aspect-requires c κs = search needs

@@ -1,8 +1,8 @@
--- `y4m::header::aspect` meets its contract. Assumes nothing.
+-- `stream_numbers::aspect` meets its contract. Assumes nothing.
 use borrow.Author.Tests.{eq-eqb, ne-eqb}
-use Rattle.y4m.specs.Stream.{aspect}
-use Rattle.y4m.proofs.header.aspect.Statement.{statement}
-use Rattle.y4m.proofs.header.aspect.Tie as tie
+use Rattle.stream_numbers.specs.Numbers.{aspect}
+use Rattle.stream_numbers.proofs.aspect.Statement.{statement}
+use Rattle.stream_numbers.proofs.aspect.Tie as tie
 
 returns : tie.Need-returns
 unfolding aspect
