@@ -11,9 +11,10 @@ use borrow.Author.Tests.{ltb-true, ltb-false, eqb-true, eqb-false}
 use lib.Dec.{ltb, eqb}
 use lib.IntN.{ℤ, pos}
 use lib.ListN.{length, getD, set, replicate, length-set}
-use Rattle.transform.specs.declared.Line.{Line}
-use Rattle.transform.specs.Line.{transformedLine}
-use Rattle.transform.specs.Block.{lineAt, putLine, transformLine, rows}
+use Rattle.lines.specs.declared.Line.{Line}
+use Rattle.lines.specs.Line.{transformedLine}
+use Rattle.lines.specs.Places.{lineAt, putLine, transformLine}
+use Rattle.transform.specs.Block.{rows}
 use Rattle.transform.specs.Residual.{tabulated}
 
 -- ---- lists by their elements

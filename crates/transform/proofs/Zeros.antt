@@ -10,8 +10,8 @@ use borrow.Author.Tests.{ltb-true, ltb-false}
 use lib.Dec.{ltb}
 use lib.IntN.{ℤ, pos}
 use lib.ListN.{getD}
-use Rattle.transform.specs.declared.Line.{Line}
-use Rattle.transform.specs.Block.{lineAt}
+use Rattle.lines.specs.declared.Line.{Line}
+use Rattle.lines.specs.Places.{lineAt}
 
 abbrev pub zeros : Line
 zeros = record { x0 = pos 0; x1 = pos 0; x2 = pos 0; x3 = pos 0; x4 = pos 0; x5 = pos 0; x6 = pos 0; x7 = pos 0 }
