@@ -25,8 +25,9 @@ use Rattle.frame_header.specs.Answer.{asHeader, three}
 use Rattle.frame_packet.specs.Frame.{Body, Frame, framePacket}
 use Rattle.work_memory.specs.Memory.{Work, memory}
 use Rattle.work_memory.specs.Lengths.{blocks, lengthsOf, cleared}
-use Rattle.frame_packet.specs.Work.{padded, holding, workAfter, asFrame}
-use Rattle.frame_packet.specs.declared.Read.the-variants.{Whole, Refused}
+use Rattle.packet_body.specs.Work.{padded}
+use Rattle.frame_packet.specs.Work.{holding, workAfter, asFrame}
+use Rattle.packet_body.specs.declared.Read.the-variants.{Whole, Refused}
 use Rattle.frame_packet.specs.declared.FrameRead.{FrameRead}
 use Rattle.frame_packet.proofs.Fits.{Fits, packet-fits}
 use Rattle.frame_packet.proofs.Held.{read-refused, read-whole}

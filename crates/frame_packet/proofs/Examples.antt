@@ -35,7 +35,7 @@ use Rattle.token.specs.Token.{rowOf, meaning, extra}
 use Rattle.token_reader.specs.Reader.{token}
 use Rattle.token_visits.specs.Visits.{unfinished, runOf, act, readFor, visit, pass}
 use Rattle.tokens.specs.Tokens.{group, table, choices, atPosition, positionsFrom, ranks, start, readTokens}
-use Rattle.frame_packet.specs.Frame.{Frame, flagsOf, modesOf, vectorsOf, body, frame, framePacket}
+use Rattle.packet_body.specs.Frame.{Frame, flagsOf, modesOf, vectorsOf, body, frame, framePacket}
 
 abbrev given : Kind → List ℕ → List ℕ → List ℕ → List BlockRecord → List ℤ → List ℕ → ℕ → Frame
 given kind qis coded modes records coefs lasts tokens = record {
