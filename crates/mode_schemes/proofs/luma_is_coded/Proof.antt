@@ -1,11 +1,11 @@
--- `modes::luma_is_coded` meets its contract. Assumes nothing.
+-- `mode_schemes::luma_is_coded` meets its contract. Assumes nothing.
 use Prim.Native.Nat.{_-_}
 use native.Mathlib.Omega.{arith}
 use mathlib.Core.Path.{sym}
-use Rattle.modes.proofs.Facts.{coded-by, coded-last}
+use Rattle.mode_schemes.proofs.Facts.{coded-by, coded-last}
 use borrow.Author.Needs.{needs}
-use Rattle.modes.proofs.luma_is_coded.Statement.{statement}
-use Rattle.modes.proofs.luma_is_coded.Tie as tie
+use Rattle.mode_schemes.proofs.luma_is_coded.Statement.{statement}
+use Rattle.mode_schemes.proofs.luma_is_coded.Tie as tie
 
 mul-first : tie.Need-mul-first
 mul-first c = search needs

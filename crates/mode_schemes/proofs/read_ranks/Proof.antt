@@ -1,15 +1,15 @@
--- `modes::read_ranks` meets its contract. The invariant: the ranks from the start are those of what is left. Assumes nothing.
+-- `mode_schemes::read_ranks` meets its contract. The invariant: the ranks from the start are those of what is left. Assumes nothing.
 use Prim.Native.Nat.{_-_, _≤_}
 use native.Mathlib.Omega.{arith}
 use mathlib.Core.Path.{_≡_, refl, _∙_}
 use Rattle.bitstream.specs.Reading.{got, field}
 use Rattle.bitstream.proofs.Fields.{read-got, read-refused, field-lt}
 use Rattle.bitstream.proofs.Ends.{on-list, on-refusal}
-use Rattle.modes.specs.Modes.{ranksFrom}
-use Rattle.modes.proofs.Facts.{ranks-done, ranks-end, ranks-on}
+use Rattle.mode_schemes.specs.Schemes.{ranksFrom}
+use Rattle.mode_schemes.proofs.Facts.{ranks-done, ranks-end, ranks-on}
 use borrow.Author.Needs.{needs}
-use Rattle.modes.proofs.read_ranks.Statement.{statement}
-use Rattle.modes.proofs.read_ranks.Tie as tie
+use Rattle.mode_schemes.proofs.read_ranks.Statement.{statement}
+use Rattle.mode_schemes.proofs.read_ranks.Tie as tie
 
 abbrev Inv-loop : tie.InvT-loop
 Inv-loop packet at alphabet₀ m₀ place₀ alphabet m place = (m ≤ 8) × (ranksFrom 8 0 alphabet₀ packet at ≡ ranksFrom (8 - m) m alphabet packet place)

@@ -1,9 +1,9 @@
--- `modes::mode_of_rank` meets its contract. Assumes nothing.
+-- `mode_schemes::mode_of_rank` meets its contract. Assumes nothing.
 use mathlib.Core.Path.{_∙_}
-use Rattle.modes.proofs.Facts.{place-some, digit-by, of-rank-sent, of-rank-listed}
+use Rattle.mode_schemes.proofs.Facts.{place-some, digit-by, of-rank-sent, of-rank-listed}
 use borrow.Author.Needs.{needs}
-use Rattle.modes.proofs.mode_of_rank.Statement.{statement}
-use Rattle.modes.proofs.mode_of_rank.Tie as tie
+use Rattle.mode_schemes.proofs.mode_of_rank.Statement.{statement}
+use Rattle.mode_schemes.proofs.mode_of_rank.Tie as tie
 
 element-copy-out-result : tie.Need-element-copy-out-result
 element-copy-out-result c = search needs

@@ -1,14 +1,14 @@
--- `modes::read_alphabet` meets its contract. Assumes nothing.
+-- `mode_schemes::read_alphabet` meets its contract. Assumes nothing.
 use Prim.Native.Nat.{ℕ, _-_}
 use mathlib.Core.Path.{sym, ap, _∙_}
 use mathlib.Core.List.{List}
 use Rattle.bitstream.specs.Reading.{got}
 use Rattle.bitstream.proofs.Ends.{on-list}
-use Rattle.modes.specs.Modes.{ranksFrom}
-use Rattle.modes.proofs.Facts.{alphabet-sent, alphabet-none}
+use Rattle.mode_schemes.specs.Schemes.{ranksFrom}
+use Rattle.mode_schemes.proofs.Facts.{alphabet-sent, alphabet-none}
 use borrow.Author.Needs.{needs}
-use Rattle.modes.proofs.read_alphabet.Statement.{statement}
-use Rattle.modes.proofs.read_alphabet.Tie as tie
+use Rattle.mode_schemes.proofs.read_alphabet.Statement.{statement}
+use Rattle.mode_schemes.proofs.read_alphabet.Tie as tie
 
 read-ranks-requires : tie.Need-read-ranks-requires
 read-ranks-requires c κs = search needs
