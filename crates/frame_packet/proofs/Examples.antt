@@ -33,7 +33,9 @@ use Rattle.block_qi.specs.BlockQi.{qiSteps, blockQi}
 use Rattle.numeric.specs.Sign.{withSign}
 use Rattle.token.specs.Token.{rowOf, meaning, extra}
 use Rattle.token_reader.specs.Reader.{token}
-use Rattle.token_visits.specs.Visits.{unfinished, runOf, act, readFor, visit, pass}
+use Rattle.block_positions.specs.Positions.{unfinished, runOf}
+use Rattle.block_visits.specs.Visits.{act, readFor, visit}
+use Rattle.token_visits.specs.Visits.{pass}
 use Rattle.tokens.specs.Tokens.{group, table, choices, atPosition, positionsFrom, ranks, start, readTokens}
 use Rattle.frame_packet.specs.Frame.{Frame, flagsOf, modesOf, vectorsOf, body, frame, framePacket}
 

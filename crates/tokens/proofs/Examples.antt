@@ -11,7 +11,9 @@ use Rattle.huffman.specs.Code.{code, tokenCode}
 use Rattle.numeric.specs.Sign.{withSign}
 use Rattle.token.specs.Token.{rowOf, meaning, extra}
 use Rattle.token_reader.specs.Reader.{token}
-use Rattle.token_visits.specs.Visits.{unfinished, runOf, act, readFor, visit, pass}
+use Rattle.block_positions.specs.Positions.{unfinished, runOf}
+use Rattle.block_visits.specs.Visits.{act, readFor, visit}
+use Rattle.token_visits.specs.Visits.{pass}
 use Rattle.tokens.specs.Tokens.{group, table, choices, atPosition, positionsFrom, ranks, start, Tokens, readTokens}
 
 abbrev given : List ℤ → List ℕ → ℕ → Tokens

@@ -14,7 +14,8 @@ use Rattle.bitstream.specs.Reading.{Outcome, got, refused, after, bind, pure, p
 use Rattle.bitstream.proofs.Fields.{field-lt}
 use Rattle.bitstream.proofs.Laws.{bind-got}
 use Rattle.huffman.specs.Tree.{Tree}
-use Rattle.token_visits.specs.Visits.{TokenState, pass}
+use Rattle.block_visits.specs.Visits.{TokenState}
+use Rattle.token_visits.specs.Visits.{pass}
 use Rattle.tokens.specs.Tokens.{group, Choices, choicesOf, choices, table, atPosition, positionsFrom, ranks}
 use Rattle.tokens.specs.Answer.{asChosen, treesOf, treeAt}
 use Rattle.tokens.specs.declared.Chosen.{Chosen}

@@ -6,7 +6,8 @@ use lib.ListN.{getD, replicate}
 use lib.IntN.{ℤ, pos}
 use Rattle.bitstream.specs.Reading.{Parse, pure, bind, pick, choose, field, _>>=_, _>>_}
 use Rattle.huffman.specs.Tree.{Tree, leaf}
-use Rattle.token_visits.specs.Visits.{TokenState, stateOf, pass}
+use Rattle.block_visits.specs.Visits.{TokenState, stateOf}
+use Rattle.token_visits.specs.Visits.{pass}
 
 -- "Groups 0, 1–5, 6–14, 15–27, 28–63"
 unfoldable pub group : ℕ → ℕ

@@ -1,13 +1,16 @@
 // Reads the tokens of a frame into the coefficients of its coded blocks, which are named by their rank in coded order.
 use bitstream::Two;
-use token_visits::Visit;
+use block_visits::Visit;
 ghost use mathlib.Core.Path.{_≡_};
 ghost use Prim.Native.Nat.{_+_, _-_, _*_, _<_, _≤_, _^_};
 ghost use lib.ListN.{length, getD, take, drop};
 ghost use Rattle.bitstream.specs.Bits.{longest};
 ghost use Rattle.token_reader.specs.Answer.{Lookup};
-ghost use Rattle.token_visits.specs.Visits.{stateOf, pass};
-ghost use Rattle.token_visits.specs.Answer.{Visited, Shape, room, Below};
+ghost use Rattle.block_visits.specs.Visits.{stateOf};
+ghost use Rattle.token_visits.specs.Visits.{pass};
+ghost use Rattle.block_positions.specs.Answer.{Below};
+ghost use Rattle.block_visits.specs.Answer.{Visited, Shape};
+ghost use Rattle.token_visits.specs.Answer.{room};
 ghost use Rattle.tokens.specs.Tokens.{group, choices, choicesOf, ranks, atPosition, positionsFrom, readTokens};
 ghost use Rattle.tokens.specs.Answer.{unfinishedOf, KeptOne, KeptActive, asChosen, Tables, nodesAt, beginsGroup, Ready, Current, treeAt, treesOf, AllOpen, asCounted, Cleared, Stored, Untouched};
 
@@ -31,7 +34,7 @@ fn keep_one(positions: &[u8], blocks: &mut [u64], j: usize, kept: usize) -> usiz
     let b = blocks[j];
     let p = positions[b as usize];
     blocks[kept] = b;
-    kept + token_visits::one_if_unfinished(p)
+    kept + block_positions::one_if_unfinished(p)
 }
 
 // Moves the unfinished blocks of a list to its front, and answers how many they are.
@@ -244,12 +247,12 @@ fn fill_lookup(nodes: &[u8], k: usize, count: usize, lookup: &mut [u64])
     ensures { λ _. ⌜ Lookup (now (nodes .entry)) (now (lookup .exit)) ⌝ }
 {
     if count < lookup_pays(k) {
-        huffman::fill_with(lookup, 0);
+        code_lookup::fill_with(lookup, 0);
         return;
     }
     let values = token::all_values();
     let complete = token::all_complete();
-    huffman::fill_by(nodes, &values, &complete, lookup);
+    code_lookup::fill_by(nodes, &values, &complete, lookup);
 }
 
 // Fills the lookup of the table that is used at the position k by a choice, where a group begins; else it is there. For no block none is filled.
