@@ -31,7 +31,7 @@ fn seven_bits(packet: &[u8], at: usize) -> usize
 // The part of a tree at the bit place `at`, below which codes may grow by `depth` bits, with `seen` leaves before it.
 // Its nodes go to `out` at `base`: before it stand at most a leaf and a closed fork for each leaf seen, and the open forks above.
 // Seven bits at once are a leaf and its token, or a fork and a leaf that is its 0 branch.
-// The answer is one number, since every frame call reads 80 trees, and an enum would go through memory at each return: 4 times the place behind the part,
+// The answer is one number, since an enum would go through memory at each return: 4 times the place behind the part,
 // whose n leaves took 7 n - 1 bits; or for a refusal 4 times the place at fault, and 1 for number 4 or 2 for number 7.
 fn grow(packet: &[u8], at: usize, depth: usize, seen: usize, out: &mut [u8], base: usize) -> usize
     requires { ⌜ (length (now packet) ≤ longest) × (at ≤ bits (now packet)) × (97 ≤ length (now out)) × (depth ≤ 32) × (seen ≤ 32) × (base ≤ 2 * seen + (32 - depth)) ⌝ }

@@ -7,8 +7,8 @@ ghost use Rattle.bitstream.specs.Answer.{IfGot};
 ghost use Rattle.huffman.specs.Tree.{huffmanTree, nodesOf};
 ghost use Rattle.stored_trees.specs.Answer.{leavesOf};
 
-// The same tree out of table memory, which every frame call reads back: how many leaves it has, 0 where there is none. The nodes are zeros before; after a refusal they are open.
-// Node by node, with no call of itself, 80 trees take 84,000 instructions, by `read_tree` 265,000.
+// The tree at the bit place `at` of table memory, which every frame call reads back: how many leaves it has, 0 where there is none. The nodes are zeros before; after a refusal they are open.
+// Node by node, with no call of itself, 80 trees take 84,000 instructions, by `huffman::read_tree` 265,000. With the forks before a leaf in a function of their own a frame call of 1 by 1 macro blocks takes 3 % more.
 // The bits stand in a window, the first the most significant. With at most 31 forks 4 leaves have at most 55 bits, so that it is filled at every fourth leaf: filled at each one, they took 3 us more.
 // A fork whose 1 branch is still to come has as its entry the fork that is open above it, or 64. A 32nd fork makes 33 leaves, and so would a code of 32 bits.
 pub fn load_tree(packet: &[u8], at: usize, nodes: &mut [u8]) -> usize

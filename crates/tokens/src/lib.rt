@@ -231,13 +231,13 @@ fn begins_group(k: usize) -> bool
     group_of(k) != group_of(k - 1)
 }
 
-// From how many blocks on a lookup is filled at the position k. Filling one takes some 2,600 instructions, and a token 50 more where its code is walked;
+// From how many blocks on a lookup is filled at the position k. Filling one takes some 2,900 instructions, and a token 90 more where its code is walked;
 // at the position 0, a group by itself, a block has at most one token.
 fn lookup_pays(k: usize) -> usize {
     if k == 0 {
         return 24;
     }
-    8
+    7
 }
 
 // Fills the lookup of a tree for the codes of so many blocks from the position k on. For few all its entries are 0, so that their codes are walked:
