@@ -15,7 +15,8 @@ use Rattle.bitstream.proofs.Inside.{Inside, inside, pure-inside, bind-inside, R
 use Rattle.bitstream.proofs.Spends.{Spends, spends-more, pure-spends, pick-spends, bind-spends, field-spends}
 use Rattle.huffman.specs.Tree.{Tree}
 use Rattle.block_visits.specs.Visits.{TokenState}
-use Rattle.tokens.specs.Tokens.{group, table, Choices, choicesOf, choices, atPosition, positionsFrom, ranks, start, Tokens, tokensOf, readTokens}
+use Rattle.table_choices.specs.Choices.{group, Choices, choicesOf, choices}
+use Rattle.tokens.specs.Tokens.{table, atPosition, positionsFrom, ranks, start, Tokens, tokensOf, readTokens}
 use Rattle.tokens.specs.Answer.{AllProper}
 use Rattle.token_visits.proofs.Laws.{pass-lawful, pass-inside, pass-refuses, pass-spends}
 use Rattle.token_visits.proofs.Goes.{Visits, Bounded, room-most}

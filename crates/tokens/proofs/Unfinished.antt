@@ -16,7 +16,8 @@ use Rattle.huffman.specs.Tree.{Tree}
 use Rattle.block_positions.specs.Positions.{unfinished}
 use Rattle.block_visits.specs.Visits.{TokenState, visit}
 use Rattle.token_visits.specs.Visits.{pass}
-use Rattle.tokens.specs.Tokens.{Choices, table, atPosition}
+use Rattle.table_choices.specs.Choices.{Choices}
+use Rattle.tokens.specs.Tokens.{table, atPosition}
 use Rattle.tokens.specs.Answer.{unfinishedOf, KeptOne, KeptActive}
 use Rattle.block_positions.proofs.Unfinished.{one-unfinished, one-finished}
 use Rattle.block_visits.proofs.Ways.{visit-other}

@@ -11,7 +11,8 @@ use Rattle.bitstream.specs.Reading.{Outcome, got}
 use Rattle.huffman.specs.Tree.{Tree}
 use Rattle.block_visits.specs.Visits.{TokenState, stateOf}
 use Rattle.token_visits.specs.Visits.{pass}
-use Rattle.tokens.specs.Tokens.{choicesOf, table}
+use Rattle.table_choices.specs.Choices.{choicesOf}
+use Rattle.tokens.specs.Tokens.{table}
 use Rattle.tokens.specs.Answer.{treesOf, treeAt}
 use Rattle.token_visits.proofs.Goes.{pass-goes, all-below}
 use Rattle.tokens.proofs.Positions.{position-refused, position-got, table-is}

@@ -7,7 +7,8 @@ use lib.ListN.{length, take, drop, length-append}
 use lib.Seq.{length-take-le, take-at}
 use Rattle.bitstream.specs.Reading.{Outcome}
 use Rattle.block_visits.specs.Visits.{TokenState, stateOf}
-use Rattle.tokens.specs.Tokens.{choicesOf, positionsFrom, ranks, start}
+use Rattle.table_choices.specs.Choices.{choicesOf}
+use Rattle.tokens.specs.Tokens.{positionsFrom, ranks, start}
 use Rattle.tokens.specs.Answer.{treesOf}
 use Rattle.tokens.proofs.Fronts.{fits-positions, fits-lasts, fits-coefs, front-length, front-shape, front-open, front-ranks, front-start, untouched, on-refused-tokens, on-tokens, tokens-got, tokens-refused}
 use Rattle.block_visits.proofs.Ways.{visit-done, visit-refused}

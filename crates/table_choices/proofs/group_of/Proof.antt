@@ -1,8 +1,8 @@
--- `tokens::group_of` meets its contract. Assumes nothing.
+-- `table_choices::group_of` meets its contract. Assumes nothing.
 use native.Mathlib.Omega.{arith}
-use Rattle.tokens.proofs.Positions.{group-0, group-1, group-2, group-3, group-4}
-use Rattle.tokens.proofs.group_of.Statement.{statement}
-use Rattle.tokens.proofs.group_of.Tie as tie
+use Rattle.table_choices.proofs.Choices.{group-0, group-1, group-2, group-3, group-4}
+use Rattle.table_choices.proofs.group_of.Statement.{statement}
+use Rattle.table_choices.proofs.group_of.Tie as tie
 
 returns : tie.Need-returns
 returns c = (group-0 (c .before .args .k) (c .if1 .taken), omega arith)

@@ -1,13 +1,13 @@
--- `tokens::read_choices` meets its contract. Assumes nothing.
+-- `table_choices::read_choices` meets its contract. Assumes nothing.
 use borrow.Author.Needs.{needs}
 use mathlib.Core.Path.{sym, ap}
 use Rattle.bitstream.specs.Reading.{twoFields}
 use Rattle.bitstream.proofs.Fields.{two-got, two-refused}
-use Rattle.tokens.specs.Tokens.{choicesOf}
-use Rattle.tokens.specs.Answer.{asChosen}
-use Rattle.tokens.proofs.Positions.{choices-kept, choices-refused, choices-read}
-use Rattle.tokens.proofs.read_choices.Statement.{statement}
-use Rattle.tokens.proofs.read_choices.Tie as tie
+use Rattle.table_choices.specs.Choices.{choicesOf}
+use Rattle.table_choices.specs.Answer.{asChosen}
+use Rattle.table_choices.proofs.Choices.{choices-kept, choices-refused, choices-read}
+use Rattle.table_choices.proofs.read_choices.Statement.{statement}
+use Rattle.table_choices.proofs.read_choices.Tie as tie
 
 returns : tie.Need-returns
 returns c =

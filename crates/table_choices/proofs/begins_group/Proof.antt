@@ -1,8 +1,8 @@
--- `tokens::begins_group` meets its contract. Assumes nothing.
+-- `table_choices::begins_group` meets its contract. Assumes nothing.
 use borrow.Author.Needs.{needs}
-use Rattle.tokens.proofs.Groups.{begins-first, begins-later}
-use Rattle.tokens.proofs.begins_group.Statement.{statement}
-use Rattle.tokens.proofs.begins_group.Tie as tie
+use Rattle.table_choices.proofs.Choices.{begins-first, begins-later}
+use Rattle.table_choices.proofs.begins_group.Statement.{statement}
+use Rattle.table_choices.proofs.begins_group.Tie as tie
 
 returns : tie.Need-returns
 returns c = begins-first _ (c .if1 .taken)
