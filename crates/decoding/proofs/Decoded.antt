@@ -13,6 +13,7 @@ use Rattle.geometry.specs.declared.PixelFormat.{PixelFormat}
 use Rattle.geometry.specs.Sizes.{blocksOf}
 use Rattle.headers.specs.declared.Session.{Session}
 use Rattle.matrices.specs.Matrix.{matrixOf}
+use Rattle.matrices.specs.All.{AllQi}
 use Rattle.setup.specs.Header.{Setup}
 use Rattle.setup.specs.Loaded.{limitOf}
 use Rattle.tokens.specs.Answer.{treesOf}
@@ -41,7 +42,6 @@ use Rattle.reading.specs.declared.Verdict.the-variants.{Accepted}
 use Rattle.headers.specs.Sizes.{format}
 use Rattle.reading.specs.Answer.{staysCounted, counted, readBy, sessionAfter, answerFor}
 use Rattle.decoding.specs.Answer.{state, done, picture, decoded}
-use Rattle.kept_matrices.specs.Kept.{AllQi}
 use Rattle.decoding.proofs.Made.{BlocksLent}
 
 -- ---- a list with zeros behind it

@@ -8,6 +8,7 @@ ghost use Rattle.bitstream.specs.Bits.{bits, number, longest};
 ghost use Rattle.bitstream.specs.Lists.{tabulated};
 ghost use Rattle.quantization.specs.Sound.{total, Held};
 ghost use Rattle.matrices.specs.Matrix.{rangeOf, InRange, minimum, scaled, valueAt, Light, weighed, Weighs, MatrixIs};
+ghost use Rattle.matrices.specs.All.{AllQi, AllMatricesAre};
 
 // A range of a set: which one it is, the qi at which it begins, and its size.
 pub struct Range {
@@ -188,4 +189,49 @@ pub fn matrix(
     let dc = loaded.dc_scale[qi];
     let ac = loaded.ac_scale[qi];
     fill_matrix(packet, first, second, range, qti, qi, dc, ac, out)
+}
+
+// The matrices of a list of qi, for each type, in it for each plane, in it for each qi. The loop does not call `matrix`, which would copy the parameters, 1,800 bytes, at each turn.
+pub fn all_matrices(
+    packet: &[u8],
+    loaded: LoadedParameters,
+    qis: [u8; 3],
+    count: usize,
+    out: &mut [u16],
+)
+    requires { ⌜ (length (now packet) ≤ longest) × Held (now packet) loaded × AllQi qis count × (count ≤ 3) × (length (now out) ≡ 1152) ⌝ }
+    ensures { λ _. ⌜ AllMatricesAre (now (packet .entry)) loaded qis count (now (out .exit)) ⌝ }
+{
+    let place = loaded.place;
+    let mut j: usize = 0;
+    while j < 6 * count {
+        let index = j / 6;
+        let set = j % 6;
+        let qti = set / 3;
+        let plane = set % 3;
+        let qi = qis[index] as usize;
+        let start = (3 * qti + plane) * 64;
+        let range = range_of(&loaded.sizes, start, qi);
+        let number = range.number;
+        let one = loaded.indices[start + number] as usize;
+        let two = loaded.indices[start + number + 1] as usize;
+        let first = place + one * 512;
+        let second = place + two * 512;
+        let dc = loaded.dc_scale[qi];
+        let ac = loaded.ac_scale[qi];
+        let at = (set * 3 + index) * 64;
+        let end = at + 64;
+        fill_matrix(
+            packet,
+            first,
+            second,
+            range,
+            qti,
+            qi,
+            dc,
+            ac,
+            &mut out[at..end],
+        );
+        j += 1;
+    }
 }

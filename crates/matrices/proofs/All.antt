@@ -1,4 +1,4 @@
--- The matrices of a frame's qi, one after the other in a slice. Assumes nothing.
+-- The matrices of a list of qi, one after the other in a slice. Assumes nothing.
 use Prim.Native.Nat.{ℕ, zero, suc, _+_, _-_, _*_, _/_, _%_, _≤_, _<_}
 use native.Mathlib.Omega.{arith}
 use mathlib.Core.Path.{_≡_, refl, sym, ap, _∙_}
@@ -13,9 +13,8 @@ use borrow.Rule.Slice.PartMut.{putMid, postOf, take-put, drop-put}
 use Rattle.quantization.specs.Parameters.{Quantization}
 use Rattle.quantization.specs.Sound.{Holds}
 use Rattle.quantization.specs.declared.LoadedParameters.{LoadedParameters}
 use Rattle.matrices.specs.Matrix.{matrixOf, MatrixIs}
-use Rattle.reconstruct.specs.Lent.{matrixIn}
-use Rattle.kept_matrices.specs.Kept.{MatricesAre}
+use Rattle.matrices.specs.All.{AllMatricesAre}
 
 -- ---- 64 elements put in the place of others
 part-of-front : (l : List ℕ) (d a : ℕ) → d + 64 ≤ a → take 64 (drop d (take a l)) ≡ take 64 (drop d l)
@@ -64,9 +63,8 @@ module _ (p : List ℕ) (l : LoadedParameters) (qis : List ℕ) where
           go true t = put-before (placeOf j) w z ms new room sixty (placeOf i) (omega (arith, ltb-true (placeOf i) (placeOf j) t))
           go false t = put-behind (placeOf j) w z ms new room sixty (placeOf i) (omega (arith, ltb-false (placeOf i) (placeOf j) t))
 
-  pub loaded-all : (count j : ℕ) (ms : List ℕ) → 6 * count ≤ j → LoadedTo j ms → MatricesAre p l qis count ms
-  unfolding matrixIn
-  loaded-all count j ms most done q h type plane index t b n =
+  pub loaded-all : (count j : ℕ) (ms : List ℕ) → 6 * count ≤ j → LoadedTo j ms → AllMatricesAre p l qis count ms
+  loaded-all count j ms most done type plane index t b n q h =
       let i = index * 6 + (type * 3 + plane) in
       let r : i % 6 ≡ type * 3 + plane = omega arith in
       let d : i / 6 ≡ index = omega arith in
