@@ -13,9 +13,10 @@ use Rattle.quantization.specs.Sound.{total, Sound, Holds}
 use Rattle.quantization.specs.Answer.{loadedParameters}
 use Rattle.quantization.specs.declared.LoadedParameters.{LoadedParameters}
 use Rattle.quantization.proofs.Layouts.{laid-length, laid-part, laid-at}
-use Rattle.matrices.specs.Matrix.{rangeOf, InRange, valueAt, setOf, baseAt, entryAt, matrixOf}
-use Rattle.matrices.specs.declared.Range.{Range}
-use Rattle.matrices.proofs.Ranges.{sizes-few, range-found, range-padded, padded-enough}
+use Rattle.quant_ranges.specs.Ranges.{rangeOf, InRange}
+use Rattle.matrices.specs.Matrix.{valueAt, setOf, baseAt, entryAt, matrixOf}
+use Rattle.quant_ranges.specs.declared.Range.{Range}
+use Rattle.quant_ranges.proofs.Ranges.{sizes-few, range-found, range-padded, padded-enough}
 
 -- ---- what the parameters are
 module _ {p : List ℕ} {l : LoadedParameters} {q : Quantization} (h : Holds p l q) where

@@ -7,7 +7,7 @@ use lib.ListN.{length}
 use Rattle.bitstream.specs.Reading.{got}
 use Rattle.quantization.specs.Sound.{Whole, Sound}
 use Rattle.matrices.specs.Matrix.{setOf}
-use Rattle.matrices.proofs.Ranges.{range-found}
+use Rattle.quant_ranges.proofs.Ranges.{range-found}
 use Rattle.matrices.proofs.Borders.{border-same, two-same}
 use Rattle.setup.specs.Header.{Setup}
 use Rattle.setup.specs.Table.{heldSetup}

@@ -7,7 +7,8 @@ use Rattle.bitstream.specs.Reading.{got}
 use Rattle.bitstream.specs.Lists.{tabulated}
 use Rattle.quantization.specs.Parameters.{Ranges, Quantization}
 use Rattle.quantization.specs.Sound.{total}
-use Rattle.matrices.specs.Matrix.{rangeOf, rangeAt, InRange, setOf, entryAt}
+use Rattle.quant_ranges.specs.Ranges.{rangeOf, rangeAt, InRange}
+use Rattle.matrices.specs.Matrix.{setOf, entryAt}
 use Rattle.setup.specs.Header.{Setup}
 use Rattle.setup.specs.Table.{heldSetup}
 

@@ -6,7 +6,7 @@ use lib.ListN.{length, getD}
 use borrow.Author.Count.{below-none}
 use borrow.Rule.Slice.PartMut.{mid-len}
 use Rattle.bitstream.specs.Bits.{bits}
-use Rattle.matrices.specs.Matrix.{InRange}
+use Rattle.quant_ranges.specs.Ranges.{InRange}
 use Rattle.matrices.proofs.Matrices.{sizes-long, enough, ends, matrix-found}
 use Rattle.matrices.proofs.All.{placeOf, LoadedTo, loaded-more, loaded-all}
 use borrow.Author.Needs.{needs}

@@ -4,7 +4,7 @@ use native.Mathlib.Omega.{arith}
 use mathlib.Core.Path.{_∙_}
 use lib.ListN.{getD}
 use Rattle.bitstream.specs.Bits.{bits}
-use Rattle.matrices.specs.Matrix.{InRange}
+use Rattle.quant_ranges.specs.Ranges.{InRange}
 use Rattle.matrices.proofs.Matrices.{sizes-long, enough, ends, matrix-found}
 use borrow.Author.Needs.{needs}
 use Rattle.matrices.proofs.matrix.Statement.{statement}

@@ -1,11 +1,11 @@
--- `matrices::byte_at` meets its contract. Assumes nothing.
+-- `matrix_values::byte_at` meets its contract. Assumes nothing.
 use borrow.Author.Needs.{needs}
 use Prim.Native.Nat.{_+_, _-_, _*_, _/_, _<_}
 use native.Mathlib.Omega.{arith}
 use lib.ListN.{getD}
-use Rattle.matrices.proofs.Values.{byte-of-two}
-use Rattle.matrices.proofs.byte_at.Statement.{statement}
-use Rattle.matrices.proofs.byte_at.Tie as tie
+use Rattle.matrix_values.proofs.Values.{byte-of-two}
+use Rattle.matrix_values.proofs.byte_at.Statement.{statement}
+use Rattle.matrix_values.proofs.byte_at.Tie as tie
 
 add-next : tie.Need-add-next
 add-next c = search needs

@@ -1,10 +1,10 @@
--- `matrices::scale_value` meets its contract. Assumes nothing.
+-- `matrix_values::scale_value` meets its contract. Assumes nothing.
 use Prim.Native.Nat.{_-_}
 use native.Mathlib.Omega.{arith}
-use Rattle.matrices.proofs.Values.{product-fits, scaled-high, scaled-low, scaled-middle}
+use Rattle.matrix_values.proofs.Values.{product-fits, scaled-high, scaled-low, scaled-middle}
 use borrow.Author.Needs.{needs}
-use Rattle.matrices.proofs.scale_value.Statement.{statement}
-use Rattle.matrices.proofs.scale_value.Tie as tie
+use Rattle.matrix_values.proofs.scale_value.Statement.{statement}
+use Rattle.matrix_values.proofs.scale_value.Tie as tie
 
 mul-quarter : tie.Need-mul-quarter
 mul-quarter c = omega (arith, product-fits (c .args .scale) (c .args .value) (omega arith) (omega arith))

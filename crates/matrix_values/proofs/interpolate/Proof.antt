@@ -1,13 +1,13 @@
--- `matrices::interpolate` meets its contract. Assumes nothing.
+-- `matrix_values::interpolate` meets its contract. Assumes nothing.
 use Prim.Native.Nat.{_+_, _*_, _≤_}
 use native.Mathlib.Omega.{arith}
 use mathlib.Core.Path.{refl}
-use Rattle.matrices.specs.Matrix.{weighed}
-use Rattle.matrices.proofs.Values.{product-fits}
-use Rattle.matrices.proofs.Reciprocals.{sum-low}
+use Rattle.matrix_values.specs.Weights.{weighed}
+use Rattle.matrix_values.proofs.Values.{product-fits}
+use Rattle.matrix_values.proofs.Reciprocals.{sum-low}
 use borrow.Author.Needs.{needs}
-use Rattle.matrices.proofs.interpolate.Statement.{statement}
-use Rattle.matrices.proofs.interpolate.Tie as tie
+use Rattle.matrix_values.proofs.interpolate.Statement.{statement}
+use Rattle.matrix_values.proofs.interpolate.Tie as tie
 
 fits : (c : tie.Start) → let w = c .args .weights in w .before * c .args .left + w .behind * c .args .right + w .half ≤ 16096
 fits c = let w = c .args .weights in sum-low (w .before) (w .behind) (w .half) (c .args .left) (c .args .right) (c .pre .0 .0) (c .pre .0 .1) (c .pre .1) (c .pre .2)

@@ -1,9 +1,9 @@
--- `matrices::least` meets its contract. Assumes nothing.
+-- `matrix_values::least` meets its contract. Assumes nothing.
 use Prim.Native.Nat.{_-_}
 use native.Mathlib.Omega.{arith}
-use Rattle.matrices.proofs.Values.{least-intra-dc, least-inter-dc, least-intra-ac, least-inter-ac}
-use Rattle.matrices.proofs.least.Statement.{statement}
-use Rattle.matrices.proofs.least.Tie as tie
+use Rattle.matrix_values.proofs.Values.{least-intra-dc, least-inter-dc, least-intra-ac, least-inter-ac}
+use Rattle.matrix_values.proofs.least.Statement.{statement}
+use Rattle.matrix_values.proofs.least.Tie as tie
 
 returns : tie.Need-returns
 returns c = (least-intra-dc (c .before .before .args .qti) (c .before .before .args .c) (c .before .if1 .taken) (c .if2 .taken), omega arith)

@@ -3,9 +3,11 @@ use Prim.Native.Nat.{ℕ, _+_, _-_, _*_, _/_, _≤_, _<_}
 use native.Mathlib.Omega.{arith}
 use native.Mathlib.Nat.{mul-le-mul, mul-le-mul-left, mul-le-mul-right, lt-of-mul-lt-mul-left, div-mul-le-self, mul-div-le, le-div-iff-mul-le, lt-mul-div-succ, div-eq-of-lt-le, div-le-of-le-mul, div-div-eq-div-mul, mul-div-mul-left}
 use mathlib.Core.Path.{_≡_, sym, ap, ap₂, _∙_}
-use Rattle.matrices.specs.Matrix.{InRange, interpolated, Light, weighed, Weighs}
-use Rattle.matrices.specs.declared.Range.{Range}
-use Rattle.matrices.specs.declared.Weights.{Weights}
+use Rattle.quant_ranges.specs.Ranges.{InRange}
+use Rattle.matrix_values.specs.Values.{interpolated}
+use Rattle.matrix_values.specs.Weights.{Light, weighed, Weighs}
+use Rattle.quant_ranges.specs.declared.Range.{Range}
+use Rattle.matrix_values.specs.declared.Weights.{Weights}
 
 -- ---- a quotient by a reciprocal that is rounded up: exact while the error, x * d at most, stays below n
 quotient : (n d x m q : ℕ) → n < d * m → d * m ≤ n + d → q * d ≤ x → x < d * (q + 1) → x * d < n → x * m / n ≡ q

@@ -1,13 +1,13 @@
--- `matrices::range_of` meets its contract. The invariant: all ranges so far end before qi. Assumes nothing.
+-- `quant_ranges::range_of` meets its contract. The invariant: all ranges so far end before qi. Assumes nothing.
 use Prim.Native.Nat.{ℕ, _+_, _-_, _≤_, _<_}
 use native.Mathlib.Omega.{arith}
 use mathlib.Core.Path.{_≡_, ap, sym, _∙_}
 use native.Mathlib.Nat.{add-zero}
 use lib.ListN.{getD, take, drop}
-use Rattle.matrices.proofs.Ranges.{Walk, walk-start, walk-more, walk-done, part-long, part-at}
+use Rattle.quant_ranges.proofs.Ranges.{Walk, walk-start, walk-more, walk-done, part-long, part-at}
 use borrow.Author.Needs.{needs}
-use Rattle.matrices.proofs.range_of.Statement.{statement}
-use Rattle.matrices.proofs.range_of.Tie as tie
+use Rattle.quant_ranges.proofs.range_of.Statement.{statement}
+use Rattle.quant_ranges.proofs.range_of.Tie as tie
 
 abbrev Inv-loop : tie.InvT-loop
 Inv-loop sizes first qi number₀ start₀ size₀ number start size = (start ≤ 63) × (size < 65536) × Walk (take 64 (drop first sizes)) qi number start size

@@ -1,10 +1,10 @@
--- `matrices::weigh` meets its contract. Assumes nothing.
+-- `matrix_values::weigh` meets its contract. Assumes nothing.
 use borrow.Author.Needs.{needs}
 use Prim.Native.Nat.{ℕ, _+_, _-_, _*_, _/_, _≤_}
 use native.Mathlib.Omega.{arith}
-use Rattle.matrices.proofs.Reciprocals.{whole-low, whole-high, reciprocal-low, is-light, weights-are}
-use Rattle.matrices.proofs.weigh.Statement.{statement}
-use Rattle.matrices.proofs.weigh.Tie as tie
+use Rattle.matrix_values.proofs.Reciprocals.{whole-low, whole-high, reciprocal-low, is-light, weights-are}
+use Rattle.matrix_values.proofs.weigh.Statement.{statement}
+use Rattle.matrix_values.proofs.weigh.Tie as tie
 
 div-factor : tie.Need-div-factor
 div-factor c = search needs

@@ -14,8 +14,8 @@ use Rattle.quantization.specs.Parameters.{Ranges}
 use Rattle.quantization.specs.Layout.{padded}
 use Rattle.quantization.specs.Sound.{total, Sound}
 use Rattle.quantization.proofs.Soundness.{total-append}
-use Rattle.matrices.specs.Matrix.{rangeFrom, rangeOf, InRange}
-use Rattle.matrices.specs.declared.Range.{Range}
+use Rattle.quant_ranges.specs.Ranges.{rangeFrom, rangeOf, InRange}
+use Rattle.quant_ranges.specs.declared.Range.{Range}
 
 pub total-more : (l : List ℕ) (k : ℕ) → k < length l → total (take (k + 1) l) ≡ total (take k l) + getD l k 0
 total-more l k h = rw (add-one k, take-suc l k 0 h) (total-append (take k l) (getD l k 0 ∷ []) ∙ omega arith)
