@@ -41,8 +41,9 @@ use Rattle.reading.specs.declared.FrameAnswer.{FrameAnswer}
 use Rattle.reading.specs.declared.Verdict.the-variants.{Accepted}
 use Rattle.headers.specs.Sizes.{format}
 use Rattle.reading.specs.Answer.{staysCounted, counted, readBy, sessionAfter, answerFor}
-use Rattle.decoding.specs.Answer.{state, done, picture, decoded}
-use Rattle.decoding.proofs.Made.{BlocksLent}
+use Rattle.asked_frame.specs.Answer.{state, done, picture, newBy, decoded}
+use Rattle.asked_frame.proofs.Lent.{BlocksLent}
+use Rattle.asked_frame.proofs.Answered.{passes}
 
 -- ---- a list with zeros behind it
 module _ {A : Type 0} (z : A) where
@@ -169,14 +170,19 @@ module _ (s : Session) (setup : Setup) (packet nodes : List ℕ) (et : treesOf n
   work-is : m ≡ workAfter (format s) (s .fields .fmbw) (s .fields .fmbh) o
   work-is = em ∙ (λ i. workAfter (ef i) (s .fields .fmbw) (s .fields .fmbh) (same i))
 
+  -- the answer, whatever the packet's outcome is
+  abbrev pub Answers : FrameAnswer → Type 0
+  Answers a = (setup : Setup) (o : Outcome Frame) → r ≡ asFrame o → a ≡ answerFor s (after o (counted s setup))
+
   module _ (golden previous new : List ℕ) where
-    pub on-refused : {k e : ℕ} → r .read ≡ Refused k e → (a : FrameAnswer) → a ≡ answerFor s (refused k e) → (dc : List ℤ) → dc ≡ replicate (blocks s) (pos 0)
+    pub on-refused : {k e : ℕ} → r .read ≡ Refused k e → (a : FrameAnswer) → Answers a → (dc : List ℤ) → dc ≡ replicate (blocks s) (pos 0)
         → done a new (record { work = m; dc = dc }) ≡ decoded firstWay (state s golden previous) new (readBy s setup packet)
     on-refused {k} {e} h a ea dc ed =
         let g = read-refused o answer-is h in
-        let w = work-is ∙ ap (workAfter (format s) (s .fields .fmbw) (s .fields .fmbh)) g in
-        (λ i. done (ea i) new (record { work = w i; dc = ed i }))
-        ∙ ap (λ (o : Outcome Frame). decoded firstWay (state s golden previous) new (after o (counted s setup))) (sym g)
+        let ew = work-is ∙ ap (workAfter (format s) (s .fields .fmbw) (s .fields .fmbh)) g in
+        let en : new ≡ newBy firstWay (state s golden previous) new (after o (counted s setup)) = ap (λ (o : Outcome Frame). newBy firstWay (state s golden previous) new (after o (counted s setup))) (sym g) in
+        let ea′ = ea setup o answer-is in
+        λ i. done (ea′ i) (en i) (record { work = ew i; dc = ed i })
 
   module _ {count t e : ℕ} (h : r .read ≡ Whole count t e) where
     abbrev there : (fr : Frame) × (o ≡ got fr e) × (count ≡ length (fr .body .coded)) × (r .header ≡ asHeader (fr .header)) × (t ≡ fr .body .tokens .tokens)
@@ -213,19 +219,15 @@ module _ (s : Session) (setup : Setup) (packet nodes : List ℕ) (et : treesOf n
         let el = zeros .3 ∙ ap (λ (k : ℕ). replicate k 0) (ap (λ (m : Work). length (m .lasts)) work-held ∙ l .3) in
         λ i. memory (er i) (ec i) (ef i) (eg i) (el i) (work-held i .flags) (work-held i .bits) (work-held i .supers) (work-held i .modes) (work-held i .active)
 
-    -- the packet, by the test of the session's numbers
-    passes : (b : Bool) → staysCounted (r .header .kind) s ≡ b → readBy s setup packet ≡ choose b (got (record { setup = setup; frame = fr }) e) (refused 17 0)
-    passes b h =
-        ap (λ (o : Outcome Frame). after o (counted s setup)) (there .1)
-        ∙ ap (λ (t : Bool). choose t (got (record { setup = setup; frame = fr }) e) (refused 17 0)) (ap (λ (x : Header). staysCounted (x .kind) s) (sym (there .3)) ∙ h)
-
     pub on-17 : (golden previous new records coded : List ℕ) (coefs dc : List ℤ) (lasts : List ℕ) → dc ≡ replicate (blocks s) (pos 0)
         → (records ≡ replicate (length (m .records)) 0) × (coded ≡ replicate (length (m .coded)) 0) × (coefs ≡ replicate (length (m .coefs)) (pos 0)) × (lasts ≡ replicate (length (m .lasts)) 0)
-        → staysCounted (r .header .kind) s ≡ false → (a : FrameAnswer) → a ≡ answerFor s (refused 17 0)
+        → staysCounted (r .header .kind) s ≡ false → (a : FrameAnswer) → Answers a
         → done a new (memory records coded coefs dc lasts (m .flags) (m .bits) (m .supers) (m .modes) (m .active)) ≡ decoded firstWay (state s golden previous) new (readBy s setup packet)
     on-17 golden previous new records coded coefs dc lasts ed zeros sc a ea =
         let em = memory-is records coded coefs dc lasts ed zeros in
-        (λ i. done (ea i) new (em i)) ∙ ap (decoded firstWay (state s golden previous) new) (sym (passes false sc))
+        let en = ap (newBy firstWay (state s golden previous) new) (sym (passes s setup o answer-is h false sc)) in
+        let ea′ = ea setup o answer-is in
+        λ i. done (ea′ i) (en i) (em i)
 
     -- the frame
     module _ (golden previous new : List ℕ)
@@ -251,13 +253,11 @@ module _ (s : Session) (setup : Setup) (packet nodes : List ℕ) (et : treesOf n
       -- the answer
       module _ (records coded : List ℕ) (coefs dc dc₀ : List ℤ) (lasts : List ℕ) (ed : dc₀ ≡ replicate (blocks s) (pos 0))
           (zeros : (records ≡ replicate (length (m .records)) 0) × (coded ≡ replicate (length (m .coded)) 0) × (coefs ≡ replicate (length (m .coefs)) (pos 0)) × (dc ≡ replicate (length dc₀) (pos 0)) × (lasts ≡ replicate (length (m .lasts)) 0)) where
-        pub on-accepted : (new₀ : List ℕ) (next : Session) → staysCounted (r .header .kind) s ≡ true → next ≡ sessionAfter (r .header .kind) s
-            → done (record { verdict = Accepted t; header = r .header; session = next }) new (memory records coded coefs dc lasts (m .flags) (m .bits) (m .supers) (m .modes) (m .active))
-            ≡ decoded firstWay (state s golden previous) new₀ (readBy s setup packet)
-        on-accepted new₀ next sc es =
-            let eh = there .3 in
+        pub on-accepted : (new₀ : List ℕ) → staysCounted (r .header .kind) s ≡ true → (a : FrameAnswer) → Answers a
+            → done a new (memory records coded coefs dc lasts (m .flags) (m .bits) (m .supers) (m .modes) (m .active)) ≡ decoded firstWay (state s golden previous) new₀ (readBy s setup packet)
+        on-accepted new₀ sc a ea =
             let ld : length dc₀ ≡ blocks s = ap length ed ∙ length-replicate (blocks s) (pos 0) in
             let em = memory-is records coded coefs dc lasts (zeros .3 ∙ ap (λ (k : ℕ). replicate k (pos 0)) ld) (zeros .0, zeros .1, zeros .2, zeros .4) in
-            let es′ = es ∙ ap (λ (x : Header). sessionAfter (x .kind) s) eh in
-            (λ i. done (record { verdict = Accepted (there .4 i); header = eh i; session = es′ i }) (frame-is i) (em i))
-            ∙ ap (decoded firstWay (state s golden previous) new₀) (sym (passes true sc))
+            let en = frame-is ∙ ap (newBy firstWay (state s golden previous) new₀) (sym (passes s setup o answer-is h true sc)) in
+            let ea′ = ea setup o answer-is in
+            λ i. done (ea′ i) (en i) (em i)
