@@ -20,7 +20,7 @@ use Rattle.decoding.proofs.decode_packet.Statement.{statement}
 use Rattle.decoding.proofs.decode_packet.Tie as tie
 
 pixel-format-requires : tie.Need-pixel-format-requires
-pixel-format-requires c κs = search needs
+pixel-format-requires c κs = tt
 
 read-frame-requires : tie.Need-read-frame-requires
 read-frame-requires c κs =
@@ -44,7 +44,7 @@ enum-told-2 : tie.Need-enum-told-2
 enum-told-2 c = search needs
 
 clear-read-requires : tie.Need-clear-read-requires
-clear-read-requires c κs = search needs
+clear-read-requires c κs = tt
 
 enum-known-next : tie.Need-enum-known-next
 enum-known-next c = search needs

@@ -1,11 +1,11 @@
--- `queries::loop_limit` meets its contract. Assumes nothing.
+-- `table_queries::loop_limit` meets its contract. Assumes nothing.
 use Prim.Native.Nat.{_-_}
 use mathlib.Core.Path.{sym, ap}
 use Rattle.queries.specs.Orders.{asNumber}
-use Rattle.queries.proofs.SetupLaws.{limit-1, limit-8, limit-is, limit-absent}
+use Rattle.table_queries.proofs.SetupLaws.{limit-1, limit-8, limit-is, limit-absent}
 use borrow.Author.Needs.{needs}
-use Rattle.queries.proofs.loop_limit.Statement.{statement}
-use Rattle.queries.proofs.loop_limit.Tie as tie
+use Rattle.table_queries.proofs.loop_limit.Statement.{statement}
+use Rattle.table_queries.proofs.loop_limit.Tie as tie
 
 returns : tie.Need-returns
 returns c = let a = c .before .before .args in sym (ap asNumber (limit-1 (a .table .now) (a .qi) (c .if1 .taken)))

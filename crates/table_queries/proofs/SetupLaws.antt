@@ -15,9 +15,9 @@ use Rattle.setup.specs.Loaded.{asSetupRead}
 use Rattle.setup.specs.Table.{tableBytes, heldSetup}
 use Rattle.setup.specs.declared.SetupRead.{SetupRead}
 use Rattle.setup.proofs.Held.{held-8, held-limits, held-parameters, genuine-setup, genuine-held, genuine-holds}
 use Rattle.queries.specs.Found as found
 use Rattle.queries.specs.Found.{Found, is, absent}
-use Rattle.queries.specs.Setup.{onTable, tableLimit, hasMatrix, tableMatrix, matrixInto, asMatrix, leaving}
+use Rattle.table_queries.specs.Setup.{onTable, tableLimit, hasMatrix, tableMatrix, matrixInto, asMatrix, leaving}
 
 -- ---- by the setup that a table memory holds
 module _ {A : Type 0} (t : List ℕ) (f : Setup → Found A) where

@@ -1,10 +1,10 @@
--- `queries::matrix` meets its contract. Assumes nothing.
+-- `table_queries::matrix` meets its contract. Assumes nothing.
 use native.Mathlib.Omega.{arith}
 use Rattle.setup.proofs.Held.{held-parameters, genuine-holds}
-use Rattle.queries.proofs.SetupLaws.{matrix-1, matrix-8, matrix-is, matrix-absent, has-matrix, answered, answered-1}
+use Rattle.table_queries.proofs.SetupLaws.{matrix-1, matrix-8, matrix-is, matrix-absent, has-matrix, answered, answered-1}
 use borrow.Author.Needs.{needs}
-use Rattle.queries.proofs.matrix.Statement.{statement}
-use Rattle.queries.proofs.matrix.Tie as tie
+use Rattle.table_queries.proofs.matrix.Statement.{statement}
+use Rattle.table_queries.proofs.matrix.Tie as tie
 
 returns : tie.Need-returns
 returns c = let a = c .before .before .before .args in answered-1 (a .out .now) (a .table .now) (a .qti) (a .plane) (a .qi) (c .if1 .taken)

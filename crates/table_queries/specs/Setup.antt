@@ -10,9 +10,9 @@ use Rattle.matrices.specs.Matrix.{matrixOf}
 use Rattle.setup.specs.Header.{Setup}
 use Rattle.setup.specs.Table.{tableBytes, heldSetup}
 use Rattle.setup.specs.Loaded.{limitOf}
 use Rattle.queries.specs.Found as found
 use Rattle.queries.specs.Found.{Found, is, absent, provided}
-use Rattle.queries.specs.declared.MatrixAnswer.{MatrixAnswer}
+use Rattle.table_queries.specs.declared.MatrixAnswer.{MatrixAnswer}
 
 -- what is found in a setup that was read; else the number of the refusal
 abbrev pub inSetup : {A : Type 0} → (Setup → Found A) → Outcome Setup → Found A

@@ -13,7 +13,7 @@ use Rattle.setup.specs.Header.{Setup}
 use Rattle.setup.specs.Table.{heldSetup}
 use Rattle.setup.specs.Loaded.{loadedSetup}
 use Rattle.setup.proofs.Held.{held-reads, held-parameters}
-use Rattle.queries.specs.Ranges.{RangesHold}
+use Rattle.table_queries.specs.Ranges.{RangesHold}
 
 -- the parameters that a table memory holds are sound
 held-whole : (t : List ℕ) {s : Setup} {e : ℕ} → heldSetup t ≡ got s e → Whole (s .parameters) t
