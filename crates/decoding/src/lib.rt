@@ -1,10 +1,9 @@
 // A frame packet, decoded by a session and a table memory: what is answered, the frame, and work memory, which is all zero before and after.
+use asked_frame::Next;
 use bitstream::End;
-use frame_packet::Read;
 use headers::Session;
 use kept_matrices::KeptMatrices;
 use reading::FrameAnswer;
-use reading::Verdict;
 use setup::LoadedSetup;
 ghost use Rattle.bitstream.specs.Bits.{longest};
 ghost use mathlib.Core.Path.{_≡_};
@@ -86,20 +85,17 @@ pub fn decode_packet(
         modes,
         active,
     );
-    let read = got.read;
-    match read {
-        Read::Refused(k, e) => {
-            let answer = reading::refusal(k, e, s);
+    let judged = asked_frame::judge(got, s);
+    let answer = judged.answer;
+    let next = judged.next;
+    match next {
+        Next::Nothing => PacketAnswer { answer, kept },
+        Next::Clear => {
+            work_memory::clear_read(records, coded, coefs, lasts);
             PacketAnswer { answer, kept }
         }
-        Read::Whole(count, tokens, _) => {
+        Next::Make(count) => {
             let header = got.header;
-            let kind = header.kind;
-            if !reading::stays_counted(kind, s) {
-                work_memory::clear_read(records, coded, coefs, lasts);
-                let answer = reading::refusal(bitstream::UNCOUNTED, 0, s);
-                return PacketAnswer { answer, kept };
-            }
             let qis = header.qis;
             let matrices = kept_matrices::kept_for(
                 table,
@@ -126,12 +122,6 @@ pub fn decode_packet(
                 w,
                 h,
             );
-            let next = reading::session_after(kind, s);
-            let answer = FrameAnswer {
-                verdict: Verdict::Accepted(tokens),
-                header: header,
-                session: next,
-            };
             PacketAnswer {
                 answer,
                 kept: matrices,

@@ -23,51 +23,50 @@ none-requires c κs = search needs
 
 decode-packet-requires : tie.Need-decode-packet-requires
 decode-packet-requires c κs =
-    let z = c .before .before .before .before .before .before .before .before .before .before .before .before .before .before .before .before .before .before .before .before .before .before .before .before .before .before .before .before in
-    let t = z .args .table .now in
+    let g = c .before .before .before .before .before .before .before .before .before .before .before .before .before .before .before .before .before .before .before .before .before .before .before .before .before .before .before .before .pre in
+    let t = c .before .before .before .before .before .before .before .before .before .before .before .before .before .before .before .before .before .before .before .before .before .before .before .before .before .before .before .before .args .table .now in
     let r = c .before .before .before .before .before .before .before .before .before .before .before .before .before .before .load-table in (
-      (z .pre .0, z .pre .1, omega (arith, z .pre .2), (_, genuine-holds t (r .ensures) (c .before .before .before .before .before .before .before .before .before .before .before .before .enum-told2 .given .1)), c .before .before .before .before .before .before .before .before .before .before .before .none .ensures t (r .result .setup .parameters)),
-      (z .pre .3, z .pre .4, z .pre .5, z .pre .6),
+      (g .0, g .1, omega (arith, g .2), (_, genuine-holds t (r .ensures) (c .before .before .before .before .before .before .before .before .before .before .before .before .enum-told2 .given .1)), c .before .before .before .before .before .before .before .before .before .before .before .none .ensures t (r .result .setup .parameters)),
+      (g .3, g .4, g .5, g .6),
     )
 
 returns : tie.Need-returns
 returns c =
-    let z = c .before .before .before .before .before .before .before .before .before .before .before .before .before .before .before .before .before in
-    let a = z .args in
-    decoded-8 (a .s) (a .golden .now) (a .previous .now) (a .packet .now) (a .table .now) (a .new .now) (held-8 (a .table .now) (c .before .before .before .load-table .ensures) (c .before .enum-told .given .1)) (c .refusal .result) (c .refusal .ensures) _ (z .pre .3)
+    let a = c .before .before .before .before .before .before .before .before .before .before .before .before .before .before .before .before .before .args in
+    decoded-8 (a .s) (a .golden .now) (a .previous .now) (a .packet .now) (a .table .now) (a .new .now) (held-8 (a .table .now) (c .before .before .before .load-table .ensures) (c .before .enum-told .given .1)) (c .refusal .result) (c .refusal .ensures) _ (c .before .before .before .before .before .before .before .before .before .before .before .before .before .before .before .before .before .pre .3)
 
 same-length : tie.Need-same-length
-same-length c = search needs
+same-length c = c .before .before .before .before .before .before .before .before .before .before .before .before .before .before .before .before .before .before .before .before .records .given
 
 same-length-2 : tie.Need-same-length-2
-same-length-2 c = search needs
+same-length-2 c = c .before .before .before .before .before .before .before .before .before .before .before .before .before .before .before .before .before .before .coded .given
 
 same-length-3 : tie.Need-same-length-3
-same-length-3 c = search needs
+same-length-3 c = c .before .before .before .before .before .before .before .before .before .before .before .before .before .before .before .before .coefs .given
 
 same-length-4 : tie.Need-same-length-4
-same-length-4 c = search needs
+same-length-4 c = c .before .before .before .before .before .before .before .before .before .before .before .before .before .before .before .dc .given
 
 same-length-5 : tie.Need-same-length-5
-same-length-5 c = search needs
+same-length-5 c = c .before .before .before .before .before .before .before .before .before .before .before .before .before .before .lasts .given
 
 same-length-6 : tie.Need-same-length-6
-same-length-6 c = search needs
+same-length-6 c = c .before .before .before .before .before .before .before .before .before .before .before .before .flags .given
 
 same-length-7 : tie.Need-same-length-7
-same-length-7 c = search needs
+same-length-7 c = c .before .before .before .before .before .before .before .before .before .before .bits .given
 
 same-length-8 : tie.Need-same-length-8
-same-length-8 c = search needs
+same-length-8 c = c .before .before .before .before .before .before .before .before .supers .given
 
 same-length-9 : tie.Need-same-length-9
-same-length-9 c = search needs
+same-length-9 c = c .before .before .before .before .before .before .modes .given
 
 same-length-10 : tie.Need-same-length-10
-same-length-10 c = search needs
+same-length-10 c = c .before .before .before .before .active .given
 
 same-length-11 : tie.Need-same-length-11
-same-length-11 c = search needs
+same-length-11 c = c .before .before .new .given
 
 returns-2 : tie.Need-returns-2
 returns-2 c =
