@@ -11,10 +11,12 @@ use borrow.Author.Tests.{ltb-true, ltb-false, eqb-true, eqb-false}
 use lib.Dec.{ltb, eqb}
 use lib.IntN.{ℤ, pos}
 use lib.ListN.{length, getD, set, replicate, length-set}
-use Rattle.transform.specs.declared.Line.{Line}
-use Rattle.transform.specs.Line.{transformedLine}
-use Rattle.transform.specs.Block.{lineAt, putLine, transformLine, rows}
+use Rattle.lines.specs.declared.Line.{Line}
+use Rattle.lines.specs.Line.{transformedLine}
+use Rattle.lines.specs.Places.{lineAt, putLine, transformLine}
+use Rattle.transform.specs.Block.{rows}
 use Rattle.transform.specs.Residual.{tabulated}
+use Rattle.transform.specs.Placing.{turned}
 
 -- ---- lists by their elements
 
@@ -55,9 +57,6 @@ swap-lt i h = omega arith
 
 swap-swap : (i : ℕ) → i < 64 → swap (swap i) ≡ i
 swap-swap i h = omega arith
-
-unfoldable pub turned : List ℤ → List ℤ
-turned s = tabulated (λ (i : ℕ). getD s (i % 8 * 8 + i / 8) (pos 0)) 0 64
 
 turned-at : (s : List ℤ) (i : ℕ) → i < 64 → getD (turned s) i (pos 0) ≡ getD s (swap i) (pos 0)
 unfolding turned

@@ -1,3 +1,3 @@
-pub mod Line
 pub mod Block
 pub mod Residual
+pub mod Placing

@@ -10,7 +10,8 @@ use mir.Syntax.{w16}
 use Rattle.numeric.proofs.Known.{back, k-any}
 use Rattle.transform.specs.Block.{inverse}
 use Rattle.transform.specs.Residual.{dcOnly, rounded, values, residual}
-use Rattle.transform.proofs.Turned.{turned, turned-twice}
+use Rattle.transform.specs.Placing.{turned}
+use Rattle.transform.proofs.Turned.{turned-twice}
 use Rattle.transform.proofs.Placed.{values-length}
 use Rattle.transform.proofs.residual.Statement.{statement}
 use Rattle.transform.proofs.residual.Tie as tie
