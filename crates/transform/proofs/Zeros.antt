@@ -12,7 +12,7 @@ use lib.IntN.{ℤ, pos}
 use lib.ListN.{getD}
 use Rattle.lines.specs.declared.Line.{Line}
 use Rattle.lines.specs.Places.{lineAt}
-use Rattle.transform.specs.Placing.{ZerosFrom}
+use Rattle.zig_zag.specs.Placing.{ZerosFrom}
 
 abbrev pub zeros : Line
 zeros = record { x0 = pos 0; x1 = pos 0; x2 = pos 0; x3 = pos 0; x4 = pos 0; x5 = pos 0; x6 = pos 0; x7 = pos 0 }

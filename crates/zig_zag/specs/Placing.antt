@@ -6,7 +6,7 @@ use Prim.Native.Nat.{ℕ, _+_, _*_, _/_, _%_, _≤_, _<_}
 use lib.Dec.{ltb}
 use lib.IntN.{ℤ, pos}
 use lib.ListN.{getD}
-use Rattle.transform.specs.Residual.{zigZag, tabulated, valueAt, values}
+use Rattle.zig_zag.specs.Values.{zigZag, tabulated, valueAt, values}
 
 -- a block with its rows and columns exchanged
 unfoldable pub turned : List ℤ → List ℤ

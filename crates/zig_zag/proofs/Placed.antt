@@ -11,10 +11,10 @@ use lib.Dec.{ltb}
 use lib.IntN.{ℤ, pos}
 use lib.ListN.{length, getD, set, replicate}
 use Rattle.numeric.specs.Cut.{mod16, read16, cut}
-use Rattle.transform.specs.Residual.{zigZag, dequantized, tabulated, valueAt, values}
-use Rattle.transform.specs.Placing.{turned, ZerosFrom, placed, partly}
-use Rattle.transform.proofs.Turned.{length-tabulated}
-use Rattle.transform.proofs.ZigZag.{naturalOrder, natural-lt, position-lt, position-of-natural, natural-of-position}
+use Rattle.zig_zag.specs.Values.{zigZag, dequantized, tabulated, valueAt, values}
+use Rattle.zig_zag.specs.Placing.{turned, ZerosFrom, placed, partly}
+use Rattle.zig_zag.proofs.Turned.{length-tabulated}
+use Rattle.zig_zag.proofs.ZigZag.{naturalOrder, natural-lt, position-lt, position-of-natural, natural-of-position}
 
 -- ---- lists that are tabulated
 

@@ -1,10 +1,10 @@
--- `transform::place_from_1` meets its contract. Assumes nothing.
+-- `zig_zag::place_values` meets its contract. Assumes nothing.
 use borrow.Author.Needs.{needs}
 use mathlib.Core.Path.{_∙_}
 use native.Mathlib.Omega.{arith}
-use Rattle.transform.proofs.Placed.{all-turned}
-use Rattle.transform.proofs.place_from_1.Statement.{statement}
-use Rattle.transform.proofs.place_from_1.Tie as tie
+use Rattle.zig_zag.proofs.Placed.{all-turned}
+use Rattle.zig_zag.proofs.place_values.Statement.{statement}
+use Rattle.zig_zag.proofs.place_values.Tie as tie
 
 place-requires : tie.Need-place-requires
 place-requires c κs = search needs
@@ -45,8 +45,8 @@ returns-2 c dc q z e =
     all-turned (b .coefs .now) (b .at) dc q (b .matrix .now) _ 8 (b .n) (omega arith) (omega arith) z
     (c .before .before .place7 .ensures dc q (c .before .before .before .before .before .place6 .ensures dc q (c .before .before .before .before .before .before .before .before .place5 .ensures dc q (c .before .before .before .before .before .before .before .before .before .before .before .place4 .ensures dc q (c .before .before .before .before .before .before .before .before .before .before .before .before .before .before .place3 .ensures dc q (c .before .before .before .before .before .before .before .before .before .before .before .before .before .before .before .before .before .place2 .ensures dc q (c .before .before .before .before .before .before .before .before .before .before .before .before .before .before .before .before .before .before .before .before .place .ensures dc q e)))))))
 
-pub place-from-1-spec : {M : Type 1} → statement M
-place-from-1-spec =
+pub place-values-spec : {M : Type 1} → statement M
+place-values-spec =
     tie.close
     (tie.spec
     place-requires

@@ -1,10 +1,10 @@
--- `transform::place_from_48` meets its contract. Assumes nothing.
+-- `zig_zag::place_from_48` meets its contract. Assumes nothing.
 use borrow.Author.Needs.{needs}
 use mathlib.Core.Path.{_∙_}
 use native.Mathlib.Omega.{arith}
-use Rattle.transform.proofs.Placed.{all-turned}
-use Rattle.transform.proofs.place_from_48.Statement.{statement}
-use Rattle.transform.proofs.place_from_48.Tie as tie
+use Rattle.zig_zag.proofs.Placed.{all-turned}
+use Rattle.zig_zag.proofs.place_from_48.Statement.{statement}
+use Rattle.zig_zag.proofs.place_from_48.Tie as tie
 
 place-requires : tie.Need-place-requires
 place-requires c κs = search needs

@@ -1,4 +1,4 @@
--- `transform::place` meets its contract: a number goes to its other place in a turned block. Assumes nothing.
+-- `zig_zag::place` meets its contract: a number goes to its other place in a turned block. Assumes nothing.
 use borrow.Author.Needs.{needs}
 use mathlib.Core.Path.{refl, ap, _∙_}
 use mathlib.Core.List.{List}
@@ -9,13 +9,13 @@ use lib.ListN.{getD, set}
 use mir.Syntax.{w16}
 use mir.Val.{toZ, ofZ}
 use Rattle.numeric.proofs.Known.{back}
-use Rattle.transform.specs.Residual.{dequantized}
-use Rattle.transform.specs.Placing.{turned, partly}
-use Rattle.transform.proofs.ZigZag.{naturalOrder, natural-lt}
-use Rattle.transform.proofs.Placed.{partly-length, next-placed}
-use Rattle.transform.proofs.Turned.{swap, set-turned}
-use Rattle.transform.proofs.place.Statement.{statement}
-use Rattle.transform.proofs.place.Tie as tie
+use Rattle.zig_zag.specs.Values.{dequantized}
+use Rattle.zig_zag.specs.Placing.{turned, partly}
+use Rattle.zig_zag.proofs.ZigZag.{naturalOrder, natural-lt}
+use Rattle.zig_zag.proofs.Placed.{partly-length, next-placed}
+use Rattle.zig_zag.proofs.Turned.{swap, set-turned}
+use Rattle.zig_zag.proofs.place.Statement.{statement}
+use Rattle.zig_zag.proofs.place.Tie as tie
 
 array-read-i : tie.Need-array-read-i
 array-read-i c = search needs
