@@ -7,7 +7,9 @@ ghost use Prim.Native.Nat.{ℕ, _+_, _*_, _/_, _%_, _≤_, _<_};
 ghost use lib.IntN.{pos};
 ghost use lib.ListN.{length, getD, replicate};
 ghost use Rattle.transform.specs.Block.{rows, columns, inverse};
-ghost use Rattle.transform.specs.Residual.{dequantized, dcOnly, rounded, tabulated, values, residual};
+ghost use Rattle.zig_zag.specs.Values.{tabulated, values};
+ghost use Rattle.zig_zag.specs.Placing.{turned, ZerosFrom};
+ghost use Rattle.transform.specs.Residual.{dcOnly, rounded, residual};
 
 fn is_zero(l: Line) -> bool
     ensures { λ r. ⌜ (r ≡ true → l ≡ record { x0 = pos 0; x1 = pos 0; x2 = pos 0; x3 = pos 0; x4 = pos 0; x5 = pos 0; x6 = pos 0; x7 = pos 0 }) × (l ≡ record { x0 = pos 0; x1 = pos 0; x2 = pos 0; x3 = pos 0; x4 = pos 0; x5 = pos 0; x6 = pos 0; x7 = pos 0 } → r ≡ true) ⌝ }
@@ -55,80 +57,6 @@ fn inverse_transform(turned: &[i16], out: &mut [i16])
     transform_columns(out);
 }
 
-// The index in natural order of each position in zig-zag order.
-const NATURAL: [u8; 64] = [
-    0,
-    1,
-    8,
-    16,
-    9,
-    2,
-    3,
-    10,
-    17,
-    24,
-    32,
-    25,
-    18,
-    11,
-    4,
-    5,
-    12,
-    19,
-    26,
-    33,
-    40,
-    48,
-    41,
-    34,
-    27,
-    20,
-    13,
-    6,
-    7,
-    14,
-    21,
-    28,
-    35,
-    42,
-    49,
-    56,
-    57,
-    50,
-    43,
-    36,
-    29,
-    22,
-    15,
-    23,
-    30,
-    37,
-    44,
-    51,
-    58,
-    59,
-    52,
-    45,
-    38,
-    31,
-    39,
-    46,
-    53,
-    60,
-    61,
-    54,
-    47,
-    55,
-    62,
-    63,
-];
-
-fn dequantized(c: i16, q: u16) -> i16
-    ensures { λ r. ⌜ r ≡ dequantized c q ⌝ }
-{
-    numeric::cut16(c as i32 * q as i32)
-}
-
 fn dc_only(c: i16, q: u16) -> i16
     ensures { λ r. ⌜ r ≡ dcOnly c q ⌝ }
 {
@@ -149,7 +77,7 @@ fn fill(s: &mut [i16], v: i16)
 // How many of the 64 coefficients that start at `at` may be other than 0: all from there on are 0. Eight are tested at a time, the last first.
 fn used(coefs: &[i16], at: usize) -> usize
     requires { ⌜ at + 64 ≤ length (now coefs) ⌝ }
-    ensures { λ n. ⌜ (n ≤ 64) × ((k : ℕ) → n ≤ k → k < 64 → getD (now (coefs .entry)) (at + k) (pos 0) ≡ pos 0) ⌝ }
+    ensures { λ n. ⌜ (n ≤ 64) × ZerosFrom (now (coefs .entry)) at n ⌝ }
 {
     let mut g: usize = 8;
     while g > 0 {
@@ -167,22 +95,13 @@ fn used(coefs: &[i16], at: usize) -> usize
 // Zeros first, then the values of those that are used, each to its place.
 fn dequantize(coefs: &[i16], at: usize, dc: i16, q: u16, matrix: &[u16], out: &mut [i16])
     requires { ⌜ (at + 64 ≤ length (now coefs)) × (length (now matrix) ≡ 64) × (length (now out) ≡ 64) ⌝ }
-    ensures { λ _. ⌜ now (out .exit) ≡ tabulated (λ i. getD (values (now (coefs .entry)) at dc q (now (matrix .entry))) (i % 8 * 8 + i / 8) (pos 0)) 0 64 ⌝ }
+    ensures { λ _. ⌜ now (out .exit) ≡ turned (values (now (coefs .entry)) at dc q (now (matrix .entry))) ⌝ }
 {
     fill(out, 0);
-    let first = dequantized(dc, q);
+    let first = zig_zag::dequantized(dc, q);
     out[0] = first;
     let n = used(coefs, at);
-    let natural = NATURAL;
-    let mut p: usize = 1;
-    while p < n {
-        let i = natural[p] as usize;
-        let z = at + p;
-        let x = dequantized(coefs[z], matrix[i]);
-        let j = i % 8 * 8 + i / 8;
-        out[j] = x;
-        p += 1;
-    }
+    zig_zag::place_values(coefs, at, n, matrix, out);
 }
 
 // In 16 bits throughout: x + 8 may be more than they hold.

@@ -1,4 +1,4 @@
--- `transform::dequantized` meets its contract. Assumes nothing.
+-- `zig_zag::dequantized` meets its contract. Assumes nothing.
 use borrow.Author.Needs.{needs}
 use mathlib.Core.Path.{ap, _∙_}
 use native.Mathlib.Omega.{arith}
@@ -6,9 +6,9 @@ use lib.IntN.{pos, _*ℤ_}
 use mir.Syntax.{w16, w32}
 use Rattle.numeric.specs.Cut.{cut}
 use Rattle.numeric.proofs.Known.{Known, k-wide, ask-wide, back, k-nat, k-mul, ask-mul}
-use Rattle.transform.specs.Residual.{dequantized}
-use Rattle.transform.proofs.dequantized.Statement.{statement}
-use Rattle.transform.proofs.dequantized.Tie as tie
+use Rattle.zig_zag.specs.Values.{dequantized}
+use Rattle.zig_zag.proofs.dequantized.Statement.{statement}
+use Rattle.zig_zag.proofs.dequantized.Tie as tie
 
 module _ (c : tie.Start) where
   abbrev x : Known w32 (c .args .c) 32768

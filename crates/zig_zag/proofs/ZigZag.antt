@@ -7,7 +7,7 @@ use Prim.Native.Nat.{ℕ, zero, suc, _+_, _<_}
 use native.Mathlib.Nat.{add-zero, zero-add, add-suc, suc-add, le-of-suc-le-suc, not-suc-le-zero}
 use lib.Dec.{T, ltb, eqb, ltb→lt, eqb→eq}
 use lib.ListN.{length, getD}
-use Rattle.transform.specs.Residual.{zigZag}
+use Rattle.zig_zag.specs.Values.{zigZag}
 
 unfoldable pub naturalOrder : List ℕ
 naturalOrder =

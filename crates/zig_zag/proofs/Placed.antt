@@ -11,9 +11,10 @@ use lib.Dec.{ltb}
 use lib.IntN.{ℤ, pos}
 use lib.ListN.{length, getD, set, replicate}
 use Rattle.numeric.specs.Cut.{mod16, read16, cut}
-use Rattle.transform.specs.Residual.{zigZag, dequantized, tabulated, valueAt, values}
-use Rattle.transform.proofs.Turned.{length-tabulated}
-use Rattle.transform.proofs.ZigZag.{naturalOrder, natural-lt, position-lt, position-of-natural, natural-of-position}
+use Rattle.zig_zag.specs.Values.{zigZag, dequantized, tabulated, valueAt, values}
+use Rattle.zig_zag.specs.Placing.{turned, ZerosFrom, placed, partly}
+use Rattle.zig_zag.proofs.Turned.{length-tabulated}
+use Rattle.zig_zag.proofs.ZigZag.{naturalOrder, natural-lt, position-lt, position-of-natural, natural-of-position}
 
 -- ---- lists that are tabulated
 
@@ -52,19 +53,12 @@ module _ (coefs : List ℤ) (at : ℕ) (dc : ℤ) (q : ℕ) (matrix : List ℕ) 
   abbrev value : ℕ → ℤ
   value = valueAt coefs at dc q matrix
 
-  abbrev placed : ℕ → ℕ → ℤ
-  placed p i = cond (ltb (getD zigZag i 0) p) (value i) (pos 0)
-
-  -- the list when the positions below p are placed
-  unfoldable pub partly : ℕ → List ℤ
-  partly p = tabulated (placed p) 0 64
-
-  pub partly-length : (p : ℕ) → length (partly p) ≡ 64
+  pub partly-length : (p : ℕ) → length (partly coefs at dc q matrix p) ≡ 64
   unfolding partly
-  partly-length p = length-tabulated (placed p) 0 64
+  partly-length p = length-tabulated (placed coefs at dc q matrix p) 0 64
 
   -- DC's
-  pub first-placed : set (replicate 64 (pos 0)) 0 (dequantized dc q) ≡ partly 1
+  pub first-placed : set (replicate 64 (pos 0)) 0 (dequantized dc q) ≡ partly coefs at dc q matrix 1
   unfolding partly zigZag
   first-placed = refl
 
@@ -74,28 +68,28 @@ module _ (coefs : List ℤ) (at : ℕ) (dc : ℤ) (q : ℕ) (matrix : List ℕ) 
   value-is (suc i) h = refl
 
   -- what stands at another index stays
-  stays : (p k : ℕ) → p < 64 → k < 64 → (k ≡ getD naturalOrder p 0 → ⊥) → placed p k ≡ placed (p + 1) k
+  stays : (p k : ℕ) → p < 64 → k < 64 → (k ≡ getD naturalOrder p 0 → ⊥) → placed coefs at dc q matrix p k ≡ placed coefs at dc q matrix (p + 1) k
   stays p k h b u =
       ap (λ (t : Bool). cond t (value k) (pos 0))
       (test-next (getD zigZag k 0) p (ltb (getD zigZag k 0) (p + 1)) refl (λ e. u (sym (natural-of-position k b) ∙ ap (λ (z : ℕ). getD naturalOrder z 0) e)))
 
-  value-at : (p i : ℕ) → 1 ≤ p → getD zigZag i 0 ≡ p → dequantized (getD coefs (at + p) (pos 0)) (getD matrix i 0) ≡ placed (p + 1) i
+  value-at : (p i : ℕ) → 1 ≤ p → getD zigZag i 0 ≡ p → dequantized (getD coefs (at + p) (pos 0)) (getD matrix i 0) ≡ placed coefs at dc q matrix (p + 1) i
   value-at p i l e =
       ap (λ (z : ℕ). dequantized (getD coefs (at + z) (pos 0)) (getD matrix i 0)) (sym e)
       ∙ value-is i (omega arith)
       ∙ ap (λ (t : Bool). cond t (value i) (pos 0)) (sym (lt-ltb (getD zigZag i 0) (p + 1) (omega arith)))
 
   -- one more position
-  pub next-placed : (s : List ℤ) (p : ℕ) (v : ℤ) → 1 ≤ p → p < 64 → s ≡ partly p → v ≡ dequantized (getD coefs (at + p) (pos 0)) (getD matrix (getD naturalOrder p 0) 0) → set s (getD naturalOrder p 0) v ≡ partly (p + 1)
+  pub next-placed : (s : List ℤ) (p : ℕ) (v : ℤ) → 1 ≤ p → p < 64 → s ≡ partly coefs at dc q matrix p → v ≡ dequantized (getD coefs (at + p) (pos 0)) (getD matrix (getD naturalOrder p 0) 0) → set s (getD naturalOrder p 0) v ≡ partly coefs at dc q matrix (p + 1)
   unfolding partly
   next-placed s p v l h e r =
       let i = getD naturalOrder p 0 in
       ap (λ (l : List ℤ). set l i v) e
-      ∙ set-one (placed p) (placed (p + 1)) v 0 64 i (natural-lt p h)
+      ∙ set-one (placed coefs at dc q matrix p) (placed coefs at dc q matrix (p + 1)) v 0 64 i (natural-lt p h)
       (λ k a b u. stays p k h (omega arith) (λ d. u (d ∙ sym (zero-add i))))
-      (r ∙ value-at p i l (position-of-natural p h) ∙ ap (placed (p + 1)) (sym (zero-add i)))
+      (r ∙ value-at p i l (position-of-natural p h) ∙ ap (placed coefs at dc q matrix (p + 1)) (sym (zero-add i)))
 
-  rest-is : (p k : ℕ) (t : Bool) → ltb (getD zigZag k 0) p ≡ t → 1 ≤ p → (p ≤ getD zigZag k 0 → getD coefs (at + getD zigZag k 0) (pos 0) ≡ pos 0) → placed p k ≡ value k
+  rest-is : (p k : ℕ) (t : Bool) → ltb (getD zigZag k 0) p ≡ t → 1 ≤ p → (p ≤ getD zigZag k 0 → getD coefs (at + getD zigZag k 0) (pos 0) ≡ pos 0) → placed coefs at dc q matrix p k ≡ value k
   rest-is p k true e l h = ap (λ (t : Bool). cond t (value k) (pos 0)) e
   rest-is p k false e l h =
       let b = ltb-false (getD zigZag k 0) p e in
@@ -109,8 +103,12 @@ module _ (coefs : List ℤ) (at : ℕ) (dc : ℤ) (q : ℕ) (matrix : List ℕ) 
   values-length = length-tabulated value 0 64
 
   -- all that are not zeros
-  pub all-placed : (p n : ℕ) → 1 ≤ p → n ≤ p → ((k : ℕ) → n ≤ k → k < 64 → getD coefs (at + k) (pos 0) ≡ pos 0) → partly p ≡ values coefs at dc q matrix
+  all-placed : (p n : ℕ) → 1 ≤ p → n ≤ p → ZerosFrom coefs at n → partly coefs at dc q matrix p ≡ values coefs at dc q matrix
   unfolding partly values
   all-placed p n l h e =
-      same (placed p) value 0 64
+      same (placed coefs at dc q matrix p) value 0 64
       (λ k a b. rest-is p k (ltb (getD zigZag k 0) p) refl l (λ m. e (getD zigZag k 0) (le-trans h m) (position-lt k (omega arith))))
+
+  -- the same of a turned block
+  pub all-turned : (t : List ℤ) (p n : ℕ) → 1 ≤ p → n ≤ p → ZerosFrom coefs at n → t ≡ turned (partly coefs at dc q matrix p) → t ≡ turned (values coefs at dc q matrix)
+  all-turned t p n l h z e = e ∙ ap turned (all-placed p n l h z)
