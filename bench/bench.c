@@ -30,6 +30,13 @@ struct lent {
     void *memory;
 };
 
+/* Memory as a caller has it who lends it again and again. The first touch of a page is the system's time; the others touch theirs when they
+ * are opened, which is not timed. */
+static void *touched(size_t bytes)
+{
+    return memset(memory(bytes), 1, bytes);
+}
+
 static struct lent lend(const struct recording *r)
 {
     struct lent l;
@@ -42,9 +49,9 @@ static struct lent lend(const struct recording *r)
         wedgepetal_work_lengths(l.session, WEDGEPETAL_SESSION_NUMBERS, l.lengths, WEDGEPETAL_LENGTH_NUMBERS) != 0) {
         fail("a header is refused");
     }
-    l.memory = memory(l.lengths[WEDGEPETAL_WORK_BYTES]);
+    l.memory = touched(l.lengths[WEDGEPETAL_WORK_BYTES]);
     for (int p = 0; p < 3; p++) {
-        l.planes[p] = memory(l.sizes[WEDGEPETAL_BUFFER]);
+        l.planes[p] = touched(l.sizes[WEDGEPETAL_BUFFER]);
     }
     return l;
 }
