@@ -1,7 +1,6 @@
 // The means of neighbouring DC values, and which of them replaces a mean that is far.
 ghost use mathlib.Core.Path.{_≡_};
-ghost use mathlib.Core.Bool.{true};
-ghost use Prim.Native.Nat.{_+_, _*_, _-_, _≤_, _<_};
+ghost use Prim.Native.Nat.{_≤_};
 ghost use lib.IntN.{natAbs};
 ghost use Rattle.dc_means.specs.Means.{far, meanLDlD, meanLDr, meanDlDDr, meanOfTwo, replaced};
 

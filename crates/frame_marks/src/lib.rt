@@ -1,9 +1,8 @@
 // Whether frames of a stream begin with their line.
 ghost use mathlib.Core.Path.{_≡_};
-ghost use mathlib.Core.Bool.{true};
 ghost use lib.ListN.{length, drop};
 ghost use Rattle.output.specs.Output.{part};
-ghost use Prim.Native.Nat.{_+_, _≤_, _<_, _*_};
+ghost use Prim.Native.Nat.{_+_, _≤_, _*_};
 ghost use Rattle.text.specs.Same.{same};
 ghost use Rattle.frame_marks.specs.Marks.{frameLine, marked};
 

@@ -4,7 +4,7 @@ use bitstream::Field;
 use header_fields::Value;
 ghost use Rattle.bitstream.specs.Bits.{longest};
 ghost use mathlib.Core.Path.{_≡_};
-ghost use Prim.Native.Nat.{_≤_, _<_};
+ghost use Prim.Native.Nat.{_≤_};
 ghost use lib.ListN.{length};
 ghost use Rattle.bitstream.specs.Answer.{asEnd};
 ghost use Rattle.header_groups.specs.Judgement.{commonHeader};

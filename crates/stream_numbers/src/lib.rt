@@ -2,7 +2,6 @@
 use headers::Session;
 ghost use mathlib.Core.Path.{_≡_};
 ghost use mathlib.Core.Bool.{true};
-ghost use Prim.Native.Nat.{_*_};
 ghost use Rattle.headers.specs.Fits.{sessionFits};
 ghost use Rattle.stream_numbers.specs.Numbers.{aspect, numbersOf};
 
