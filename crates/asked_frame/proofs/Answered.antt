@@ -19,7 +19,6 @@ use Rattle.reading.specs.declared.FrameAnswer.{FrameAnswer}
 use Rattle.reading.specs.declared.Verdict.the-variants.{Accepted}
 use Rattle.reading.specs.Answer.{staysCounted, counted, sessionAfter, answerFor}
 use Rattle.asked_frame.specs.Next.{nextBy}
-use Rattle.asked_frame.specs.declared.Next.{Next}
 use Rattle.asked_frame.specs.declared.Next.the-variants.{Nothing, Clear, Make}
 
 -- ---- a packet that was read

@@ -2,12 +2,12 @@
 use Prim.Native.Nat.{ℕ, zero, suc, _-_, _*_, _≤_, _<_}
 use native.Mathlib.Omega.{arith}
 use mathlib.Core.Path.{_≡_, refl, sym, ap, _∙_, subst, transport, fun-ext}
-use mathlib.Core.Bool.{Bool, true, false}
+use mathlib.Core.Bool.{true, false}
 use mathlib.Core.List.{List, [], _∷_, _++_}
 use lib.IntN.{ℤ, pos}
 use lib.ListN.{length, getD, drop, replicate, length-append, length-replicate, length-map}
 use lib.Seq.{take-append-seam, drop-append-seam}
-use Rattle.bitstream.specs.Reading.{Outcome, got, refused, after, choose}
+use Rattle.bitstream.specs.Reading.{Outcome, got, after}
 use Rattle.bitstream.proofs.ListLaws.{once-at, all-at, all-replicate, all-append}
 use Rattle.geometry.specs.declared.PixelFormat.{PixelFormat}
 use Rattle.geometry.specs.Sizes.{blocksOf}
@@ -39,9 +39,8 @@ use Rattle.reconstruct.specs.Lent.{blocksIn, CodedBlocks}
 use Rattle.reconstruct.proofs.Facts.{in-at, coded-by}
 use Rattle.reconstruct.proofs.Same.{Alike, lists-same}
 use Rattle.reading.specs.declared.FrameAnswer.{FrameAnswer}
-use Rattle.reading.specs.declared.Verdict.the-variants.{Accepted}
 use Rattle.headers.specs.Sizes.{format}
-use Rattle.reading.specs.Answer.{staysCounted, counted, readBy, sessionAfter, answerFor}
+use Rattle.reading.specs.Answer.{staysCounted, counted, readBy, answerFor}
 use Rattle.asked_frame.specs.Answer.{state, done, picture, newBy, decoded}
 use Rattle.asked_frame.proofs.Lent.{BlocksLent}
 use Rattle.asked_frame.proofs.Answered.{passes}

@@ -45,14 +45,14 @@ pub fn judge(got: FrameRead, s: Session) -> Judged
         Read::Whole(count, tokens, _) => {
             let header = got.header;
             let kind = header.kind;
-            if !reading::stays_counted(kind, s) {
+            if !session_steps::stays_counted(kind, s) {
                 let answer = reading::refusal(bitstream::UNCOUNTED, 0, s);
                 return Judged {
                     answer,
                     next: Next::Clear,
                 };
             }
-            let session = reading::session_after(kind, s);
+            let session = session_steps::session_after(kind, s);
             let answer = FrameAnswer {
                 verdict: Verdict::Accepted(tokens),
                 header,

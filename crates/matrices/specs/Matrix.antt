@@ -12,7 +12,7 @@ use Rattle.quantization.specs.declared.LoadedParameters.{LoadedParameters}
 use Rattle.quant_ranges.specs.Ranges.{rangeOf}
 use Rattle.quant_ranges.specs.declared.Range.{Range}
 use Rattle.matrix_values.specs.Values.{interpolated}
-pub use Rattle.matrix_values.specs.Values.{minimum, scaled}
+unfoldable pub use Rattle.matrix_values.specs.Values.{minimum, scaled}
 
 -- the value at the coefficient c between the two base matrices' values b₁ and b₂
 unfoldable pub valueAt : (type dc ac : ℕ) → Range → (qi c b₁ b₂ : ℕ) → ℕ

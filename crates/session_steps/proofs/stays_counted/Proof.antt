@@ -1,13 +1,13 @@
--- `reading::stays_counted` meets its contract. Assumes nothing.
+-- `session_steps::stays_counted` meets its contract. Assumes nothing.
 use borrow.Author.Needs.{needs}
 use native.Mathlib.Omega.{arith}
 use mathlib.Core.Path.{sym, ap, _∙_}
 use Rattle.frame_header.specs.declared.Kind.{Kind}
 use Rattle.headers.proofs.Fitting.{fits-others}
-use Rattle.reading.specs.Answer.{staysCounted}
-use Rattle.reading.proofs.Counted.{others-few, keys-test}
-use Rattle.reading.proofs.stays_counted.Statement.{statement}
-use Rattle.reading.proofs.stays_counted.Tie as tie
+use Rattle.session_steps.specs.Steps.{staysCounted}
+use Rattle.session_steps.proofs.Counted.{others-few, keys-test}
+use Rattle.session_steps.proofs.stays_counted.Statement.{statement}
+use Rattle.session_steps.proofs.stays_counted.Tie as tie
 
 enum-told : tie.Need-enum-told
 enum-told c = search needs

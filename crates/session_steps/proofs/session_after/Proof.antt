@@ -1,10 +1,10 @@
--- `reading::session_after` meets its contract. Assumes nothing.
+-- `session_steps::session_after` meets its contract. Assumes nothing.
 use borrow.Author.Needs.{needs}
 use native.Mathlib.Omega.{arith}
-use Rattle.reading.specs.Answer.{sessionAfter}
-use Rattle.reading.proofs.Counted.{keys-few, others-few}
-use Rattle.reading.proofs.session_after.Statement.{statement}
-use Rattle.reading.proofs.session_after.Tie as tie
+use Rattle.session_steps.specs.Steps.{sessionAfter}
+use Rattle.session_steps.proofs.Counted.{keys-few, others-few}
+use Rattle.session_steps.proofs.session_after.Statement.{statement}
+use Rattle.session_steps.proofs.session_after.Tie as tie
 
 enum-told : tie.Need-enum-told
 enum-told c = search needs
