@@ -1,7 +1,7 @@
 -- `asked_frame::judge` meets its contract. Assumes nothing.
 use mathlib.Core.Path.{sym, ap, _∙_}
 use mathlib.Core.Bool.{Bool}
-use Rattle.frame_packet.specs.declared.Read.{Read}
+use Rattle.packet_body.specs.declared.Read.{Read}
 use Rattle.reading.specs.Answer.{staysCounted}
 use Rattle.asked_frame.specs.Next.{nextBy}
 use Rattle.asked_frame.proofs.Answered.{answer-refused, answer-17, answer-accepted, next-is}
