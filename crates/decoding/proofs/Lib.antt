@@ -1,3 +1,4 @@
 pub mod Made
 pub mod Decoded
+pub mod Readies
 pub mod Answers
