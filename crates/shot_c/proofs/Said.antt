@@ -18,7 +18,7 @@ use Rattle.ways.specs.Ways.{firstWay}
 use Rattle.work_memory.specs.Memory.{Memory}
 use Rattle.reading.specs.Answer.{Asked, sessionAfter, answerFor}
 use Rattle.decoding.specs.Answer.{Way}
-use Rattle.theora.specs.Call.{Call, outcomeOf, byRules}
+use Rattle.calls.specs.Call.{Call, outcomeOf, byRules}
 use Rattle.packet_list.specs.Packets.{packetsIn}
 use Rattle.shot_packets.specs.Play.{Shot, stateOf, callOf, after, oneMore, played}
 use Rattle.shot.specs.Call.{ShotCall, ShotDone, shotCall, shotNumber, startOf, ended, unchanged, byShot}

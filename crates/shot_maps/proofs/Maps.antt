@@ -23,14 +23,15 @@ use Rattle.reading.specs.declared.Verdict.{Verdict}
 use Rattle.reading.specs.declared.Verdict.the-variants.{Refused}
 use Rattle.reading.specs.Answer.{Asked, sessionAfter, answerFor}
 use Rattle.decoding.specs.Answer.{State, Done, Way}
-use Rattle.theora.specs.Call.{Call, outcomeOf, byRules}
+use Rattle.calls.specs.Call.{Call, outcomeOf, byRules}
 use Rattle.packet_list.specs.Packets.{packetsIn}
 use Rattle.packet_list.proofs.Walk.{packets-left, packets-none}
 use Rattle.buffer_names.specs.declared.Names.{Names}
 use Rattle.buffer_names.specs.Names.{free, Sound}
 use Rattle.buffer_names.proofs.Free.{free-is}
-use Rattle.shot_packets.specs.Play.{Shot, shot, bufferOf, stateOf, callOf, after, oneMore, played}
-use Rattle.shot_packets.proofs.Rules.{index, apart}
+use Rattle.frame_into.specs.Buffers.{bufferOf, index}
+use Rattle.shot_packets.specs.Play.{Shot, shot, stateOf, callOf, after, oneMore, played}
+use Rattle.shot_packets.proofs.Rules.{apart}
 use Rattle.changed_tiles.specs.Call.{mapLengthOf, mapFits, mapAfter, refusedBy, frameFor, tilesCall}
 use Rattle.changed_tiles.proofs.Calls.{map-here}
 use Rattle.shot_maps.specs.Maps.{mapOf, mapsAfter, withPart}

@@ -14,8 +14,8 @@ use Rattle.reading.specs.declared.Verdict.{Verdict}
 use Rattle.reading.specs.declared.Verdict.the-variants.{Accepted, Refused}
 use Rattle.reading.specs.Counted.{Uncounted}
 use Rattle.decoding.specs.Answer.{Way, State}
-use Rattle.theora.specs.Call.{Call, lengthsHold, outcomeOf, byRules}
-use Rattle.theora.specs.Demand.{Turn, turns}
+use Rattle.calls.specs.Call.{Call, lengthsHold, outcomeOf, byRules}
+use Rattle.calls.specs.Demand.{Turn, turns}
 
 -- ---- counting
 -- "accepted key frames": one more for an accepted intra frame

@@ -12,7 +12,7 @@ use Rattle.work_memory.specs.Lengths.{blocks}
 use Rattle.reading.specs.declared.Verdict.the-variants.{Accepted}
 use Rattle.reading.specs.Answer.{Asked}
 use Rattle.decoding.specs.Answer.{Way, State}
-use Rattle.theora.specs.Call.{Call, outcomeOf, byRules}
+use Rattle.calls.specs.Call.{Call, outcomeOf, byRules}
 
 -- what is said of an accepted call, of which a is what its packet says
 pub record TokensOf (st : State) (c : Call) (a : Asked) : Type 0 where

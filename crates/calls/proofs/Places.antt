@@ -20,8 +20,8 @@ use Rattle.frame_packet.proofs.Laws.{packetNumbers, packet-inside, packet-refus
 use Rattle.reading.specs.Answer.{read}
 use Rattle.reading.proofs.Places.{read-refused}
 use Rattle.decoding.specs.Answer.{State}
-use Rattle.theora.specs.Call.{Call, lengthsHold, outcomeOf}
-use Rattle.theora.specs.Places.{insideNumbers, Placed, Places}
+use Rattle.calls.specs.Call.{Call, lengthsHold, outcomeOf}
+use Rattle.calls.specs.Places.{insideNumbers, Placed, Places}
 
 -- each number of a list is one of m
 abbrev Each : (m l : List ℕ) → Type 0

@@ -10,7 +10,7 @@ use Rattle.headers.specs.Sizes.{format}
 use Rattle.frame_header.specs.declared.Kind.the-variants.{Intra}
 use Rattle.reading.specs.Answer.{Asked}
 use Rattle.decoding.specs.Answer.{State, picture}
-use Rattle.theora.specs.Call.{Call, outcomeOf}
+use Rattle.calls.specs.Call.{Call, outcomeOf}
 
 -- "9: an inter or empty packet and no references"; "Intra: all coded": what is accepted without references is intra and codes every block
 abbrev pub FirstCodesAll : Type 0

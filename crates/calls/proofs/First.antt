@@ -35,9 +35,9 @@ use Rattle.reconstruct.specs.Picture.{pictureOf, recordOf}
 use Rattle.reading.specs.Answer.{Asked}
 use Rattle.decoding.specs.Answer.{State, picture, blocksAsked}
 use Rattle.tokens.specs.Tokens.{readTokens}
-use Rattle.theora.specs.Call.{Call, outcomeOf}
-use Rattle.theora.specs.First.{FirstCodesAll, EmptyCodesNone}
-use Rattle.theora.proofs.Tokens.{outcome-got}
+use Rattle.calls.specs.Call.{Call, outcomeOf}
+use Rattle.calls.specs.First.{FirstCodesAll, EmptyCodesNone}
+use Rattle.calls.proofs.Tokens.{outcome-got}
 
 module _ (f : PixelFormat) (w h : ℕ) where
   -- the flags of an intra frame are all 1

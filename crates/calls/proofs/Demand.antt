@@ -18,9 +18,9 @@ use Rattle.headers.specs.Sizes.{format}
 use Rattle.work_memory.specs.Lengths.{blocks}
 use Rattle.reading.specs.Answer.{Asked, read, answerFor}
 use Rattle.decoding.specs.Answer.{State, Done, done, picture, newBy, state}
-use Rattle.theora.specs.Call.{Call, lengthsHold, outcomeOf, memoryAfter, byRules, FramePromise}
-use Rattle.theora.proofs.Lengths.{lent-lengths}
-use Rattle.theora.specs.Demand.{Turn, turn, turns, Ran, UncodedKept, Demand3, Demand3Holds}
+use Rattle.calls.specs.Call.{Call, lengthsHold, outcomeOf, memoryAfter, byRules, FramePromise}
+use Rattle.calls.proofs.Lengths.{lent-lengths}
+use Rattle.calls.specs.Demand.{Turn, turn, turns, Ran, UncodedKept, Demand3, Demand3Holds}
 
 -- an accepted call passed both tests
 passed : (a b : Bool) (o : Outcome Asked) {x : Asked} {e : ℕ} → choose a (choose b o (refused 1 0)) (refused 8 0) ≡ got x e → b ≡ true

@@ -1,9 +1,9 @@
--- `theora::buffers_fit` meets its contract. Assumes nothing.
+-- `calls::buffers_fit` meets its contract. Assumes nothing.
 use native.Mathlib.Omega.{arith}
 use Rattle.headers.proofs.Fitting.{chain-all}
-use Rattle.theora.specs.Lengths.{buffersFit}
-use Rattle.theora.proofs.buffers_fit.Statement.{statement}
-use Rattle.theora.proofs.buffers_fit.Tie as tie
+use Rattle.calls.specs.Lengths.{buffersFit}
+use Rattle.calls.proofs.buffers_fit.Statement.{statement}
+use Rattle.calls.proofs.buffers_fit.Tie as tie
 
 mul-buffer : tie.Need-mul-buffer
 mul-buffer c = omega arith

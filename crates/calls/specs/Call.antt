@@ -11,7 +11,7 @@ use Rattle.work_memory.specs.Memory.{Memory}
 use Rattle.work_memory.specs.Lengths.{blocks, lengthsOf, lengthsFit, cleared}
 use Rattle.reading.specs.Answer.{Asked, read, answerFor}
 use Rattle.decoding.specs.Answer.{State, Done, Way, done, newBy}
-use Rattle.theora.specs.Lengths.{buffersFit}
+use Rattle.calls.specs.Lengths.{buffersFit}
 
 -- what a call brings
 pub record Call : Type 0 where

@@ -17,7 +17,7 @@ use Rattle.work_memory.specs.Memory.{Memory}
 use Rattle.work_memory.specs.Lengths.{blocks, lengthsOf, lengthsFit}
 use Rattle.work_memory.proofs.Lengths.{session-small}
 use Rattle.work_memory.proofs.Clearing.{fit-bits, fit-active}
-use Rattle.theora.specs.Lengths.{buffersFit}
+use Rattle.calls.specs.Lengths.{buffersFit}
 
 -- "Table memory has one fixed length, at most 1,048,576 bytes"
 pub table-bytes-few : tableBytes ≤ 1048576

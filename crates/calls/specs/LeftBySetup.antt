@@ -12,7 +12,7 @@ use Rattle.setup.specs.Header.{Setup}
 use Rattle.setup.specs.Table.{setupOutcome, tableAfter}
 use Rattle.reading.specs.Answer.{readBy}
 use Rattle.decoding.specs.Answer.{State}
-use Rattle.theora.specs.Call.{Call, lengthsHold, outcomeOf}
+use Rattle.calls.specs.Call.{Call, lengthsHold, outcomeOf}
 
 -- a setup call with this packet and this memory is accepted, and leaves t
 pub record SetupLeaves (packet old : List ℕ) (s : Setup) (t : List ℕ) : Type 0 where

@@ -20,10 +20,10 @@ use Rattle.reading.specs.Counted.{Uncounted}
 use Rattle.reading.proofs.Places.{read-refused}
 use Rattle.reading.proofs.Counted.{fits-after}
 use Rattle.decoding.specs.Answer.{Way, State}
-use Rattle.theora.specs.Call.{Call, lengthsHold, outcomeOf, byRules}
-use Rattle.theora.specs.Demand.{handedOn, turn, turns}
-use Rattle.theora.specs.KeyFrames.{keyFrameAfter, otherAfter, keyFrames, othersSince, sessionBehind, BothStart, NumbersCount, SessionsFit, SeventeenExactly}
-use Rattle.theora.proofs.Tokens.{outcome-got}
+use Rattle.calls.specs.Call.{Call, lengthsHold, outcomeOf, byRules}
+use Rattle.calls.specs.Demand.{handedOn, turn, turns}
+use Rattle.calls.specs.KeyFrames.{keyFrameAfter, otherAfter, keyFrames, othersSince, sessionBehind, BothStart, NumbersCount, SessionsFit, SeventeenExactly}
+use Rattle.calls.proofs.Tokens.{outcome-got}
 
 pub both-start : BothStart
 both-start p s e h = let a = accepted-fits p 0 h in (a .2, a .3)

@@ -14,8 +14,8 @@ use Rattle.setup.specs.Header.{Setup, setupHeader}
 use Rattle.setup.specs.Table.{tableBytes, setupOutcome, tableAfter, isTable, heldSetup}
 use Rattle.setup.proofs.Laws.{exact, accepted-table, accepted-reads}
 use Rattle.reading.specs.Answer.{read, readBy}
-use Rattle.theora.specs.Call.{outcomeOf}
-use Rattle.theora.specs.LeftBySetup.{SetupLeaves, LeftBySetup, TablesJudged}
+use Rattle.calls.specs.Call.{outcomeOf}
+use Rattle.calls.specs.LeftBySetup.{SetupLeaves, LeftBySetup, TablesJudged}
 
 -- a setup call that is accepted
 leaving : (packet old t : List ℕ) {s : Setup} {e : ℕ} → length old ≡ tableBytes → setupHeader packet 0 ≡ got s e → t ≡ kept packet e tableBytes → SetupLeaves packet old s t

@@ -13,7 +13,7 @@ use Rattle.work_memory.specs.Memory.{Memory}
 use Rattle.reading.specs.Answer.{read, answerFor}
 use Rattle.decoding.specs.Answer.{State, Done, state, done, decoded}
 use Rattle.reading.proofs.Readable.{read-readable}
-use Rattle.theora.specs.Call.{Call, call, lengthsHold, outcomeOf, memoryAfter, byRules}
+use Rattle.calls.specs.Call.{Call, call, lengthsHold, outcomeOf, memoryAfter, byRules}
 
 module _ (s : Session) (golden previous packet table new : List ℕ) (m : Memory) where
   abbrev st : State

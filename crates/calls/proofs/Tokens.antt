@@ -13,8 +13,8 @@ use Rattle.frame_packet.proofs.Examples.{ones-all}
 use Rattle.reading.specs.Answer.{Asked, staysCounted, read, answerFor}
 use Rattle.reading.proofs.Places.{outcome-by, read-got}
 use Rattle.decoding.specs.Answer.{State}
-use Rattle.theora.specs.Call.{Call, lengthsHold, outcomeOf, byRules}
-use Rattle.theora.specs.Tokens.{TokensCounted, TokensReached}
+use Rattle.calls.specs.Call.{Call, lengthsHold, outcomeOf, byRules}
+use Rattle.calls.specs.Tokens.{TokensCounted, TokensReached}
 
 -- an accepted call read its packet, and the session's numbers stay
 pub outcome-got : (st : State) (c : Call) {a : Asked} {e : ℕ} → outcomeOf st c ≡ got a e

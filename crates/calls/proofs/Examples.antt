@@ -15,8 +15,8 @@ use Rattle.reading.specs.declared.Verdict.the-variants.{Accepted, Refused}
 use Rattle.work_memory.specs.Memory.{Memory}
 use Rattle.reading.specs.Answer.{sessionAfter}
 use Rattle.decoding.specs.Answer.{State, Done, state}
-use Rattle.theora.specs.Call.{Call}
-use Rattle.theora.specs.Demand.{Turn, turns}
+use Rattle.calls.specs.Call.{Call}
+use Rattle.calls.specs.Demand.{Turn, turns}
 
 module _ (memory : Memory) where
   session : Session
