@@ -11,7 +11,7 @@ use Rattle.ways.specs.Ways.{firstWay}
 use Rattle.reading.specs.declared.FrameAnswer.{FrameAnswer}
 use Rattle.work_memory.specs.Memory.{Memory}
 use Rattle.reading.specs.Answer.{read, answerFor}
-use Rattle.decoding.specs.Answer.{State, Done, state, done, decoded}
+use Rattle.asked_frame.specs.Answer.{State, Done, state, done, decoded}
 use Rattle.reading.proofs.Readable.{read-readable}
 use Rattle.calls.specs.Call.{Call, call, lengthsHold, outcomeOf, memoryAfter, byRules}
 

@@ -17,7 +17,7 @@ use Rattle.ways.proofs.Kept.{differs-along}
 use Rattle.headers.specs.Sizes.{format}
 use Rattle.work_memory.specs.Lengths.{blocks}
 use Rattle.reading.specs.Answer.{Asked, read, answerFor}
-use Rattle.decoding.specs.Answer.{State, Done, done, picture, newBy, state}
+use Rattle.asked_frame.specs.Answer.{State, Done, done, picture, newBy, state}
 use Rattle.calls.specs.Call.{Call, lengthsHold, outcomeOf, memoryAfter, byRules, FramePromise}
 use Rattle.calls.proofs.Lengths.{lent-lengths}
 use Rattle.calls.specs.Demand.{Turn, turn, turns, Ran, UncodedKept, Demand3, Demand3Holds}

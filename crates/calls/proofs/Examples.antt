@@ -14,7 +14,7 @@ use Rattle.reading.specs.declared.Verdict.{Verdict}
 use Rattle.reading.specs.declared.Verdict.the-variants.{Accepted, Refused}
 use Rattle.work_memory.specs.Memory.{Memory}
 use Rattle.reading.specs.Answer.{sessionAfter}
-use Rattle.decoding.specs.Answer.{State, Done, state}
+use Rattle.asked_frame.specs.Answer.{State, Done, state}
 use Rattle.calls.specs.Call.{Call}
 use Rattle.calls.specs.Demand.{Turn, turns}
 

@@ -33,7 +33,7 @@ use Rattle.frame_packet.proofs.Laws.{tokensThen, indexThen, vectorsThen, made, 
 use Rattle.frame_packet.proofs.Fits.{vectors-of-keep, packet-fits, packet-kind, packet-repeat}
 use Rattle.reconstruct.specs.Picture.{pictureOf, recordOf}
 use Rattle.reading.specs.Answer.{Asked}
-use Rattle.decoding.specs.Answer.{State, picture, blocksAsked}
+use Rattle.asked_frame.specs.Answer.{State, picture, blocksAsked}
 use Rattle.tokens.specs.Tokens.{readTokens}
 use Rattle.calls.specs.Call.{Call, outcomeOf}
 use Rattle.calls.specs.First.{FirstCodesAll, EmptyCodesNone}

@@ -19,7 +19,7 @@ use Rattle.reading.specs.Answer.{Asked, staysCounted, read, sessionAfter, answe
 use Rattle.reading.specs.Counted.{Uncounted}
 use Rattle.reading.proofs.Places.{read-refused}
 use Rattle.reading.proofs.Counted.{fits-after}
-use Rattle.decoding.specs.Answer.{Way, State}
+use Rattle.asked_frame.specs.Answer.{Way, State}
 use Rattle.calls.specs.Call.{Call, lengthsHold, outcomeOf, byRules}
 use Rattle.calls.specs.Demand.{handedOn, turn, turns}
 use Rattle.calls.specs.KeyFrames.{keyFrameAfter, otherAfter, keyFrames, othersSince, sessionBehind, BothStart, NumbersCount, SessionsFit, SeventeenExactly}

@@ -19,7 +19,7 @@ use Rattle.setup.proofs.Laws.{setup-inside, setup-refuses}
 use Rattle.frame_packet.proofs.Laws.{packetNumbers, packet-inside, packet-refuses}
 use Rattle.reading.specs.Answer.{read}
 use Rattle.reading.proofs.Places.{read-refused}
-use Rattle.decoding.specs.Answer.{State}
+use Rattle.asked_frame.specs.Answer.{State}
 use Rattle.calls.specs.Call.{Call, lengthsHold, outcomeOf}
 use Rattle.calls.specs.Places.{insideNumbers, Placed, Places}
 

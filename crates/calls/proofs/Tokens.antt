@@ -12,7 +12,7 @@ use Rattle.frame_packet.proofs.Fits.{packet-repeat}
 use Rattle.frame_packet.proofs.Examples.{ones-all}
 use Rattle.reading.specs.Answer.{Asked, staysCounted, read, answerFor}
 use Rattle.reading.proofs.Places.{outcome-by, read-got}
-use Rattle.decoding.specs.Answer.{State}
+use Rattle.asked_frame.specs.Answer.{State}
 use Rattle.calls.specs.Call.{Call, lengthsHold, outcomeOf, byRules}
 use Rattle.calls.specs.Tokens.{TokensCounted, TokensReached}
 

@@ -10,7 +10,7 @@ use Rattle.ways.specs.Ways.{firstWay}
 use Rattle.work_memory.specs.Memory.{Memory}
 use Rattle.work_memory.specs.Lengths.{blocks, lengthsOf, lengthsFit, cleared}
 use Rattle.reading.specs.Answer.{Asked, read, answerFor}
-use Rattle.decoding.specs.Answer.{State, Done, Way, done, newBy}
+use Rattle.asked_frame.specs.Answer.{State, Done, Way, done, newBy}
 use Rattle.calls.specs.Lengths.{buffersFit}
 
 -- what a call brings

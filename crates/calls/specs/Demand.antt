@@ -19,7 +19,7 @@ use Rattle.reading.specs.declared.Verdict.{Verdict}
 use Rattle.reading.specs.declared.Verdict.the-variants.{Accepted, Refused}
 use Rattle.headers.specs.Sizes.{format}
 use Rattle.reading.specs.Answer.{Asked}
-use Rattle.decoding.specs.Answer.{State, Done, state, picture}
+use Rattle.asked_frame.specs.Answer.{State, Done, state, picture}
 use Rattle.calls.specs.Call.{Call, outcomeOf, byRules, FramePromise}
 
 -- "After an accepted intra frame new becomes golden and previous, after another accepted packet previous; after a refusal all stay"

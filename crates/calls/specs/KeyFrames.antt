@@ -13,7 +13,7 @@ use Rattle.frame_header.specs.declared.Kind.the-variants.{Intra, Inter, Repeat}
 use Rattle.reading.specs.declared.Verdict.{Verdict}
 use Rattle.reading.specs.declared.Verdict.the-variants.{Accepted, Refused}
 use Rattle.reading.specs.Counted.{Uncounted}
-use Rattle.decoding.specs.Answer.{Way, State}
+use Rattle.asked_frame.specs.Answer.{Way, State}
 use Rattle.calls.specs.Call.{Call, lengthsHold, outcomeOf, byRules}
 use Rattle.calls.specs.Demand.{Turn, turns}
 

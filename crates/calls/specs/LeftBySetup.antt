@@ -11,7 +11,7 @@ use Rattle.table_memory.specs.Genuine.{Bytes}
 use Rattle.setup.specs.Header.{Setup}
 use Rattle.setup.specs.Table.{setupOutcome, tableAfter}
 use Rattle.reading.specs.Answer.{readBy}
-use Rattle.decoding.specs.Answer.{State}
+use Rattle.asked_frame.specs.Answer.{State}
 use Rattle.calls.specs.Call.{Call, lengthsHold, outcomeOf}
 
 -- a setup call with this packet and this memory is accepted, and leaves t

@@ -8,7 +8,7 @@ use Rattle.bitstream.specs.Lists.{among}
 use Rattle.bitstream.specs.Reading.{refused}
 use Rattle.headers.specs.Identification.{identification}
 use Rattle.setup.specs.Table.{setupOutcome}
-use Rattle.decoding.specs.Answer.{State}
+use Rattle.asked_frame.specs.Answer.{State}
 use Rattle.calls.specs.Call.{Call, outcomeOf}
 
 -- "each refusal found inside a packet (2 to 7 and 9 to 13)"

@@ -11,7 +11,7 @@ use Rattle.frame_packet.specs.Frame.{Frame, framePacket}
 use Rattle.work_memory.specs.Lengths.{blocks}
 use Rattle.reading.specs.declared.Verdict.the-variants.{Accepted}
 use Rattle.reading.specs.Answer.{Asked}
-use Rattle.decoding.specs.Answer.{Way, State}
+use Rattle.asked_frame.specs.Answer.{Way, State}
 use Rattle.calls.specs.Call.{Call, outcomeOf, byRules}
 
 -- what is said of an accepted call, of which a is what its packet says

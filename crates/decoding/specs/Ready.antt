@@ -15,7 +15,7 @@ use Rattle.reading.specs.Answer.{readBy}
 use Rattle.work_memory.specs.Memory.{Work, memory}
 use Rattle.work_memory.specs.Lengths.{blocks}
 use Rattle.decoding.specs.declared.Prepared.{Prepared}
-use Rattle.decoding.specs.Answer.{state, done, decoded}
+use Rattle.asked_frame.specs.Answer.{state, done, decoded}
 
 -- what is left of work memory once the frame is made: the five lists of the blocks are all zero
 pub record Emptied (w : Work) (records coded : List ℕ) (coefs dc dc₀ : List ℤ) (lasts : List ℕ) : Type 0 where

@@ -1,9 +1,11 @@
 // A frame packet, decoded by a session and a table memory: what is answered, the frame, and work memory, which is all zero before and after.
 use asked_frame::Next;
 use bitstream::End;
+use frame_header::Header;
 use geometry::PixelFormat;
 use headers::Session;
 use kept_matrices::KeptMatrices;
+use quantization::LoadedParameters;
 use reading::FrameAnswer;
 use setup::LoadedSetup;
 ghost use Rattle.bitstream.specs.Bits.{longest};
@@ -11,7 +13,9 @@ ghost use mathlib.Core.Path.{_≡_};
 ghost use mathlib.Core.Bool.{true, false};
 ghost use Prim.Native.Nat.{_*_, _≤_, _<_};
 ghost use lib.ListN.{length, getD};
-ghost use Rattle.kept_matrices.specs.Kept.{Keeps};
+ghost use Rattle.quantization.specs.Sound.{Held as HeldParameters};
+ghost use Rattle.matrices.specs.All.{AllQi};
+ghost use Rattle.kept_matrices.specs.Kept.{Keeps, Serves};
 ghost use Rattle.setup.specs.Header.{Setup};
 ghost use Rattle.setup.specs.Loaded.{Holds, Held};
 ghost use Rattle.setup.specs.Table.{tableBytes};
@@ -53,6 +57,34 @@ fn refuse(answer: FrameAnswer, format: PixelFormat, kept: KeptMatrices) -> Prepa
         limit: 0,
         format,
         kept,
+    }
+}
+
+// A packet that is accepted, by its header and the number of its coded blocks.
+fn accept(
+    table: &[u8],
+    parameters: LoadedParameters,
+    limits: [u16; 64],
+    kept: KeptMatrices,
+    answer: FrameAnswer,
+    header: Header,
+    count: usize,
+    format: PixelFormat,
+) -> Prepared
+    requires { ⌜ (length (now table) ≤ longest) × HeldParameters (now table) parameters × Keeps (now table) parameters kept × (header .count ≤ 3) × AllQi (header .qis) 3 × (getD limits (getD (header .qis) 0 0) 0 ≤ 127) ⌝ }
+    ensures { λ r. ⌜ (r .accepted ≡ true) × (r .answer ≡ answer) × (r .count ≡ count) × (r .limit ≡ getD limits (getD (header .qis) 0 0) 0) × (r .format ≡ format)
+        × Serves (now (table .entry)) parameters (header .qis) (header .count) (r .kept) ⌝ }
+{
+    let qis = header.qis;
+    let matrices = kept_matrices::kept_for(table, parameters, qis, header.count, kept);
+    let limit = limit_of(limits, qis);
+    Prepared {
+        answer,
+        accepted: true,
+        count,
+        limit,
+        format,
+        kept: matrices,
     }
 }
 
@@ -110,24 +142,17 @@ pub fn read_packet(
         }
         Next::Make(count) => {
             let header = got.header;
-            let qis = header.qis;
-            let matrices = kept_matrices::kept_for(
+            let limits = loaded.limits;
+            accept(
                 table,
                 loaded.parameters,
-                qis,
-                header.count,
+                limits,
                 kept,
-            );
-            let limits = loaded.limits;
-            let limit = limit_of(limits, qis);
-            Prepared {
                 answer,
-                accepted: true,
+                header,
                 count,
-                limit,
                 format,
-                kept: matrices,
-            }
+            )
         }
     }
 }

@@ -69,6 +69,17 @@ cleared-after Intra s = refl
 cleared-after Inter s = refl
 cleared-after Repeat s = refl
 
+-- ---- nor do the fields of the session
+after-fields : (kind : Kind) (s : Session) → sessionAfter kind s .fields ≡ s .fields
+unfolding sessionAfter
+after-fields Intra s = refl
+after-fields Inter s = refl
+after-fields Repeat s = refl
+
+pub answer-fields : (s : Session) (o : Outcome Asked) → answerFor s o .session .fields ≡ s .fields
+answer-fields s (refused k e) = refl
+answer-fields s (got a e) = after-fields (a .frame .header .kind) s
+
 -- ---- names that are sound
 small-index : (k : ℕ) → k < 3 → index k ≡ k
 small-index k l = ap (λ (t : Bool). choose t k 1) (lt-ltb k 3 l)
