@@ -12,8 +12,8 @@ use Rattle.frame_header.specs.Answer.{asHeader}
 use Rattle.frame_packet.specs.Frame.{Frame}
 use Rattle.frame_packet.specs.Work.{asFrame}
 use Rattle.frame_packet.specs.declared.FrameRead.{FrameRead}
-use Rattle.frame_packet.specs.declared.Read.{Read}
-use Rattle.frame_packet.specs.declared.Read.the-variants.{Whole, Refused}
+use Rattle.packet_body.specs.declared.Read.{Read}
+use Rattle.packet_body.specs.declared.Read.the-variants.{Whole, Refused}
 use Rattle.frame_packet.proofs.Held.{read-refused, read-whole}
 use Rattle.reading.specs.declared.FrameAnswer.{FrameAnswer}
 use Rattle.reading.specs.declared.Verdict.the-variants.{Accepted}

@@ -2,8 +2,8 @@
 use mathlib.Core.Bool.{Bool, true, false}
 use Rattle.headers.specs.declared.Session.{Session}
 use Rattle.frame_packet.specs.declared.FrameRead.{FrameRead}
-use Rattle.frame_packet.specs.declared.Read.{Read}
-use Rattle.frame_packet.specs.declared.Read.the-variants.{Whole, Refused}
+use Rattle.packet_body.specs.declared.Read.{Read}
+use Rattle.packet_body.specs.declared.Read.the-variants.{Whole, Refused}
 use Rattle.reading.specs.Answer.{staysCounted}
 use Rattle.asked_frame.specs.declared.Next.{Next}
 use Rattle.asked_frame.specs.declared.Next.the-variants.{Nothing, Clear, Make}

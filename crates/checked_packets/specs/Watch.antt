@@ -10,7 +10,7 @@ use Rattle.work_memory.specs.Memory.{Memory}
 use Rattle.reading.specs.declared.Verdict.{Verdict}
 use Rattle.reading.specs.declared.Verdict.the-variants.{Accepted, Refused}
 use Rattle.decoding.specs.Answer.{State, Done}
-use Rattle.theora.specs.Call.{Call, byRules}
+use Rattle.calls.specs.Call.{Call, byRules}
 use Rattle.buffer_names.specs.declared.Names.{Names}
 use Rattle.stream_numbers.specs.declared.Numbers.{Numbers}
 use Rattle.stream_numbers.specs.Numbers.{numbersOf}

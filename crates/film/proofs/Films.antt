@@ -9,8 +9,8 @@ use borrow.Author.Tests.{eq-eqb}
 use Rattle.headers.specs.declared.Session.{Session}
 use Rattle.headers.specs.Fits.{sessionFits}
 use Rattle.ways.specs.Ways.{firstWay}
-use Rattle.theora.specs.Call.{byRules}
-use Rattle.theora.specs.Demand.{Turn, turns}
+use Rattle.calls.specs.Call.{byRules}
+use Rattle.calls.specs.Demand.{Turn, turns}
 use Rattle.output.specs.Output.{gives}
 use Rattle.output.proofs.Splices.{within-fits}
 use Rattle.stream_numbers.specs.Numbers.{numbersOf}

@@ -34,9 +34,9 @@ use Rattle.reconstruct.specs.Picture.{Blocks, Matrices, recordOf, residualOf, s
 use Rattle.work_memory.specs.Lengths.{blocks, lengthsOf, lengthsFit, cleared}
 use Rattle.reading.specs.Answer.{Asked, read, answerFor}
 use Rattle.decoding.specs.Answer.{State, state, done, blocksAsked, matricesAsked, qiAt, picture, newBy}
-use Rattle.theora.specs.Lengths.{buffersFit}
-use Rattle.theora.specs.Call.{Call, lengthsHold, outcomeOf, memoryAfter, byRules}
-use Rattle.theora.proofs.Tokens.{outcome-got}
+use Rattle.calls.specs.Lengths.{buffersFit}
+use Rattle.calls.specs.Call.{Call, lengthsHold, outcomeOf, memoryAfter, byRules}
+use Rattle.calls.proofs.Tokens.{outcome-got}
 use Rattle.shot_packets.proofs.Rules.{outcome-kind}
 use Rattle.shot.specs.Claims.{Alone}
 

@@ -9,7 +9,7 @@ use lib.ListN.{length, drop}
 use borrow.Author.Tests.{eqb-true, eqb-false, leb-false, lt-leb}
 use Rattle.setup.specs.Table.{isTable}
 use Rattle.decoding.specs.Answer.{State, Done}
-use Rattle.theora.specs.Call.{Call, byRules}
+use Rattle.calls.specs.Call.{Call, byRules}
 use Rattle.padding.proofs.Padding.{padding-holds}
 use Rattle.packet_list.specs.Packets.{packetsIn, total}
 use Rattle.packet_list.proofs.Cut.{packets-cut}

@@ -11,9 +11,9 @@ use Rattle.bitstream.specs.Reading.{choose}
 use Rattle.ways.specs.Ways.{firstWay}
 use Rattle.reading.specs.declared.FrameAnswer.{FrameAnswer}
 use Rattle.decoding.specs.Answer.{State, Done, Way}
-use Rattle.theora.specs.Call.{Call, byRules}
-use Rattle.theora.specs.Demand.{turns}
-use Rattle.theora.proofs.Demand.{call-agrees, demand3}
+use Rattle.calls.specs.Call.{Call, byRules}
+use Rattle.calls.specs.Demand.{turns}
+use Rattle.calls.proofs.Demand.{call-agrees, demand3}
 use Rattle.packet_list.specs.Packets.{packetsIn}
 use Rattle.buffer_names.specs.Names.{Sound}
 use Rattle.buffer_names.proofs.First.{sound-first}

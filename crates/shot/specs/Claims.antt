@@ -10,8 +10,8 @@ use Rattle.setup.specs.Table.{isTable}
 use Rattle.ways.specs.Ways.{firstWay, secondWay}
 use Rattle.reading.specs.declared.FrameAnswer.{FrameAnswer}
 use Rattle.decoding.specs.Answer.{State, Done, Way, state}
-use Rattle.theora.specs.Call.{Call, byRules}
-use Rattle.theora.specs.Demand.{Turn, turns, Demand3}
+use Rattle.calls.specs.Call.{Call, byRules}
+use Rattle.calls.specs.Demand.{Turn, turns, Demand3}
 use Rattle.padding.specs.Padding.{SettledCall}
 use Rattle.packet_list.specs.Packets.{packetsIn, total}
 use Rattle.shot_packets.specs.Play.{Shot, stateOf, callOf, after, oneMore, played}

@@ -8,7 +8,7 @@ use Rattle.geometry.specs.Sizes.{across, squares as tiles}
 use Rattle.headers.specs.Sizes.{format}
 use Rattle.settings.specs.declared.Settings.{Settings}
 use Rattle.ways.specs.Ways.{firstWay}
-use Rattle.theora.specs.Call.{byRules}
+use Rattle.calls.specs.Call.{byRules}
 use Rattle.packet_list.specs.Packets.{packetsIn, total}
 use Rattle.packet_list.proofs.Cut.{packets-cut, packets-many}
 use Rattle.shot_packets.specs.Play.{played}

@@ -20,7 +20,7 @@ use Rattle.ways.specs.Ways.{firstWay}
 use Rattle.work_memory.specs.Memory.{Memory}
 use Rattle.work_memory.specs.Lengths.{lengthsOf, cleared}
 use Rattle.decoding.specs.Answer.{Done}
-use Rattle.theora.specs.Call.{byRules}
+use Rattle.calls.specs.Call.{byRules}
 use Rattle.packet_list.specs.Packets.{packetsIn}
 use Rattle.buffer_names.specs.declared.Names.{Names}
 use Rattle.buffer_names.specs.Names.{names, namesOf, free}

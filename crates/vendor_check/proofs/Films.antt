@@ -12,8 +12,8 @@ use Rattle.ways.specs.Ways.{firstWay}
 use Rattle.reading.specs.declared.Verdict.{Verdict}
 use Rattle.reading.specs.declared.Verdict.the-variants as verdict
 use Rattle.decoding.specs.Answer.{State, Done}
-use Rattle.theora.specs.Call.{Call, byRules}
-use Rattle.theora.specs.Demand.{Turn, turns}
+use Rattle.calls.specs.Call.{Call, byRules}
+use Rattle.calls.specs.Demand.{Turn, turns}
 use Rattle.buffer_names.specs.Names.{Sound}
 use Rattle.stream_numbers.specs.declared.Numbers.{Numbers}
 use Rattle.stream_numbers.specs.Numbers.{numbersOf}

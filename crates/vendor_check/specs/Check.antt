@@ -15,8 +15,8 @@ use Rattle.work_memory.specs.Memory.{Memory}
 use Rattle.reading.specs.declared.FrameAnswer.{FrameAnswer}
 use Rattle.reading.specs.declared.Verdict.{Verdict}
 use Rattle.reading.specs.declared.Verdict.the-variants as verdict
-use Rattle.theora.specs.Call.{byRules}
-use Rattle.theora.specs.Demand.{Turn, turns}
+use Rattle.calls.specs.Call.{byRules}
+use Rattle.calls.specs.Demand.{Turn, turns}
 use Rattle.packet_list.specs.Packets.{packetsIn}
 use Rattle.text.specs.Same.{same}
 use Rattle.stream_numbers.specs.Numbers.{numbersOf}

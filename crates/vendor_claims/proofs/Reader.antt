@@ -17,7 +17,7 @@ use Rattle.shot.proofs.Turns.{accepted-passed}
 use Rattle.shot.specs.Call.{startOf}
 use Rattle.shot.specs.Claims.{callsOf}
 use Rattle.shot_packets.specs.Play.{stateOf}
-use Rattle.theora.specs.Call.{byRules}
+use Rattle.calls.specs.Call.{byRules}
 use Rattle.ways.specs.Ways.{firstWay}
 use Rattle.packet_list.specs.Packets.{packetsIn}
 use Rattle.film.specs.Film.{framesOf, joined, filmOf}
