@@ -21,9 +21,9 @@ use Rattle.y4m.proofs.Streams.{stream-read, session-bytes}
 use Rattle.packet_list.specs.Packets.{packetsIn}
 use Rattle.shot_packets.specs.Play.{stateOf}
 use Rattle.shot.specs.Call.{startOf}
-use Rattle.shot.specs.Claims.{callsOf}
+use Rattle.shot_claims.specs.Claims.{callsOf}
 use Rattle.shot.proofs.Calls.{passes}
-use Rattle.shot.proofs.Turns.{accepted-passed, shot-turns}
+use Rattle.shot_claims.proofs.Turns.{accepted-passed, shot-turns}
 use Rattle.film.specs.Film.{framesOf, joined, filmOf, acceptedIn, FilmIs, FilmsHold, ShotFilmed}
 use Rattle.film.proofs.Frames.{AllLong, joined-length, joined-at, frames-count, all-long}
 

@@ -20,7 +20,7 @@ use Rattle.y4m.specs.Film.{holds, filmIn}
 use Rattle.packet_list.specs.Packets.{packetsIn}
 use Rattle.shot_packets.specs.Play.{stateOf, played}
 use Rattle.shot.specs.Call.{ShotCall, shotNumber, startOf}
-use Rattle.shot.specs.Claims.{callsOf, answerOf}
+use Rattle.shot_claims.specs.Claims.{callsOf, answerOf}
 
 -- an accepted call gives its new frame, in front of those that follow; a refused one gives none
 abbrev pub withFrame : Verdict → (new : List ℕ) → List (List ℕ) → List (List ℕ)

@@ -32,7 +32,7 @@ use Rattle.shot_packets.proofs.Packet.{cleared-memory}
 use Rattle.shot_packets.proofs.Loop.{holds}
 use Rattle.shot.specs.declared.ShotVerdict.the-variants.{Played}
 use Rattle.shot.specs.Call.{ShotCall, ShotDone, shotCall, shotDone, reaches, lentNumber, shotNumber, startOf, unchanged, byShot}
-use Rattle.shot.specs.Claims.{answerOf}
+use Rattle.shot_claims.specs.Claims.{answerOf}
 use Rattle.shot.proofs.Calls.{passes, number-0, shot-refused, shot-empty, shot-some, memory-fits, planes-long}
 use Rattle.film.specs.Film.{filmOf}
 use Rattle.checked_packets.specs.declared.Watched.{Watched}

@@ -21,7 +21,7 @@ use Rattle.y4m.specs.Stream.{frameBytes, frameOf, frameText, framesText, header
 use Rattle.y4m.proofs.Streams.{session-bytes}
 use Rattle.shot_packets.specs.Play.{Shot, stateOf, callOf, after, oneMore}
 use Rattle.shot_packets.proofs.Rules.{state-handed, three-after, sound-after}
-use Rattle.shot.specs.Claims.{callsOf, answerOf}
+use Rattle.shot_claims.specs.Claims.{callsOf, answerOf}
 use Rattle.film.specs.Film.{withFrame, framesOf, joined, filmOf}
 use Rattle.film.proofs.Frames.{AllLong, joined-at, all-long}
 use Rattle.stream_check.specs.declared.Compared.{Compared}

@@ -24,7 +24,7 @@ use Rattle.y4m.specs.Stream.{headerText}
 use Rattle.buffer_names.specs.Names.{names}
 use Rattle.shot_packets.specs.Play.{stateOf}
 use Rattle.shot.specs.Call.{ShotCall, shotNumber, startOf, byShot}
-use Rattle.shot.specs.Claims.{callsOf, answerOf}
+use Rattle.shot_claims.specs.Claims.{callsOf, answerOf}
 use Rattle.film.specs.Film.{filmOf}
 use Rattle.stream_check.specs.Compared.{difference, onward, beginning}
 use Rattle.checked_packets.specs.declared.Watched.{Watched}

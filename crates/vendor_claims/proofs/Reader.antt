@@ -13,9 +13,9 @@ use Rattle.y4m.specs.Stream.{frameBytes, streamText}
 use Rattle.y4m.specs.Film.{holds, refused, numbersIn, isStreamOf, bodyOf, framesOf as countIn, planesOf, filmIn}
 use Rattle.y4m.proofs.Streams.{stream-only}
 use Rattle.shot.proofs.Calls.{passes}
-use Rattle.shot.proofs.Turns.{accepted-passed}
+use Rattle.shot_claims.proofs.Turns.{accepted-passed}
 use Rattle.shot.specs.Call.{startOf}
-use Rattle.shot.specs.Claims.{callsOf}
+use Rattle.shot_claims.specs.Claims.{callsOf}
 use Rattle.shot_packets.specs.Play.{stateOf}
 use Rattle.calls.specs.Call.{byRules}
 use Rattle.ways.specs.Ways.{firstWay}

@@ -38,7 +38,7 @@ use Rattle.calls.specs.Lengths.{buffersFit}
 use Rattle.calls.specs.Call.{Call, lengthsHold, outcomeOf, memoryAfter, byRules}
 use Rattle.calls.proofs.Tokens.{outcome-got}
 use Rattle.shot_packets.proofs.Rules.{outcome-kind}
-use Rattle.shot.specs.Claims.{Alone}
+use Rattle.shot_claims.specs.Claims.{Alone}
 
 -- ---- a frame whose blocks are all coded, and predicted from no reference
 module _ (f : PixelFormat) (w h : ℕ) (bs : Blocks) (M : Matrices) (L : ℕ) (all-coded : (b : Block) (c r : ℕ) → Within f w h b c r → recordOf f w h bs b .coded ≡ true)

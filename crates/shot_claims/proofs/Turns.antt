@@ -19,9 +19,9 @@ use Rattle.buffer_names.specs.Names.{Sound}
 use Rattle.buffer_names.proofs.First.{sound-first}
 use Rattle.shot_packets.specs.Play.{Shot, stateOf, callOf, after, oneMore, played}
 use Rattle.shot_packets.proofs.Rules.{state-handed, three-after, sound-after}
 use Rattle.shot.specs.Call.{ShotCall, ShotDone, lentNumber, shotNumber, startOf, ended, unchanged, byShot}
-use Rattle.shot.specs.Claims.{callsOf, shotsOf, answerOf, afterOf, InTurns, ShotTurns}
+use Rattle.shot_claims.specs.Claims.{callsOf, shotsOf, answerOf, afterOf, InTurns, ShotTurns}
 use Rattle.shot.proofs.Calls.{passes, number-lent}
 
 module _ (way : Way) (table : List ℕ) where
   states : (h : Shot) → length (h .planes) ≡ 3 → Sound (h .session) (h .names) → (ps : List (List ℕ))
