@@ -2,6 +2,7 @@
  * How much stack the calls need. Each call runs on a painted stack of its own, and the paint that
  * is gone afterwards says how deep it went. The streams are those of crates/play/data: a packet's
  * length in 4 bytes, the least significant first, and its bytes. At last come the deepest trees.
+ * A check reads both headers and then decodes, in one frame: it may take more than the others.
  */
 #define _XOPEN_SOURCE 600
 #include <stdio.h>
@@ -11,7 +12,7 @@
 
 #include "wedgepetal.h"
 
-enum { STACK = 256 * 1024, MOST = 48 * 1024, PAINT = 0xA5, LONGEST = 1 << 20, PACKETS = 64 };
+enum { STACK = 256 * 1024, MOST = 48 * 1024, CHECK_MOST = 64 * 1024, PAINT = 0xA5, LONGEST = 1 << 20, PACKETS = 64 };
 
 /* What the calls are given. */
 static uint8_t bytes[LONGEST], table[WEDGEPETAL_TABLE_BYTES];
@@ -362,7 +363,7 @@ int main(int argc, char **argv)
     deepest_trees();
     for (i = 0; i < CALLS; i++) {
         printf("%s: %lu bytes of stack\n", calls[i].name, (unsigned long)calls[i].most);
-        failed |= calls[i].most > MOST;
+        failed |= calls[i].most > (i == CHECK ? CHECK_MOST : MOST);
     }
     return failed;
 }

@@ -15,7 +15,7 @@ use Rattle.setup.specs.Table.{tableBytes, isTable}
 use Rattle.queries.specs.declared.BlockAnswer.{BlockAnswer}
 use Rattle.queries.specs.declared.PlaceAnswer.{PlaceAnswer}
 use Rattle.queries.specs.declared.NumberAnswer.{NumberAnswer}
-use Rattle.queries.specs.declared.MatrixAnswer.{MatrixAnswer}
+use Rattle.table_queries.specs.declared.MatrixAnswer.{MatrixAnswer}
 
 -- "references: 0 is no, any other number is yes"
 abbrev pub flag : Bool → ℕ

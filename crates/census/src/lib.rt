@@ -101,7 +101,7 @@ fn count_frames(
         (packetsIn (drop 3 (now (lengths .entry))) (drop start (now (packets .entry))))))) ⌝ }
 {
     let l = work_memory::lengths_of(s);
-    let buffers = theora::buffers_fit(l.records, golden, previous, new, table);
+    let buffers = calls::buffers_fit(l.records, golden, previous, new, table);
     let slices = work_memory::lengths_fit(
         l,
         records,

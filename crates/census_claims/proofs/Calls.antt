@@ -11,8 +11,8 @@ use Rattle.reading.specs.declared.Verdict.{Verdict}
 use Rattle.reading.specs.declared.Verdict.the-variants.{Accepted, Refused}
 use Rattle.reading.specs.Answer.{read, answerFor}
 use Rattle.decoding.specs.Answer.{State, Way, state}
-use Rattle.theora.specs.Call.{Call, call, lengthsHold, outcomeOf, byRules}
-use Rattle.theora.specs.Demand.{turn, turns, handedOn}
+use Rattle.calls.specs.Call.{Call, call, lengthsHold, outcomeOf, byRules}
+use Rattle.calls.specs.Demand.{turn, turns, handedOn}
 use Rattle.report.specs.Report.{plus}
 use Rattle.census_packets.specs.Recording.{Lent, outcomeLent, packetAdds, packetsAdd}
 use Rattle.census_claims.specs.Calls.{turnsAdd, Alike, AsCalls}

@@ -23,8 +23,8 @@ use Rattle.frame_packet.proofs.Laws.{packetNumbers, packet-refuses}
 use Rattle.work_memory.specs.Lengths as lengths
 use Rattle.reading.specs.Answer.{Asked, staysCounted, counted, read, readBy, sessionAfter, answerFor, kindNumber}
 use Rattle.decoding.specs.Answer.{state}
-use Rattle.theora.specs.Call.{call, lengthsHold, outcomeOf}
-use Rattle.theora.proofs.Tokens.{outcome-got}
+use Rattle.calls.specs.Call.{call, lengthsHold, outcomeOf}
+use Rattle.calls.proofs.Tokens.{outcome-got}
 use Rattle.counting.specs.Counts.{sum, frameCounts}
 use Rattle.tally.specs.Counted.{countsOf}
 use Rattle.tally.proofs.Sums.{adds-up}

@@ -3,8 +3,8 @@ use Prim.Native.Nat.{ℕ}
 use mathlib.Core.Path.{_≡_}
 use mathlib.Core.List.{List, [], _∷_}
 use Rattle.decoding.specs.Answer.{State, Way, state}
-use Rattle.theora.specs.Call.{Call, call, lengthsHold, outcomeOf, byRules}
-use Rattle.theora.specs.Demand.{Turn, turns}
+use Rattle.calls.specs.Call.{Call, call, lengthsHold, outcomeOf, byRules}
+use Rattle.calls.specs.Demand.{Turn, turns}
 use Rattle.report.specs.Report.{plus, nothing}
 use Rattle.census_packets.specs.Recording.{Lent, outcomeLent, packetAdds, packetsAdd}
 

@@ -14,8 +14,8 @@ use Rattle.work_memory.specs.Lengths.{blocks, lengthsOf, lengthsFit, cleared}
 use Rattle.reading.specs.Answer.{Asked, staysCounted, read, sessionAfter, answerFor}
 use Rattle.reading.proofs.Counted.{fits-after}
 use Rattle.reading.proofs.Places.{read-got}
-use Rattle.theora.specs.Lengths.{buffersFit}
-use Rattle.theora.specs.Call.{outcomeOf}
+use Rattle.calls.specs.Lengths.{buffersFit}
+use Rattle.calls.specs.Call.{outcomeOf}
 use Rattle.report.specs.Report.{plus, only, refusalAdds}
 use Rattle.census_packets.specs.Recording.{Lent, outcomeLent, packetAdds, packetsAdd}
 

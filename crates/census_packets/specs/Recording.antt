@@ -14,7 +14,7 @@ use Rattle.reading.specs.declared.Verdict.{Verdict}
 use Rattle.reading.specs.declared.Verdict.the-variants.{Accepted, Refused}
 use Rattle.reading.specs.Answer.{Asked, answerFor, kindNumber}
 use Rattle.decoding.specs.Answer.{state}
-use Rattle.theora.specs.Call.{call, outcomeOf}
+use Rattle.calls.specs.Call.{call, outcomeOf}
 use Rattle.counting.specs.declared.Counts.{Counts}
 use Rattle.tally.specs.Counted.{countsOf}
 use Rattle.report.specs.Report.{plus, nothing, refusalAdds, frameAdds}

@@ -19,10 +19,10 @@ use Rattle.settings.specs.Settings.{settingsFit}
 use Rattle.ways.specs.Ways.{firstWay}
 use Rattle.reading.specs.Answer.{Asked, answerFor}
 use Rattle.decoding.specs.Answer.{State, Done, picture}
-use Rattle.theora.specs.Call.{Call, outcomeOf, byRules}
-use Rattle.theora.specs.Demand.{Turn, turn, turns, UncodedKept}
-use Rattle.theora.proofs.Demand.{demand3}
-use Rattle.theora.proofs.First.{first-codes-all, empty-codes-none}
+use Rattle.calls.specs.Call.{Call, outcomeOf, byRules}
+use Rattle.calls.specs.Demand.{Turn, turn, turns, UncodedKept}
+use Rattle.calls.proofs.Demand.{demand3}
+use Rattle.calls.proofs.First.{first-codes-all, empty-codes-none}
 use Rattle.tile_map.specs.Tiles.{mapLength, tileMap, IsTile}
 use Rattle.tile_map.specs.Quiet.{IsOne, Quiet, Kept}
 use Rattle.tile_map.proofs.Said.{map-length, byte-two, differs-1, one-differs}

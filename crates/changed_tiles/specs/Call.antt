@@ -13,7 +13,7 @@ use Rattle.settings.specs.Settings.{settingsFit}
 use Rattle.ways.specs.Ways.{firstWay}
 use Rattle.reading.specs.Answer.{answerFor}
 use Rattle.decoding.specs.Answer.{State, Done, done}
-use Rattle.theora.specs.Call.{Call, byRules}
+use Rattle.calls.specs.Call.{Call, byRules}
 use Rattle.changed_tiles.specs.declared.MapLength.{MapLength}
 use Rattle.changed_tiles.specs.declared.MapLength.the-variants as answer
 pub use Rattle.map_update.specs.Map.{mapLengthOf, mapAfter, IfAccepted}

@@ -12,7 +12,7 @@ use Rattle.settings.specs.declared.Settings.{Settings}
 use Rattle.settings.specs.Settings.{settingsFit}
 use Rattle.reading.specs.Answer.{Asked}
 use Rattle.decoding.specs.Answer.{State, picture}
-use Rattle.theora.specs.Call.{Call, outcomeOf}
+use Rattle.calls.specs.Call.{Call, outcomeOf}
 use Rattle.tile_map.specs.Quiet.{IsOne, InTile, InPlane, Differs, Quiet}
 use Rattle.changed_tiles.specs.Call.{mapFits, tilesCall}
 use Rattle.map_update.specs.Map.{mapLengthOf}

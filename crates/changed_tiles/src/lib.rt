@@ -7,7 +7,7 @@ ghost use mathlib.Core.Bool.{true};
 ghost use Rattle.settings.specs.Settings.{settingsFit};
 ghost use Rattle.work_memory.specs.Memory.{memory};
 ghost use Rattle.decoding.specs.Answer.{state, done};
-ghost use Rattle.theora.specs.Call.{call};
+ghost use Rattle.calls.specs.Call.{call};
 ghost use Rattle.changed_tiles.specs.Call.{lengthFor, mapFits, tilesDone, tilesCall};
 
 // How many bytes a map has, or the number of the refusal.

@@ -14,17 +14,18 @@ use Rattle.reading.specs.declared.FrameAnswer.{FrameAnswer}
 use Rattle.reading.specs.declared.Verdict.{Verdict}
 use Rattle.reading.specs.declared.Verdict.the-variants.{Accepted, Refused}
 use Rattle.decoding.specs.Answer.{State, Done}
-use Rattle.theora.specs.Call.{Call}
-use Rattle.theora.specs.Demand.{handedOn}
+use Rattle.calls.specs.Call.{Call}
+use Rattle.calls.specs.Demand.{handedOn}
 use Rattle.buffer_names.specs.declared.Names.{Names}
 use Rattle.buffer_names.specs.Names.{Sound}
-use Rattle.y4m.specs.declared.Numbers.{Numbers}
+use Rattle.stream_numbers.specs.declared.Numbers.{Numbers}
 use Rattle.y4m.specs.Stream.{frameText}
 use Rattle.stream_check.specs.declared.Compared.{Compared}
 use Rattle.stream_check.specs.Compared.{onward}
-use Rattle.shot_packets.specs.Play.{Shot, shot, bufferOf, stateOf, callOf, after}
+use Rattle.frame_into.specs.Buffers.{bufferOf}
+use Rattle.shot_packets.specs.Play.{Shot, shot, stateOf, callOf, after}
 use Rattle.shot_packets.proofs.Rules.{state-handed}
-use Rattle.shot_packets.proofs.Packet.{big}
+use Rattle.frame_into.proofs.Lent.{big}
 use Rattle.checked_packets.specs.declared.Watched.{Watched}
 use Rattle.checked_packets.specs.Watch.{byVerdict, watched, watchedAll}
 

@@ -12,15 +12,17 @@ use Rattle.work_memory.specs.Memory.{Memory}
 use Rattle.work_memory.specs.Lengths.{blocks, lengthsOf, cleared}
 use Rattle.reading.specs.declared.FrameAnswer.{FrameAnswer}
 use Rattle.decoding.specs.Answer.{Done}
-use Rattle.theora.specs.Call.{byRules}
+use Rattle.calls.specs.Call.{byRules}
 use Rattle.packet_list.specs.Packets.{packetsIn, total}
 use Rattle.packet_list.proofs.Walk.{packets-left, packets-none}
 use Rattle.buffer_names.specs.declared.Names.{Names}
 use Rattle.buffer_names.specs.Names.{Sound}
-use Rattle.y4m.specs.declared.Numbers.{Numbers}
-use Rattle.y4m.specs.Stream.{numbersOf, frameBytes}
+use Rattle.stream_numbers.specs.declared.Numbers.{Numbers}
+use Rattle.stream_numbers.specs.Numbers.{numbersOf}
+use Rattle.y4m.specs.Stream.{frameBytes}
 use Rattle.y4m.proofs.Streams.{session-bytes}
-use Rattle.shot_packets.specs.Play.{Shot, shot, bufferOf, stateOf, callOf, after, oneMore, answerSize, numbersOf as answerNumbersOf}
+use Rattle.frame_into.specs.Buffers.{bufferOf}
+use Rattle.shot_packets.specs.Play.{Shot, shot, stateOf, callOf, after, oneMore, answerSize, numbersOf as answerNumbersOf}
 use Rattle.shot_packets.proofs.Loop.{Going, going-first, going-last, going-on, first-same, second-same, third-same}
 use Rattle.checked_packets.specs.declared.Watched.{Watched}
 use Rattle.checked_packets.specs.Watch.{watched, watchedAll, ChecksAll}

@@ -10,10 +10,11 @@ use Rattle.work_memory.specs.Memory.{Memory}
 use Rattle.reading.specs.declared.Verdict.{Verdict}
 use Rattle.reading.specs.declared.Verdict.the-variants.{Accepted, Refused}
 use Rattle.decoding.specs.Answer.{State, Done}
-use Rattle.theora.specs.Call.{Call, byRules}
+use Rattle.calls.specs.Call.{Call, byRules}
 use Rattle.buffer_names.specs.declared.Names.{Names}
-use Rattle.y4m.specs.declared.Numbers.{Numbers}
-use Rattle.y4m.specs.Stream.{numbersOf, frameText}
+use Rattle.stream_numbers.specs.declared.Numbers.{Numbers}
+use Rattle.stream_numbers.specs.Numbers.{numbersOf}
+use Rattle.y4m.specs.Stream.{frameText}
 use Rattle.stream_check.specs.Compared.{onward}
 use Rattle.shot_packets.specs.Play.{Shot, stateOf, callOf, after}
 use Rattle.shot_packets.specs.Inner.{PlaysAll}

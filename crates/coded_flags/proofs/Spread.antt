@@ -7,27 +7,20 @@ use mathlib.Core.Path.{_≡_, refl, sym, ap, _∙_}
 use mathlib.Core.List.{List, [], _∷_, _++_, append-nil, append-assoc}
 use mathlib.Core.Bool.{Bool, true, false}
 use lib.Dec.{eqb}
-use lib.ListN.{length, getD, take, drop, set, replicate, length-append, length-drop, length-replicate, drop-of-length-le}
-use lib.Seq.{paste, paste-suc, drop-length, drop-drop, getD-drop, take-at, take-all, length-take-le}
+use lib.ListN.{length, getD, take, drop, replicate, length-append, length-drop, length-replicate, drop-of-length-le}
+use lib.Seq.{drop-length, drop-drop, getD-drop, take-at, take-all, length-take-le}
 use borrow.Author.Tests.{eq-eqb, ne-eqb, eqb-true}
 use Rattle.bitstream.specs.Reading.{choose}
-use Rattle.bitstream.proofs.ListLaws.{drop-next, if-other, if-equal}
+use Rattle.bitstream.proofs.ListLaws.{drop-next}
 use Rattle.geometry.specs.declared.PixelFormat.{PixelFormat}
 use Rattle.geometry.specs.Sizes.{blocksOf, superBlocksOf}
 use Rattle.geometry.specs.Order.{inTurn}
 use Rattle.geometry.specs.Frame.{superBlockOf}
 use Rattle.geometry.proofs.FrameLaws.{frame-length}
 use Rattle.geometry.proofs.SuperBlockLaws.{frame-flat}
-use Rattle.coded_flags.specs.declared.Taken.{Taken}
+use Rattle.block_flags.specs.declared.Taken.{Taken}
 use Rattle.coded_flags.specs.Flags.{ones, rest, sizesFrom, superSizes, partlyBlocks, spread}
-use Rattle.coded_flags.specs.Answer.{blockFlags, takenNext}
-
--- a copy, one byte longer
-pub copied-more : (d : List ℕ) (to : ℕ) (s : List ℕ) (at k : ℕ) → to + k < length d → at + k < length s → set (paste d to (drop at s) k) (to + k) (getD s (at + k) 0) ≡ paste d to (drop at s) (k + 1)
-copied-more d to s at k hd hs =
-    ap (λ (v : ℕ). set (paste d to (drop at s) k) (to + k) v) (sym (getD-drop at s k 0))
-    ∙ paste-suc d to (drop at s) k 0 hd (omega (arith, length-drop at s))
-    ∙ ap (paste d to (drop at s)) (sym (add-one k))
+use Rattle.block_flags.specs.Flags.{blockFlags, takenNext}
 
 -- ---- how many are 1
 one-most : (t : Bool) → choose t 1 0 ≤ 1
@@ -215,15 +208,6 @@ module _ (f : PixelFormat) (w h : ℕ) (partly full bits : List ℕ) (ep : lengt
           rw eu′ (spreading-on new (omega arith) (e ∙ (λ i. take (ea i) flags ++ blockFlags b (en i) full bits t ++ drop (ea i + en i) flags)))
 
 -- ---- the flags of one super block
-module _ (partly first count : ℕ) (flags full bits new : List ℕ) (t : Taken) where
-  pub flags-partly : partly ≡ 1 → new ≡ take first flags ++ take count (drop (t .bits) bits) ++ drop (first + count) flags
-      → (record { full = t .full; bits = t .bits + count } ≡ takenNext partly count t) × (new ≡ take first flags ++ blockFlags partly count full bits t ++ drop (first + count) flags)
-  flags-partly h e = (if-equal partly 1 _ _ h, e ∙ ap (λ (x : List ℕ). take first flags ++ x ++ drop (first + count) flags) (if-equal partly 1 _ _ h))
-
-  pub flags-other : (partly ≡ 1 → ⊥) → new ≡ take first flags ++ replicate count (getD full (t .full) 0) ++ drop (first + count) flags
-      → (record { full = t .full + 1; bits = t .bits } ≡ takenNext partly count t) × (new ≡ take first flags ++ blockFlags partly count full bits t ++ drop (first + count) flags)
-  flags-other h e = (if-other partly 1 _ _ h, e ∙ ap (λ (x : List ℕ). take first flags ++ x ++ drop (first + count) flags) (if-other partly 1 _ _ h))
-
 pub all-filled : (l : List ℕ) (v : ℕ) → take 0 l ++ replicate (length l) v ++ drop (0 + length l) l ≡ replicate (length l) v
 all-filled l v = let z : 0 + length l ≡ length l = omega arith in rw (z, drop-length l, append-nil)
 

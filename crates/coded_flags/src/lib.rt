@@ -1,10 +1,10 @@
 // Which blocks of a frame are coded: their flags in coded order.
 use bitstream::End;
+use block_flags::Taken;
 use geometry::PixelFormat;
 use runs::RunCode;
 ghost use mathlib.Core.Path.{_≡_};
-ghost use mathlib.Core.List.{_++_};
-ghost use Prim.Native.Nat.{ℕ, _+_, _*_, _/_, _≤_, _<_};
+ghost use Prim.Native.Nat.{_+_, _*_, _/_, _≤_, _<_};
 ghost use lib.Dec.{eqb};
 ghost use lib.ListN.{length, take, drop, replicate};
 ghost use Rattle.bitstream.specs.Bits.{longest};
@@ -12,18 +12,12 @@ ghost use Rattle.bitstream.specs.Reading.{choose};
 ghost use Rattle.geometry.specs.Sizes.{blocksOf, superBlocksOf, largest};
 ghost use Rattle.bitstream.specs.Answer.{Stored, asEnd};
 ghost use Rattle.coded_flags.specs.Flags.{ones, rest, superSizes, superFlags, partlyBlocks, spread, interFlags};
-ghost use Rattle.coded_flags.specs.Answer.{asSupers, StoredSupers, blockFlags, takenNext};
+ghost use Rattle.coded_flags.specs.Answer.{asSupers, StoredSupers};
 
 // How many super blocks are not partly coded, and the place behind both strings of super blocks; or the refusal.
 enum SuperRead {
     At(usize, usize),
     Refused(u32, usize),
-}
-
-// How much is taken of the string of fully coded super blocks, and of the string of blocks.
-struct Taken {
-    full: usize,
-    bits: usize,
 }
 
 fn one_if(b: u8) -> usize
@@ -94,48 +88,6 @@ fn partly_blocks(format: PixelFormat, w: u64, h: u64, partly: &[u8]) -> usize
     n
 }
 
-// Copies `count` bytes of `from`, from `at` on, to `bytes`, from `to` on.
-fn copy(bytes: &mut [u8], to: usize, from: &[u8], at: usize, count: usize)
-    requires { ⌜ (to + count ≤ length (now bytes)) × (at + count ≤ length (now from)) ⌝ }
-    ensures { λ _. ⌜ now (bytes .exit) ≡ take to (now (bytes .entry)) ++ take count (drop at (now (from .entry))) ++ drop (to + count) (now (bytes .entry)) ⌝ }
-{
-    let mut k = 0;
-    while k < count {
-        bytes[to + k] = from[at + k];
-        k += 1;
-    }
-}
-
-// The flags of one super block, whose blocks are `count` from `first` on.
-fn flag_blocks(
-    flags: &mut [u8],
-    first: usize,
-    count: usize,
-    partly: u8,
-    full: &[u8],
-    bits: &[u8],
-    taken: Taken,
-) -> Taken
-    requires { ⌜ (first + count ≤ length (now flags)) × (partly ≡ 1 → taken .bits + count ≤ length (now bits)) × ((partly ≡ 1 → ⊥) → taken .full < length (now full)) ⌝ }
-    ensures { λ r. ⌜ r ≡ takenNext partly count taken ⌝ }
-    ensures { λ r. ⌜ now (flags .exit) ≡ take first (now (flags .entry)) ++ blockFlags partly count (now (full .entry)) (now (bits .entry)) taken ++ drop (first + count) (now (flags .entry)) ⌝ }
-{
-    let j = taken.full;
-    let m = taken.bits;
-    if partly == 1 {
-        copy(flags, first, bits, m, count);
-        return Taken {
-            full: j,
-            bits: m + count,
-        };
-    }
-    buffer::fill_bytes(flags, first, count, full[j]);
-    Taken {
-        full: j + 1,
-        bits: m,
-    }
-}
-
 // Spreads the three strings over the flags of all blocks.
 fn spread_flags(
     format: PixelFormat,
@@ -153,7 +105,7 @@ fn spread_flags(
     let mut k = 0;
     while k < partly.len() {
         let s = geometry::super_block(format, w, h, k as u64);
-        taken = flag_blocks(
+        taken = block_flags::flag_blocks(
             flags,
             s.first as usize,
             s.count as usize,

@@ -1,3 +1,2 @@
--- Listing and Whole have what the functions' proofs need. Assumes nothing.
+-- Listing has what the functions' proofs need. Assumes nothing.
 pub mod Listing
-pub mod Whole

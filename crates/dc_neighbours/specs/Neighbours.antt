@@ -8,7 +8,7 @@ use lib.ListN.{getD}
 use Rattle.block_record.specs.declared.BlockRecord.{BlockRecord}
 use Rattle.block_record.specs.Record.{referenceOf, uncoded}
 use Rattle.dc_neighbours.specs.declared.Neighbour.{Neighbour}
-use Rattle.dc_neighbours.specs.Means.{meanLDr, meanDlDDr, meanOfTwo, replaced}
+use Rattle.dc_means.specs.Means.{meanLDr, meanDlDDr, meanOfTwo, replaced}
 
 -- no neighbour
 abbrev pub nobody : Neighbour

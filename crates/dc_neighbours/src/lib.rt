@@ -1,12 +1,11 @@
-// DC prediction of one block: the neighbours that count, the means of them, and which of them replaces a mean that is far.
+// DC prediction of one block: the neighbours that count, and the prediction from them.
 ghost use mathlib.Core.Path.{_≡_};
 ghost use mathlib.Core.Bool.{true};
 ghost use mathlib.Core.List.{map};
-ghost use Prim.Native.Nat.{_+_, _*_, _-_, _≤_, _<_};
+ghost use Prim.Native.Nat.{_+_, _-_, _≤_, _<_};
 ghost use lib.IntN.{natAbs};
 ghost use lib.ListN.{length};
 ghost use Rattle.block_record.specs.Packed.{unpacked};
-ghost use Rattle.dc_neighbours.specs.Means.{far, meanLDlD, meanLDr, meanDlDDr, meanOfTwo, replaced};
 ghost use Rattle.dc_neighbours.specs.Neighbours.{neighbourAt, neighbourBack, predicted};
 ghost use Rattle.dc_neighbours.specs.Block.{stateOf, Within, prediction};
 
@@ -19,59 +18,6 @@ pub struct Neighbour {
 // The last DC of each reference: none, previous, golden.
 pub struct LastDc {
     pub values: [i16; 3],
-}
-
-// More than 128 apart.
-pub fn far(a: i32, b: i16) -> bool
-    requires { ⌜ natAbs a ≤ 86016 ⌝ }
-    ensures { λ r. ⌜ r ≡ far a b ⌝ }
-{
-    let e = a - b as i32;
-    if e < -128 {
-        return true;
-    }
-    128 < e
-}
-
-pub fn mean_l_dl_d(l: i16, dl: i16, d: i16) -> i32
-    ensures { λ r. ⌜ (r ≡ meanLDlD l dl d) × (natAbs r ≤ 86016) ⌝ }
-{
-    (l as i32 * 29 - dl as i32 * 26 + d as i32 * 29) / 32
-}
-
-pub fn mean_l_dr(l: i16, dr: i16) -> i32
-    ensures { λ r. ⌜ (r ≡ meanLDr l dr) × (natAbs r ≤ 86016) ⌝ }
-{
-    (l as i32 * 75 + dr as i32 * 53) / 128
-}
-
-pub fn mean_dl_d_dr(dl: i16, d: i16, dr: i16) -> i32
-    ensures { λ r. ⌜ (r ≡ meanDlDDr dl d dr) × (natAbs r ≤ 86016) ⌝ }
-{
-    (dl as i32 * 3 + d as i32 * 10 + dr as i32 * 3) / 16
-}
-
-pub fn mean_of_two(x: i16, y: i16) -> i32
-    ensures { λ r. ⌜ (r ≡ meanOfTwo x y) × (natAbs r ≤ 86016) ⌝ }
-{
-    (x as i32 + y as i32) / 2
-}
-
-// The mean of L, DL and D; where it is far from one of them, the first such of D, L, DL.
-pub fn replaced(l: i16, dl: i16, d: i16) -> i32
-    ensures { λ r. ⌜ (r ≡ replaced l dl d) × (natAbs r ≤ 86016) ⌝ }
-{
-    let p = mean_l_dl_d(l, dl, d);
-    if far(p, d) {
-        return d as i32;
-    }
-    if far(p, l) {
-        return l as i32;
-    }
-    if far(p, dl) {
-        return dl as i32;
-    }
-    p
 }
 
 // The prediction from the neighbours that count, else from the last DC.
@@ -87,16 +33,16 @@ pub fn predicted(l: Neighbour, dl: Neighbour, d: Neighbour, dr: Neighbour, last:
     let below = d.dc;
     let below_right = dr.dc;
     if has_l & has_dl & has_d {
-        return replaced(left, below_left, below);
+        return dc_means::replaced(left, below_left, below);
     }
     if has_l & has_dr {
-        return mean_l_dr(left, below_right);
+        return dc_means::mean_l_dr(left, below_right);
     }
     if has_dl & has_d & has_dr {
-        return mean_dl_d_dr(below_left, below, below_right);
+        return dc_means::mean_dl_d_dr(below_left, below, below_right);
     }
     if has_l & has_d {
-        return mean_of_two(left, below);
+        return dc_means::mean_of_two(left, below);
     }
     if has_d {
         return below as i32;
@@ -105,7 +51,7 @@ pub fn predicted(l: Neighbour, dl: Neighbour, d: Neighbour, dr: Neighbour, last:
         return left as i32;
     }
     if has_dl & has_dr {
-        return mean_of_two(below_left, below_right);
+        return dc_means::mean_of_two(below_left, below_right);
     }
     if has_dl {
         return below_left as i32;

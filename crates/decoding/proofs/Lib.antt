@@ -1,3 +1,3 @@
 pub mod Made
-pub mod Decoded
+pub mod Readies
 pub mod Answers

@@ -1,26 +1,31 @@
 // A frame packet, decoded by a session and a table memory: what is answered, the frame, and work memory, which is all zero before and after.
+use asked_frame::Next;
 use bitstream::End;
-use frame_packet::Read;
+use frame_header::Header;
+use geometry::PixelFormat;
 use headers::Session;
 use kept_matrices::KeptMatrices;
+use quantization::LoadedParameters;
 use reading::FrameAnswer;
-use reading::Verdict;
 use setup::LoadedSetup;
 ghost use Rattle.bitstream.specs.Bits.{longest};
 ghost use mathlib.Core.Path.{_≡_};
-ghost use mathlib.Core.Bool.{true};
+ghost use mathlib.Core.Bool.{true, false};
 ghost use Prim.Native.Nat.{_*_, _≤_, _<_};
 ghost use lib.ListN.{length, getD};
-ghost use Rattle.kept_matrices.specs.Kept.{Keeps};
+ghost use Rattle.quantization.specs.Sound.{Held as HeldParameters};
+ghost use Rattle.matrices.specs.All.{AllQi};
+ghost use Rattle.kept_matrices.specs.Kept.{Keeps, Serves};
 ghost use Rattle.setup.specs.Header.{Setup};
 ghost use Rattle.setup.specs.Loaded.{Holds, Held};
 ghost use Rattle.setup.specs.Table.{tableBytes};
 ghost use Rattle.ways.specs.Ways.{firstWay};
 ghost use Rattle.headers.specs.Fits.{sessionFits};
-ghost use Rattle.work_memory.specs.Memory.{memory};
+ghost use Rattle.work_memory.specs.Memory.{work, memory};
 ghost use Rattle.work_memory.specs.Lengths.{blocks, lengthsOf, cleared};
-ghost use Rattle.reading.specs.Answer.{readBy, read};
+ghost use Rattle.reading.specs.Answer.{read};
 ghost use Rattle.decoding.specs.Answer.{state, done, decoded};
+ghost use Rattle.decoding.specs.Ready.{Ready};
 
 // The loop limit of the first qi.
 fn limit_of(limits: [u16; 64], qis: [u8; 3]) -> u32
@@ -31,14 +36,60 @@ fn limit_of(limits: [u16; 64], qis: [u8; 3]) -> u32
     limits[first] as u32
 }
 
-// What a packet answers, and the matrices that are kept after it.
-pub struct PacketAnswer {
+// A packet that was read: what it answers and, if it is accepted, what its frame is made from beside the lists in work memory.
+pub struct Prepared {
     pub answer: FrameAnswer,
+    pub accepted: bool,
+    pub count: usize,
+    pub limit: u32,
+    pub format: PixelFormat,
     pub kept: KeptMatrices,
 }
 
-// A packet, by a setup that was loaded and matrices that are kept. Work memory is all zero before and after.
-pub fn decode_packet(
+// A packet that is refused: no frame is to be made, and the matrices that are kept stay.
+fn refuse(answer: FrameAnswer, format: PixelFormat, kept: KeptMatrices) -> Prepared
+    ensures { λ r. ⌜ (r .accepted ≡ false) × (r .answer ≡ answer) × (r .kept ≡ kept) ⌝ }
+{
+    Prepared {
+        answer,
+        accepted: false,
+        count: 0,
+        limit: 0,
+        format,
+        kept,
+    }
+}
+
+// A packet that is accepted, by its header and the number of its coded blocks.
+fn accept(
+    table: &[u8],
+    parameters: LoadedParameters,
+    limits: [u16; 64],
+    kept: KeptMatrices,
+    answer: FrameAnswer,
+    header: Header,
+    count: usize,
+    format: PixelFormat,
+) -> Prepared
+    requires { ⌜ (length (now table) ≤ longest) × HeldParameters (now table) parameters × Keeps (now table) parameters kept × (header .count ≤ 3) × AllQi (header .qis) 3 × (getD limits (getD (header .qis) 0 0) 0 ≤ 127) ⌝ }
+    ensures { λ r. ⌜ (r .accepted ≡ true) × (r .answer ≡ answer) × (r .count ≡ count) × (r .limit ≡ getD limits (getD (header .qis) 0 0) 0) × (r .format ≡ format)
+        × Serves (now (table .entry)) parameters (header .qis) (header .count) (r .kept) ⌝ }
+{
+    let qis = header.qis;
+    let matrices = kept_matrices::kept_for(table, parameters, qis, header.count, kept);
+    let limit = limit_of(limits, qis);
+    Prepared {
+        answer,
+        accepted: true,
+        count,
+        limit,
+        format,
+        kept: matrices,
+    }
+}
+
+// A packet, read by a setup that was loaded and matrices that are kept. Work memory is all zero before; after an accepted packet it holds the frame's blocks, and else it is all zero.
+pub fn read_packet(
     s: Session,
     packet: &[u8],
     table: &[u8],
@@ -47,23 +98,17 @@ pub fn decode_packet(
     records: &mut [u32],
     coded: &mut [u64],
     coefs: &mut [i16],
-    dc: &mut [i16],
     lasts: &mut [u8],
     flags: &mut [u8],
     bits: &mut [u8],
     supers: &mut [u8],
     modes: &mut [u8],
     active: &mut [u64],
-    golden: &[u8],
-    previous: &[u8],
-    new: &mut [u8],
-) -> PacketAnswer
+) -> Prepared
     requires { ⌜ (sessionFits s ≡ true) × (length (now packet) ≤ longest) × (length (now table) ≤ longest) × Held (now table) loaded × Keeps (now table) (loaded .parameters) kept ⌝ }
-    requires { ⌜ (memory (now records) (now coded) (now coefs) (now dc) (now lasts) (now flags) (now bits) (now supers) (now modes) (now active) ≡ cleared (lengthsOf s))
-        × (length (now new) ≡ 64 * blocks s) × (length (now golden) ≡ 64 * blocks s) × (length (now previous) ≡ 64 * blocks s) ⌝ }
+    requires { ⌜ work (now records) (now coded) (now coefs) (now lasts) (now flags) (now bits) (now supers) (now modes) (now active) ≡ cleared (lengthsOf s) .work ⌝ }
     ensures { λ r. ⌜ ((setup : Setup) → Holds (now (table .entry)) loaded setup
-        → done (r .answer) (now (new .exit)) (memory (now (records .exit)) (now (coded .exit)) (now (coefs .exit)) (now (dc .exit)) (now (lasts .exit)) (now (flags .exit)) (now (bits .exit)) (now (supers .exit)) (now (modes .exit)) (now (active .exit)))
-        ≡ decoded firstWay (state s (now (golden .entry)) (now (previous .entry))) (now (new .entry)) (readBy s setup (now (packet .entry)))) ⌝ }
+        → Ready s setup (now (packet .entry)) r (work (now (records .exit)) (now (coded .exit)) (now (coefs .exit)) (now (lasts .exit)) (now (flags .exit)) (now (bits .exit)) (now (supers .exit)) (now (modes .exit)) (now (active .exit)))) ⌝ }
     ensures { λ r. ⌜ Keeps (now (table .entry)) (loaded .parameters) (r .kept) ⌝ }
 {
     let format = headers::pixel_format(s.fields.pf);
@@ -86,56 +131,28 @@ pub fn decode_packet(
         modes,
         active,
     );
-    let read = got.read;
-    match read {
-        Read::Refused(k, e) => {
-            let answer = reading::refusal(k, e, s);
-            PacketAnswer { answer, kept }
+    let judged = asked_frame::judge(got, s);
+    let answer = judged.answer;
+    let next = judged.next;
+    match next {
+        Next::Nothing => refuse(answer, format, kept),
+        Next::Clear => {
+            work_memory::clear_read(records, coded, coefs, lasts);
+            refuse(answer, format, kept)
         }
-        Read::Whole(count, tokens, _) => {
+        Next::Make(count) => {
             let header = got.header;
-            let kind = header.kind;
-            if !reading::stays_counted(kind, s) {
-                work_memory::clear_read(records, coded, coefs, lasts);
-                let answer = reading::refusal(bitstream::UNCOUNTED, 0, s);
-                return PacketAnswer { answer, kept };
-            }
-            let qis = header.qis;
-            let matrices = kept_matrices::kept_for(
+            let limits = loaded.limits;
+            accept(
                 table,
                 loaded.parameters,
-                qis,
-                header.count,
+                limits,
                 kept,
-            );
-            let limits = loaded.limits;
-            let limit = limit_of(limits, qis);
-            making::make_frame(
-                new,
-                golden,
-                previous,
-                records,
-                coded,
-                count,
-                coefs,
-                dc,
-                lasts,
-                &matrices.values,
-                limit,
-                format,
-                w,
-                h,
-            );
-            let next = reading::session_after(kind, s);
-            let answer = FrameAnswer {
-                verdict: Verdict::Accepted(tokens),
-                header: header,
-                session: next,
-            };
-            PacketAnswer {
                 answer,
-                kept: matrices,
-            }
+                header,
+                count,
+                format,
+            )
         }
     }
 }
@@ -171,7 +188,7 @@ pub fn decode(
         End::Refused(_, _) => reading::refusal(bitstream::NOT_GENUINE, 0, s),
         End::At(_) => {
             let nothing = kept_matrices::none();
-            let decoded = decode_packet(
+            let ready = read_packet(
                 s,
                 packet,
                 table,
@@ -180,18 +197,38 @@ pub fn decode(
                 records,
                 coded,
                 coefs,
-                dc,
                 lasts,
                 flags,
                 bits,
                 supers,
                 modes,
                 active,
-                golden,
-                previous,
-                new,
             );
-            decoded.answer
+            let answer = ready.answer;
+            if ready.accepted {
+                let matrices = ready.kept;
+                let format = ready.format;
+                let w = s.fields.fmbw;
+                let h = s.fields.fmbh;
+                making::make_frame(
+                    new,
+                    golden,
+                    previous,
+                    records,
+                    coded,
+                    ready.count,
+                    coefs,
+                    dc,
+                    lasts,
+                    &matrices.values,
+                    ready.limit,
+                    format,
+                    w,
+                    h,
+                );
+                return answer;
+            }
+            answer
         }
     }
 }

@@ -7,8 +7,8 @@ use Rattle.work_memory.specs.Memory.{Memory}
 use Rattle.reading.specs.declared.Verdict.{Verdict}
 use Rattle.reading.specs.declared.Verdict.the-variants.{Accepted, Refused}
 use Rattle.decoding.specs.Answer.{State, Done, done}
-use Rattle.theora.specs.Call.{Call, call}
-use Rattle.theora.specs.Demand.{turns}
+use Rattle.calls.specs.Call.{Call, call}
+use Rattle.calls.specs.Demand.{turns}
 use Rattle.film.specs.Film.{framesOf}
 
 module _ (h : Header) where

@@ -9,20 +9,21 @@ use borrow.Author.Tests.{eq-eqb}
 use Rattle.headers.specs.declared.Session.{Session}
 use Rattle.headers.specs.Fits.{sessionFits}
 use Rattle.ways.specs.Ways.{firstWay}
-use Rattle.theora.specs.Call.{byRules}
-use Rattle.theora.specs.Demand.{Turn, turns}
+use Rattle.calls.specs.Call.{byRules}
+use Rattle.calls.specs.Demand.{Turn, turns}
 use Rattle.output.specs.Output.{gives}
 use Rattle.output.proofs.Splices.{within-fits}
-use Rattle.y4m.specs.Stream.{numbersOf, frameBytes, streamText, streamFor, countOf}
+use Rattle.stream_numbers.specs.Numbers.{numbersOf}
+use Rattle.y4m.specs.Stream.{frameBytes, streamText, streamFor, countOf}
 use Rattle.y4m.proofs.Fitting.{bytes-some}
 use Rattle.y4m.proofs.Sessions.{numbers-fit}
 use Rattle.y4m.proofs.Streams.{stream-read, session-bytes}
 use Rattle.packet_list.specs.Packets.{packetsIn}
 use Rattle.shot_packets.specs.Play.{stateOf}
 use Rattle.shot.specs.Call.{startOf}
-use Rattle.shot.specs.Claims.{callsOf}
+use Rattle.shot_claims.specs.Claims.{callsOf}
 use Rattle.shot.proofs.Calls.{passes}
-use Rattle.shot.proofs.Turns.{accepted-passed, shot-turns}
+use Rattle.shot_claims.proofs.Turns.{accepted-passed, shot-turns}
 use Rattle.film.specs.Film.{framesOf, joined, filmOf, acceptedIn, FilmIs, FilmsHold, ShotFilmed}
 use Rattle.film.proofs.Frames.{AllLong, joined-length, joined-at, frames-count, all-long}
 

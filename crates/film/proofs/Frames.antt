@@ -17,11 +17,11 @@ use Rattle.reading.specs.declared.Verdict.{Verdict}
 use Rattle.reading.specs.declared.Verdict.the-variants.{Accepted, Refused}
 use Rattle.reading.specs.Answer.{Asked, answerFor}
 use Rattle.decoding.specs.Answer.{State, Done, done, picture, newBy}
-use Rattle.theora.specs.Call.{Call, outcomeOf, memoryAfter, byRules}
-use Rattle.theora.specs.Demand.{Turn, turn, turns, handedOn}
+use Rattle.calls.specs.Call.{Call, outcomeOf, memoryAfter, byRules}
+use Rattle.calls.specs.Demand.{Turn, turn, turns, handedOn}
 use Rattle.output.specs.Output.{part}
 use Rattle.shot_packets.proofs.Rules.{blocks-after}
-use Rattle.shot.specs.Claims.{answerOf}
+use Rattle.shot_claims.specs.Claims.{answerOf}
 use Rattle.film.specs.Film.{withFrame, framesOf, joined, oneIf, acceptedIn}
 use Rattle.film.proofs.Long.{first-long}
 

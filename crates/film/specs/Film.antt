@@ -11,15 +11,16 @@ use Rattle.reading.specs.declared.FrameAnswer.{FrameAnswer}
 use Rattle.reading.specs.declared.Verdict.{Verdict}
 use Rattle.reading.specs.declared.Verdict.the-variants.{Accepted, Refused}
 use Rattle.decoding.specs.Answer.{State}
-use Rattle.theora.specs.Call.{Call, byRules}
-use Rattle.theora.specs.Demand.{Turn, turns}
+use Rattle.calls.specs.Call.{Call, byRules}
+use Rattle.calls.specs.Demand.{Turn, turns}
 use Rattle.output.specs.Output.{gives}
-use Rattle.y4m.specs.Stream.{numbersOf, frameOf, streamText, streamFor}
+use Rattle.stream_numbers.specs.Numbers.{numbersOf}
+use Rattle.y4m.specs.Stream.{frameOf, streamText, streamFor}
 use Rattle.y4m.specs.Film.{holds, filmIn}
 use Rattle.packet_list.specs.Packets.{packetsIn}
 use Rattle.shot_packets.specs.Play.{stateOf, played}
 use Rattle.shot.specs.Call.{ShotCall, shotNumber, startOf}
-use Rattle.shot.specs.Claims.{callsOf, answerOf}
+use Rattle.shot_claims.specs.Claims.{callsOf, answerOf}
 
 -- an accepted call gives its new frame, in front of those that follow; a refused one gives none
 abbrev pub withFrame : Verdict → (new : List ℕ) → List (List ℕ) → List (List ℕ)

@@ -8,7 +8,7 @@ use Rattle.session_list.specs.List.{Answered, answers, sessionOf, listsNumber}
 use Rattle.ways.specs.Ways.{firstWay}
 use Rattle.work_memory.specs.Memory.{Memory}
 use Rattle.decoding.specs.Answer.{State, Done, state}
-use Rattle.theora.specs.Call.{Call, byRules}
+use Rattle.calls.specs.Call.{Call, byRules}
 use Rattle.answer_lists.specs.FrameLists.{verdictReturned}
 
 -- the same, and all else that is lent to be written: new and work memory

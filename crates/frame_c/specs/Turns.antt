@@ -4,8 +4,8 @@ use mathlib.Core.Path.{_≡_}
 use mathlib.Core.List.{List, [], _∷_, map}
 use lib.ListN.{length}
 use Rattle.ways.specs.Ways.{firstWay}
-use Rattle.theora.specs.Call.{Call, byRules}
-use Rattle.theora.specs.Demand.{Turn, turns}
+use Rattle.calls.specs.Call.{Call, byRules}
+use Rattle.calls.specs.Demand.{Turn, turns}
 use Rattle.session_list.specs.List.{sessionOf}
 use Rattle.frame_c.specs.Face.{stateOf, doneReturned, frameCall}
 

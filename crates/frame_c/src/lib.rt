@@ -2,7 +2,7 @@
 ghost use mathlib.Core.Path.{_≡_};
 ghost use Rattle.session_list.specs.List.{answers};
 ghost use Rattle.work_memory.specs.Memory.{memory};
-ghost use Rattle.theora.specs.Call.{call};
+ghost use Rattle.calls.specs.Call.{call};
 ghost use Rattle.frame_c.specs.Face.{frameGives, frameCall};
 
 // Decodes a frame packet into new.

@@ -5,7 +5,8 @@ use mathlib.Core.Bool.{true, false}
 use Rattle.bitstream.specs.Bits.{bitAt, number}
 use Rattle.bitstream.specs.Reading.{got, refused, field, judged}
 use Rattle.frame_header.specs.declared.Kind.the-variants.{Intra, Inter}
-use Rattle.frame_header.specs.Header.{frameType, moreQis, qiList, reserved, kindOf, frameHeader}
+use Rattle.frame_type.specs.Judged.{frameType, reserved}
+use Rattle.frame_header.specs.Header.{moreQis, qiList, kindOf, frameHeader}
 
 -- 0 0 010000 0 000: an intra frame with the qi 16
 intra : frameHeader false (0x10 ∷ 0x00 ∷ []) 0 ≡ got (record { kind = Intra; qis = 16 ∷ [] }) 12

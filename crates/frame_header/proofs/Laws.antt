@@ -7,16 +7,16 @@ use mathlib.Core.Bool.{Bool, true, false}
 use mathlib.Core.Logic.{_⊎_, inl, inr}
 use lib.Dec.{eqb}
 use lib.ListN.{length, length-append}
-use Rattle.bitstream.specs.Lists.{among}
+use Rattle.bitstream.specs.Lists.{among, AllBelow, one, none}
 use Rattle.bitstream.specs.Reading.{got, bind, pure, pick, choose, guard, field, judged}
 use Rattle.bitstream.proofs.Laws.{Lawful, pure-lawful, field-lawful, judged-lawful, pick-lawful, bind-lawful, bind-got}
 use Rattle.bitstream.proofs.Inside.{Inside, pure-inside, field-inside, judged-inside, pick-inside, bind-inside, Refuses, pure-refuses, field-refuses, judged-refuses, pick-refuses, bind-refuses}
 use Rattle.bitstream.proofs.Spends.{Spends, spends-more, pure-spends, field-spends, judged-spends, pick-spends, bind-spends}
 use Rattle.bitstream.proofs.Fields.{no-mix, field-lt}
-use Rattle.bitstream.specs.Lists.{AllBelow, one, none}
 use Rattle.bitstream.proofs.ListLaws.{all-append}
 use Rattle.frame_header.specs.declared.Kind.the-variants.{Intra, Inter}
-use Rattle.frame_header.specs.Header.{isZero, allowed, frameType, moreQis, qiList, reserved, kindOf, FrameHeader, frameHeader}
+use Rattle.frame_type.specs.Judged.{isZero, allowed, frameType, reserved}
+use Rattle.frame_header.specs.Header.{moreQis, qiList, kindOf, FrameHeader, frameHeader}
 
 type-lawful : (references : Bool) → Lawful (frameType references)
 unfolding frameType

@@ -1,26 +1,12 @@
 -- The header of a frame packet. An empty packet has none: it is a repeat.
 use Prim.Native.Nat.{ℕ, zero, suc}
 use mathlib.Core.List.{List, [], _∷_, _++_}
-use mathlib.Core.Bool.{Bool, true}
+use mathlib.Core.Bool.{Bool}
 use lib.Dec.{eqb}
-use Rattle.bitstream.specs.Reading.{Parse, pure, bind, pick, choose, field, judged, _>>=_, _>>_}
-use Rattle.bitstream.specs.Numbers.{noReferences, noFrame, reservedBits}
+use Rattle.bitstream.specs.Reading.{Parse, pure, bind, pick, choose, field, _>>=_, _>>_}
 use Rattle.frame_header.specs.declared.Kind.{Kind}
 use Rattle.frame_header.specs.declared.Kind.the-variants.{Intra, Inter}
-
--- a bit or bits that must be 0
-abbrev pub isZero : ℕ → Bool
-isZero v = eqb v 0
-
--- "type (0 intra)"; 9, "an inter or empty packet and no references", comes at the type bit
-abbrev pub allowed : Bool → ℕ → Bool
-allowed references t = choose (eqb t 0) true references
-
--- "Else bit 0; type": 10, "first bit of a frame packet is 1"
-unfoldable pub frameType : Bool → Parse ℕ
-frameType references = do
-  judged 1 isZero noFrame
-  judged 1 (allowed references) noReferences
+unfoldable pub use Rattle.frame_type.specs.Judged.{frameType, reserved}
 
 -- the qi so far, and "up to two more each announced by a 1 bit, the third qi needing no closing bit"
 unfoldable pub moreQis : ℕ → List ℕ → Parse (List ℕ)
@@ -34,10 +20,6 @@ unfoldable pub qiList : Parse (List ℕ)
 qiList = do
   q ← field 6
   moreQis 2 (q ∷ [])
-
--- "intra: 3 zero bits": 11, "intra frame's 3 reserved bits are not 0"
-unfoldable pub reserved : ℕ → Parse ℕ
-reserved t = pick (eqb t 0) (judged 3 isZero reservedBits) (pure 0)
 
 -- "type (0 intra)": 1 is inter
 unfoldable pub kindOf : ℕ → Kind

@@ -7,8 +7,7 @@ ghost use Prim.Native.Nat.{_≤_, _<_};
 ghost use lib.ListN.{length};
 ghost use Rattle.bitstream.specs.Bits.{longest};
 ghost use Rattle.bitstream.specs.Reading.{refused};
-ghost use Rattle.bitstream.specs.Answer.{asField};
-ghost use Rattle.frame_header.specs.Header.{frameType, moreQis, qiList, reserved, kindOf, frameHeader};
+ghost use Rattle.frame_header.specs.Header.{moreQis, qiList, kindOf, frameHeader};
 ghost use Rattle.frame_header.specs.Answer.{asQis, asRead};
 
 pub enum Kind {
@@ -35,35 +34,6 @@ struct QisRead {
     done: End,
     qis: [u8; 3],
     count: u8,
-}
-
-// The first bit, and the frame type: 0 is intra, 1 is inter.
-fn read_type(packet: &[u8], at: usize, references: bool) -> Field
-    requires { ⌜ length (now packet) ≤ longest ⌝ }
-    ensures { λ r. ⌜ r ≡ asField (frameType references (now (packet .entry)) at) ⌝ }
-{
-    let first = bitstream::read(packet, at, 1);
-    match first {
-        Field::Refused(k, e) => Field::Refused(k, e),
-        Field::Got(b, next) => {
-            if b != 0 {
-                return Field::Refused(bitstream::NO_FRAME, at);
-            }
-            let bit = bitstream::read(packet, next, 1);
-            match bit {
-                Field::Refused(k, e) => Field::Refused(k, e),
-                Field::Got(t, end) => {
-                    if t == 0 {
-                        return Field::Got(t, end);
-                    }
-                    if references {
-                        return Field::Got(t, end);
-                    }
-                    Field::Refused(bitstream::NO_REFERENCES, next)
-                }
-            }
-        }
-    }
 }
 
 fn no_qis(k: u32, e: usize) -> QisRead
@@ -131,26 +101,6 @@ fn read_qis(packet: &[u8], at: usize) -> QisRead
     }
 }
 
-// The reserved bits, which an intra frame has.
-fn read_reserved(packet: &[u8], at: usize, kind: u32) -> Field
-    requires { ⌜ length (now packet) ≤ longest ⌝ }
-    ensures { λ r. ⌜ r ≡ asField (reserved kind (now (packet .entry)) at) ⌝ }
-{
-    if kind != 0 {
-        return Field::Got(0, at);
-    }
-    let bits = bitstream::read(packet, at, 3);
-    match bits {
-        Field::Refused(k, e) => Field::Refused(k, e),
-        Field::Got(v, end) => {
-            if v == 0 {
-                return Field::Got(v, end);
-            }
-            Field::Refused(bitstream::RESERVED_BITS, at)
-        }
-    }
-}
-
 fn kind_of(kind: u32) -> Kind
     ensures { λ r. ⌜ r ≡ kindOf kind ⌝ }
 {
@@ -178,7 +128,7 @@ pub fn read_header(packet: &[u8], references: bool) -> HeaderRead
     requires { ⌜ length (now packet) ≤ longest ⌝ }
     ensures { λ r. ⌜ r ≡ asRead (frameHeader references (now (packet .entry)) 0) ⌝ }
 {
-    let first = read_type(packet, 0, references);
+    let first = frame_type::read_type(packet, 0, references);
     match first {
         Field::Refused(k, e) => no_header(k, e),
         Field::Got(t, next) => {
@@ -187,7 +137,7 @@ pub fn read_header(packet: &[u8], references: bool) -> HeaderRead
             match done {
                 End::Refused(k, e) => no_header(k, e),
                 End::At(place) => {
-                    let last = read_reserved(packet, place, t);
+                    let last = frame_type::read_reserved(packet, place, t);
                     match last {
                         Field::Refused(k, e) => no_header(k, e),
                         Field::Got(_, end) => {

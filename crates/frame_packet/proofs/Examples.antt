@@ -33,9 +33,12 @@ use Rattle.block_qi.specs.BlockQi.{qiSteps, blockQi}
 use Rattle.numeric.specs.Sign.{withSign}
 use Rattle.token.specs.Token.{rowOf, meaning, extra}
 use Rattle.token_reader.specs.Reader.{token}
-use Rattle.token_visits.specs.Visits.{unfinished, runOf, act, readFor, visit, pass}
-use Rattle.tokens.specs.Tokens.{group, table, choices, atPosition, positionsFrom, ranks, start, readTokens}
-use Rattle.frame_packet.specs.Frame.{Frame, flagsOf, modesOf, vectorsOf, body, frame, framePacket}
+use Rattle.block_positions.specs.Positions.{unfinished, runOf}
+use Rattle.block_visits.specs.Visits.{act, readFor, visit}
+use Rattle.token_visits.specs.Visits.{pass}
+use Rattle.table_choices.specs.Choices.{group, choices}
+use Rattle.tokens.specs.Tokens.{table, atPosition, positionsFrom, ranks, start, readTokens}
+use Rattle.packet_body.specs.Frame.{Frame, flagsOf, modesOf, vectorsOf, body, frame, framePacket}
 
 abbrev given : Kind → List ℕ → List ℕ → List ℕ → List BlockRecord → List ℤ → List ℕ → ℕ → Frame
 given kind qis coded modes records coefs lasts tokens = record {

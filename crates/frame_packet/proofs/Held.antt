@@ -14,11 +14,12 @@ use Rattle.block_record.proofs.MemoryLaws.{records-packed}
 use Rattle.frame_header.specs.declared.Kind.{Kind}
 use Rattle.frame_header.specs.Answer.{asHeader}
 use Rattle.bitstream.specs.Reading.{Outcome, got, refused}
-use Rattle.frame_packet.specs.Frame.{Body, Frame}
-use Rattle.frame_packet.specs.declared.Read.the-variants.{Whole, Refused}
+use Rattle.packet_body.specs.Frame.{Body, Frame}
+use Rattle.packet_body.specs.declared.Read.the-variants.{Whole, Refused}
 use Rattle.frame_packet.specs.declared.FrameRead.{FrameRead}
-use Rattle.frame_packet.specs.Work.{padded, holding, asFrame}
-use Rattle.frame_packet.proofs.Fits.{BodyFits}
+use Rattle.packet_body.specs.Work.{padded}
+use Rattle.frame_packet.specs.Work.{holding, asFrame}
+use Rattle.packet_body.proofs.Fits.{BodyFits}
 
 -- ---- what the reader's answer says
 pub read-refused : (o : Outcome Frame) {r : FrameRead} {k e : ℕ} → r ≡ asFrame o → r .read ≡ Refused k e → o ≡ refused k e

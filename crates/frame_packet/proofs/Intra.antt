@@ -27,9 +27,9 @@ use Rattle.coded_flags.proofs.CodedLaws.{record-of, coded-in-range}
 use Rattle.block_qi.specs.BlockQi.{blockQi}
 use Rattle.block_qi.proofs.Laws.{qi-but}
 use Rattle.tokens.specs.Tokens.{readTokens}
-use Rattle.frame_packet.specs.Frame.{Body, Frame, flagsOf, modesOf, vectorsOf, body, framePacket}
-use Rattle.frame_packet.proofs.Laws.{made, tokensThen, indexThen, vectorsThen, packet-some}
-use Rattle.frame_packet.proofs.Fits.{vectors-of-keep, frame-through, packet-repeat, packet-fits}
+use Rattle.packet_body.specs.Frame.{Body, Frame, flagsOf, modesOf, vectorsOf, body, framePacket}
+use Rattle.packet_body.proofs.Laws.{made, tokensThen, indexThen, vectorsThen, packet-some}
+use Rattle.packet_body.proofs.Fits.{vectors-of-keep, frame-through, packet-repeat, packet-fits}
 
 module _ (f : PixelFormat) (w h : ℕ) where
   -- flags that are all 1 make every record coded

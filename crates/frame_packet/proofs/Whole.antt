@@ -20,14 +20,15 @@ use Rattle.frame_header.specs.declared.HeaderRead.{HeaderRead}
 use Rattle.frame_header.specs.Header.{FrameHeader, frameHeader}
 use Rattle.frame_header.specs.Answer as header
 use Rattle.coded_flags.proofs.Order.{map-replicate}
-use Rattle.frame_packet.specs.declared.Read.{Read}
-use Rattle.frame_packet.specs.declared.Read.the-variants as read
+use Rattle.packet_body.specs.declared.Read.{Read}
+use Rattle.packet_body.specs.declared.Read.the-variants as read
 use Rattle.frame_packet.specs.declared.FrameRead.{FrameRead}
-use Rattle.frame_packet.specs.Frame.{Body, Frame, body, frame, repeatFrame, framePacket}
+use Rattle.packet_body.specs.Frame.{Body, Frame, body, frame, repeatFrame, framePacket}
 use Rattle.work_memory.specs.Memory.{Work, work}
 use Rattle.work_memory.specs.Lengths.{published, cleared}
-use Rattle.frame_packet.specs.Work.{padded, keeping, LeftBy, Left, workAfter, workKept, asRead, asFrame}
-use Rattle.frame_packet.proofs.Laws.{packet-some}
+use Rattle.packet_body.specs.Work.{padded, LeftBy, Left, asRead}
+use Rattle.frame_packet.specs.Work.{keeping, workAfter, workKept, asFrame}
+use Rattle.packet_body.proofs.Laws.{packet-some}
 
 -- ---- what the answers of the header and of the body say
 pub header-refused : (o : Outcome FrameHeader) {r : HeaderRead} {k e : ℕ} → r ≡ header.asRead o → r .done ≡ end.Refused k e → o ≡ refused k e

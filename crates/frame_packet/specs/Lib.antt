@@ -1,2 +1,2 @@
-pub mod Frame
 pub mod Work
+pub use Rattle.packet_body.specs.Frame

@@ -9,11 +9,12 @@ use Rattle.bitstream.specs.Reading.{Outcome, got, refused, after, field, judged
 use Rattle.bitstream.proofs.Fields.{no-mix, field-lt}
 use Rattle.headers.specs.declared.Session.{Session}
 use Rattle.header_fields.specs.declared.FrameSize.{FrameSize}
-use Rattle.headers.specs.declared.Rates.{Rates}
-use Rattle.headers.specs.declared.Coding.{Coding}
-use Rattle.headers.specs.Judgement.{commonHeader}
+use Rattle.header_groups.specs.declared.Rates.{Rates}
+use Rattle.header_groups.specs.declared.Coding.{Coding}
+use Rattle.header_groups.specs.Judgement.{commonHeader}
 use Rattle.header_fields.specs.Tests.{isExactly, isPositive, isAtMost, isFormat}
-use Rattle.headers.specs.Identification.{rates, coding, freshSession, identification}
+use Rattle.header_groups.specs.Groups.{rates, coding}
+use Rattle.headers.specs.Identification.{freshSession, identification}
 use Rattle.header_fields.specs.Frame.{version, frameSize}
 use Rattle.headers.specs.Fits.{within, all, widthsFit, pictureInside, rangesHold, withinShift, sessionFits}
 use Rattle.header_fields.proofs.Answers.{judged-got}

@@ -9,9 +9,10 @@ use Rattle.bitstream.specs.Reading.{got, Parse, pure, bind, here, guard, field,
 use Rattle.bitstream.proofs.Fields.{no-mix, field-value}
 use Rattle.bitstream.proofs.Laws.{bind-got}
 use Rattle.headers.specs.declared.Session.{Session}
-use Rattle.headers.specs.Judgement.{spelled, theora, commonHeader}
+use Rattle.header_groups.specs.Judgement.{spelled, theora, commonHeader}
 use Rattle.header_fields.specs.Tests.{isExactly, isPositive, isAtMost, isFormat}
-use Rattle.headers.specs.Identification.{rates, coding, identification}
+use Rattle.header_groups.specs.Groups.{rates, coding}
+use Rattle.headers.specs.Identification.{identification}
 use Rattle.header_fields.specs.Frame.{version, frameSize}
 
 -- what is got, is got from n bits

@@ -7,8 +7,9 @@ use lib.ListN.{take}
 use Rattle.bitstream.specs.Bits.{bitAt, number}
 use Rattle.bitstream.specs.Reading.{got, refused, field, judged}
 use Rattle.headers.specs.declared.Session.{Session}
-use Rattle.headers.specs.Judgement.{spelled, theora, commonHeader}
-use Rattle.headers.specs.Identification.{rates, coding, identification}
+use Rattle.header_groups.specs.Judgement.{spelled, theora, commonHeader}
+use Rattle.header_groups.specs.Groups.{rates, coding}
+use Rattle.headers.specs.Identification.{identification}
 use Rattle.header_fields.specs.Frame.{version, frameSize}
 
 -- a header of 42 bytes: 2 by 1 macro blocks, a picture of 30 by 16 at (2, 0), 30 frames a second, QUAL 63, KFGSHIFT 6, 4:2:0

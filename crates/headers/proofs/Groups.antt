@@ -11,14 +11,15 @@ use Rattle.bitstream.proofs.Inside.{Inside, inside, Refuses, refuses}
 use Rattle.bitstream.proofs.Spends.{Spends, pure-spends, bind-spends, field-spends, judged-spends}
 use Rattle.header_fields.specs.declared.FrameSize.{FrameSize}
 use Rattle.header_fields.specs.declared.FrameSizeAnswer.{FrameSizeAnswer}
-use Rattle.headers.specs.declared.Rates.{Rates}
-use Rattle.headers.specs.declared.RatesAnswer.{RatesAnswer}
-use Rattle.headers.specs.declared.Coding.{Coding}
-use Rattle.headers.specs.declared.CodingAnswer.{CodingAnswer}
+use Rattle.header_groups.specs.declared.Rates.{Rates}
+use Rattle.header_groups.specs.declared.RatesAnswer.{RatesAnswer}
+use Rattle.header_groups.specs.declared.Coding.{Coding}
+use Rattle.header_groups.specs.declared.CodingAnswer.{CodingAnswer}
 use Rattle.header_fields.specs.Tests.{isExactly, isPositive, isAtMost, isFormat}
-use Rattle.headers.specs.Identification.{rates, coding, identification, asRates, asCoding}
+use Rattle.header_groups.specs.Groups.{rates, coding, asRates, asCoding}
+use Rattle.headers.specs.Identification.{identification}
 use Rattle.header_fields.specs.Frame.{version, frameSize, asFrameSize}
-use Rattle.headers.proofs.Judged.{commonHeader-lawful, commonHeader-inside, commonHeader-refuses, commonHeader-spends}
+use Rattle.header_groups.proofs.Judged.{commonHeader-lawful, commonHeader-inside, commonHeader-refuses, commonHeader-spends}
 
 -- ---- what an answer says of the outcome o, by its arm
 pub frame-size-is : (o : Outcome FrameSize) {r : FrameSizeAnswer} {f : FrameSize} {e : ℕ} → r ≡ asFrameSize o → r ≡ FrameSizeAnswer.Is f e → o ≡ got f e

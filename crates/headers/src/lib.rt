@@ -5,13 +5,14 @@ use geometry::FrameSizes;
 use geometry::PixelFormat;
 use header_fields::FrameSizeAnswer;
 use header_fields::Value;
+use header_groups::CodingAnswer;
+use header_groups::RatesAnswer;
+pub use header_groups::read_common_header;
 ghost use Rattle.bitstream.specs.Bits.{longest};
 ghost use mathlib.Core.Path.{_≡_};
 ghost use Prim.Native.Nat.{_≤_, _<_, _^_};
 ghost use lib.ListN.{length};
-ghost use Rattle.bitstream.specs.Answer.{asEnd};
-ghost use Rattle.headers.specs.Judgement.{commonHeader};
-ghost use Rattle.headers.specs.Identification.{rates, coding, identification, asRates, asCoding, asIdentification};
+ghost use Rattle.headers.specs.Identification.{identification, asIdentification};
 ghost use Rattle.headers.specs.Fits.{widthsFit, pictureInside, rangesHold, sessionFits, withinShift};
 ghost use Rattle.headers.specs.Sizes.{formatOf, sessionSizes};
 
@@ -50,132 +51,12 @@ pub enum IdentificationAnswer {
     Refused(u32, usize),
 }
 
-// What every header begins with: its type byte, and "theora".
-pub fn read_common_header(packet: &[u8], at: usize, mark: u32) -> End
-    requires { ⌜ length (now packet) ≤ longest ⌝ }
-    ensures { λ r. ⌜ r ≡ asEnd (commonHeader mark (now (packet .entry)) at) ⌝ }
-{
-    let wanted = [mark, 0x74, 0x68, 0x65, 0x6F, 0x72, 0x61];
-    let mut place = at;
-    let mut i = 0;
-    while i < 7 {
-        match header_fields::read_exactly(packet, place, 8, wanted[i], bitstream::OTHER_HEADER) {
-            Field::Got(_, next) => place = next,
-            Field::Refused(k, e) => return End::Refused(k, e),
-        }
-        i += 1;
-    }
-    End::At(place)
-}
-
-struct Rates {
-    frn: u64,
-    frd: u64,
-    parn: u64,
-    pard: u64,
-    cs: u64,
-}
-
-enum RatesAnswer {
-    Is(Rates, usize),
-    Refused(u32, usize),
-}
-
-fn read_rates(packet: &[u8], at: usize) -> RatesAnswer
-    requires { ⌜ length (now packet) ≤ longest ⌝ }
-    ensures { λ r. ⌜ r ≡ asRates (rates (now (packet .entry)) at) ⌝ }
-{
-    let frn = match header_fields::read_positive(packet, at, 32) {
-        Field::Got(is, next) => Value { is, next },
-        Field::Refused(k, e) => return RatesAnswer::Refused(k, e),
-    };
-    let frd = match header_fields::read_positive(packet, frn.next, 32) {
-        Field::Got(is, next) => Value { is, next },
-        Field::Refused(k, e) => return RatesAnswer::Refused(k, e),
-    };
-    let parn = match bitstream::read(packet, frd.next, 24) {
-        Field::Got(is, next) => Value { is, next },
-        Field::Refused(k, e) => return RatesAnswer::Refused(k, e),
-    };
-    let pard = match bitstream::read(packet, parn.next, 24) {
-        Field::Got(is, next) => Value { is, next },
-        Field::Refused(k, e) => return RatesAnswer::Refused(k, e),
-    };
-    let cs = match bitstream::read(packet, pard.next, 8) {
-        Field::Got(is, next) => Value { is, next },
-        Field::Refused(k, e) => return RatesAnswer::Refused(k, e),
-    };
-    RatesAnswer::Is(
-        Rates {
-            frn: frn.is as u64,
-            frd: frd.is as u64,
-            parn: parn.is as u64,
-            pard: pard.is as u64,
-            cs: cs.is as u64,
-        },
-        cs.next,
-    )
-}
-
-struct Coding {
-    nombr: u64,
-    qual: u64,
-    kfgshift: u64,
-    pf: u64,
-}
-
-enum CodingAnswer {
-    Is(Coding, usize),
-    Refused(u32, usize),
-}
-
-fn read_coding(packet: &[u8], at: usize) -> CodingAnswer
-    requires { ⌜ length (now packet) ≤ longest ⌝ }
-    ensures { λ r. ⌜ r ≡ asCoding (coding (now (packet .entry)) at) ⌝ }
-{
-    let nombr = match bitstream::read(packet, at, 24) {
-        Field::Got(is, next) => Value { is, next },
-        Field::Refused(k, e) => return CodingAnswer::Refused(k, e),
-    };
-    let qual = match bitstream::read(packet, nombr.next, 6) {
-        Field::Got(is, next) => Value { is, next },
-        Field::Refused(k, e) => return CodingAnswer::Refused(k, e),
-    };
-    let kfgshift = match bitstream::read(packet, qual.next, 5) {
-        Field::Got(is, next) => Value { is, next },
-        Field::Refused(k, e) => return CodingAnswer::Refused(k, e),
-    };
-    let pf = match header_fields::read_format_code(packet, kfgshift.next, 2) {
-        Field::Got(is, next) => Value { is, next },
-        Field::Refused(k, e) => return CodingAnswer::Refused(k, e),
-    };
-    let zero_bits = match header_fields::read_exactly(
-        packet,
-        pf.next,
-        3,
-        0,
-        bitstream::BAD_FORMAT,
-    ) {
-        Field::Got(is, next) => Value { is, next },
-        Field::Refused(k, e) => return CodingAnswer::Refused(k, e),
-    };
-    CodingAnswer::Is(
-        Coding {
-            nombr: nombr.is as u64,
-            qual: qual.is as u64,
-            kfgshift: kfgshift.is as u64,
-            pf: pf.is as u64,
-        },
-        zero_bits.next,
-    )
-}
-
 // The fresh session of a packet that is short enough for its bit places.
 fn read_session(packet: &[u8]) -> IdentificationAnswer
     requires { ⌜ length (now packet) ≤ longest ⌝ }
     ensures { λ r. ⌜ r ≡ asIdentification (identification (now (packet .entry)) 0) ⌝ }
 {
-    let start = match read_common_header(packet, 0, 0x80) {
+    let start = match header_groups::read_common_header(packet, 0, 0x80) {
         End::At(next) => next,
         End::Refused(k, e) => return IdentificationAnswer::Refused(k, e),
     };
@@ -185,9 +66,9 @@ fn read_session(packet: &[u8]) -> IdentificationAnswer
     };
     match header_fields::read_frame_size(packet, vrev.next) {
         FrameSizeAnswer::Refused(k, e) => IdentificationAnswer::Refused(k, e),
-        FrameSizeAnswer::Is(f, rates_at) => match read_rates(packet, rates_at) {
+        FrameSizeAnswer::Is(f, rates_at) => match header_groups::read_rates(packet, rates_at) {
             RatesAnswer::Refused(k, e) => IdentificationAnswer::Refused(k, e),
-            RatesAnswer::Is(r, coding_at) => match read_coding(packet, coding_at) {
+            RatesAnswer::Is(r, coding_at) => match header_groups::read_coding(packet, coding_at) {
                 CodingAnswer::Refused(k, e) => IdentificationAnswer::Refused(k, e),
                 CodingAnswer::Is(c, _) => {
                     let revision = vrev.is as u64;

@@ -1,15 +1,14 @@
--- For callers: what the answers of `read_tree` and `load_tree` say. Assumes nothing.
-use Prim.Native.Nat.{ℕ, _+_, _-_, _*_}
+-- For callers: what the answer of `read_tree` says. Assumes nothing.
+use Prim.Native.Nat.{ℕ}
 use native.Mathlib.Omega.{arith}
-use mathlib.Core.Path.{_≡_, refl, ap, _∙_}
+use mathlib.Core.Path.{_≡_}
 use mathlib.Core.List.{List}
 use Rattle.bitstream.specs.Reading.{Outcome, got, refused}
-use Rattle.huffman.specs.Tree.{Tree, huffmanTree, nodesOf}
-use Rattle.huffman.specs.Answer.{nodesAfter, leavesOf}
-use Rattle.bitstream.specs.Answer.{asEnd, IfGot}
+use Rattle.huffman.specs.Tree.{Tree, nodesOf}
+use Rattle.huffman.specs.Answer.{nodesAfter}
+use Rattle.bitstream.specs.Answer.{asEnd}
 use Rattle.bitstream.specs.declared.End.{End}
 use Rattle.bitstream.specs.declared.End.the-variants.{Refused, At}
-use Rattle.huffman.proofs.Trees.{tree-read, some-leaf}
 
 -- `read_tree`, by its arm: the tree that was got and its table, or the refusal and the table as it was
 pub tree-next : (o : Outcome Tree) (old new : List ℕ) {r : End} {e : ℕ} → r ≡ asEnd o → new ≡ nodesAfter old o → r ≡ At e → (t : Tree) × (o ≡ got t e) × (new ≡ nodesOf t)
@@ -19,17 +18,3 @@ tree-next (refused k d) old new s n g = let z : _≡_ {A = ℕ} 0 1 = cc in absu
 pub tree-refused : (o : Outcome Tree) (old new : List ℕ) {r : End} {k e : ℕ} → r ≡ asEnd o → new ≡ nodesAfter old o → r ≡ Refused k e → (o ≡ refused k e) × (new ≡ old)
 tree-refused (got t d) old new s n g = let z : _≡_ {A = ℕ} 0 1 = cc in absurd (omega arith)
 tree-refused (refused k d) old new s n g = (cc, n)
-
--- `load_tree`, by its answer: no leaf, and no tree; or the tree, its table, and the place behind it
-pub loaded-none : (o : Outcome Tree) (n : ℕ) → n ≡ leavesOf o → n ≡ 0 → (k : ℕ) × (e : ℕ) × (o ≡ refused k e)
-loaded-none (got t e) n a z = absurd (omega (arith, a, z, some-leaf t))
-loaded-none (refused k e) n a z = (k, e, refl)
-
-pub loaded-next : (p : List ℕ) (at n : ℕ) (new : List ℕ) → n ≡ leavesOf (huffmanTree p at) → (n ≡ 0 → ⊥) → IfGot (λ t. new ≡ nodesOf t) (huffmanTree p at)
-    → (t : Tree) × (huffmanTree p at ≡ got t (at + 7 * n - 1)) × (new ≡ nodesOf t)
-unfolding huffmanTree
-loaded-next p at n new a z f = go (huffmanTree p at) refl a f
-  where
-    go : (o : Outcome Tree) → huffmanTree p at ≡ o → n ≡ leavesOf o → IfGot (λ t. new ≡ nodesOf t) o → (t : Tree) × (huffmanTree p at ≡ got t (at + 7 * n - 1)) × (new ≡ nodesOf t)
-    go (got t e) r x y = let w : e ≡ at + 7 * n - 1 = omega (arith, tree-read 32 0 p at r .ends, x) in (t, r ∙ ap (got t) w, y)
-    go (refused k e) r x y = absurd (z x)

@@ -1,11 +1,8 @@
--- What other crates cite: Trees, Codes, Nodes, Spreads, Walks, Answers. Two, Grows and Loads have what the functions' proofs need, Examples worked examples. Assumes nothing.
+-- What other crates cite: Trees, Codes, Nodes, Answers, and Grows for the steps of a tree. Two has what the proof of `grow` needs, Examples worked examples. Assumes nothing.
 pub mod Trees
 pub mod Two
 pub mod Grows
 pub mod Nodes
-pub mod Loads
 pub mod Codes
-pub mod Spreads
-pub mod Walks
 pub mod Answers
 pub mod Examples

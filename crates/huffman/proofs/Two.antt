@@ -1,24 +1,16 @@
 -- Bits out of two bytes, and the seven bits at a node of a tree. Assumes nothing.
-use Prim.Native.Nat.{ℕ, zero, suc, _+_, _-_, _*_, _/_, _%_, _^_, _≤_, _<_}
+use Prim.Native.Nat.{ℕ, zero, suc, _+_, _-_, _*_, _/_, _%_, _≤_, _<_}
 use native.Mathlib.Omega.{arith}
-use mathlib.Core.Path.{_≡_, refl, sym, ap, _∙_}
+use mathlib.Core.Path.{_≡_, refl, _∙_}
 use mathlib.Core.List.{List, [], _∷_}
 use lib.ListN.{length, getD}
-use Rattle.bitstream.specs.Bits.{bitAt, number}
-use Rattle.bitstream.proofs.Numbers.{number-one, number-add, number-lt, number-part}
+use Rattle.bitstream.specs.Bits.{number}
+use Rattle.bitstream.proofs.Numbers.{number-add, number-lt}
 
 pub past-end : (l : List ℕ) (i : ℕ) → length l ≤ i → getD l i 0 ≡ 0
 past-end [] i h = refl
 past-end (x ∷ l) zero h = absurd (omega arith)
 past-end (x ∷ l) (suc i) h = past-end l i (omega arith)
-
--- the bit at a place, out of the 64 bits from `first` on
-pub bit-of-window : (p : List ℕ) (first place w : ℕ) → w ≡ number p first 64 → first ≤ place → place < first + 64 → w / 2 ^ (63 - (place - first)) % 2 ≡ bitAt p place
-bit-of-window p first place w is l h =
-    let k = place - first in
-    let e : k + 1 + (63 - k) ≡ 64 = omega arith in
-    let f : first + k ≡ place = omega arith in
-    ap (λ (x : ℕ). x / 2 ^ (63 - k) % 2) (is ∙ ap (λ (n : ℕ). number p first n) (sym e)) ∙ number-part p first k 1 (63 - k) ∙ number-one p (first + k) ∙ ap (λ (i : ℕ). bitAt p i) f
 
 -- ---- the seven bits s at a node: a leaf bit, a token and one bit more; or a leaf bit, that of the 0 branch, and its token
 module _ (p : List ℕ) (at s : ℕ) (is : s ≡ number p at 7) where

@@ -1,23 +1,17 @@
 -- What the code answers and leaves, as outcomes of the reading algebra.
-use Prim.Native.Nat.{ℕ, _+_, _-_, _*_}
+use Prim.Native.Nat.{ℕ, _+_, _*_}
 use mathlib.Core.Path.{_≡_}
 use mathlib.Core.List.{List, _++_}
 use mathlib.Core.Logic.{_⊎_}
-use lib.Dec.{eqb}
 use lib.ListN.{take, drop}
-use Rattle.bitstream.specs.Reading.{Outcome, got, refused, choose}
+use Rattle.bitstream.specs.Reading.{Outcome, got, refused}
 use Rattle.bitstream.specs.Numbers.{packetEnds, badSetup}
-use Rattle.huffman.specs.Tree.{Tree, leaves, size, flat, nodesOf}
+use Rattle.huffman.specs.Tree.{Tree, size, flat, nodesOf}
 
 -- the table after a tree was read into it: a refusal leaves it as it was
 abbrev pub nodesAfter : List ℕ → Outcome Tree → List ℕ
 nodesAfter old (got t e) = nodesOf t
 nodesAfter old (refused k e) = old
-
--- how many leaves a tree has that was read; 0 where none was
-abbrev pub leavesOf : Outcome Tree → ℕ
-leavesOf (got t e) = leaves t
-leavesOf (refused k e) = 0
 
 -- what the answer r says of a part of a tree: 4 times the place behind it; or 4 times the place at fault, and 1 for number 4 or 2 for number 7
 abbrev pub Told : ℕ → Outcome Tree → Type 0
@@ -28,7 +22,3 @@ Told r (refused k e) = ((r ≡ 4 * e + 1) × (k ≡ packetEnds)) ⊎ ((r ≡ 4 *
 abbrev pub Stored : ℕ → List ℕ → List ℕ → Outcome Tree → Type 0
 Stored base old new (got t e) = new ≡ take base old ++ flat base t ++ drop (base + size t) old
 Stored base old new (refused k e) = Unit {0}
-
--- the node after the bit b at the node n, a fork whose entry is v
-abbrev pub branch : ℕ → ℕ → ℕ → ℕ
-branch n v b = choose (eqb b 0) (n + 1) (v - 128)

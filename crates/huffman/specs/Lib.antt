@@ -1,4 +1,3 @@
 pub mod Tree
 pub mod Code
 pub mod Answer
-pub mod Lookup

@@ -10,12 +10,19 @@ use borrow.Author.Tests.{eqb-true}
 use Rattle.bitstream.proofs.ListLaws.{and-both}
 use Rattle.quantization.specs.declared.LoadedParameters.{LoadedParameters}
 use Rattle.matrices.specs.Matrix.{matrixOf}
+use Rattle.matrices.specs.All.{AllMatricesAre}
+use Rattle.reconstruct.specs.Lent.{matrixIn}
 use Rattle.kept_matrices.specs.declared.KeptMatrices.{KeptMatrices}
 use Rattle.kept_matrices.specs.Kept.{MatricesAre, Keeps, Serves, sameList}
 
 -- an empty list has no matrices
 pub none-are : (p : List ℕ) (l : LoadedParameters) (qis : List ℕ) {count : ℕ} (ms : List ℕ) → count ≡ 0 → MatricesAre p l qis count ms
 none-are p l qis ms z q h type plane index t b n = absurd (omega arith)
+
+-- matrices that were made are as a frame's blocks look for them
+pub all-are : (p : List ℕ) (l : LoadedParameters) (qis : List ℕ) (count : ℕ) (ms : List ℕ) → AllMatricesAre p l qis count ms → MatricesAre p l qis count ms
+unfolding matrixIn
+all-are p l qis count ms are q h type plane index t b n = are type plane index t b n q h
 
 -- two lists that are the same
 module _ (a b : List ℕ) (n m : ℕ) (same : sameList a n b m ≡ true) where

@@ -1,2 +1,1 @@
-pub mod Matrices
 pub mod Kept

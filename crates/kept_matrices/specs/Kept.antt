@@ -12,10 +12,6 @@ use Rattle.matrices.specs.Matrix.{matrixOf}
 use Rattle.reconstruct.specs.Lent.{matrixIn}
 use Rattle.kept_matrices.specs.declared.KeptMatrices.{KeptMatrices}
 
--- every one of the first `count` is a qi
-abbrev pub AllQi : List ℕ → ℕ → Type 0
-AllQi qis count = (index : ℕ) → index < count → getD qis index 0 < 64
-
 -- the slice holds the matrices of the first `count` qi, by the parameters that l is
 abbrev pub MatricesAre : (p : List ℕ) → LoadedParameters → (qis : List ℕ) → ℕ → List ℕ → Type 0
 MatricesAre p l qis count ms =

@@ -1,4 +1,4 @@
-// The quantization matrices of a frame's qi, kept from packet to packet while the list of qi stays: to make them takes some 4,700 instructions for each qi.
+// The quantization matrices of a frame's qi, kept from packet to packet while the list of qi stays: to make them takes some 3,300 instructions for each qi.
 use quantization::LoadedParameters;
 ghost use mathlib.Core.Path.{_≡_};
 ghost use mathlib.Core.List.{List};
@@ -7,7 +7,8 @@ ghost use lib.ListN.{length};
 ghost use Rattle.bitstream.specs.Bits.{longest};
 ghost use Rattle.quantization.specs.Sound.{Held};
 ghost use Rattle.quantization.specs.declared.LoadedParameters.{LoadedParameters};
-ghost use Rattle.kept_matrices.specs.Kept.{AllQi, MatricesAre, Keeps, Serves, sameList};
+ghost use Rattle.matrices.specs.All.{AllQi};
+ghost use Rattle.kept_matrices.specs.Kept.{Keeps, Serves, sameList};
 
 // The matrices of the first `count` qi, for each type, in it for each plane, in it for each qi. With a count of 0 nothing is kept.
 // It is handed on by value: eight copies a packet of 240 instructions each, and no wide function is lent a slice more.
@@ -28,36 +29,6 @@ pub fn none() -> KeptMatrices
     }
 }
 
-// The matrices of a list of qi, into a slice.
-fn load_matrices(
-    table: &[u8],
-    parameters: LoadedParameters,
-    qis: [u8; 3],
-    count: usize,
-    matrices: &mut [u16],
-)
-    requires { ⌜ (length (now table) ≤ longest) × Held (now table) parameters × AllQi qis count × (count ≤ 3) × (length (now matrices) ≡ 1152) ⌝ }
-    ensures { λ _. ⌜ MatricesAre (now (table .entry)) parameters qis count (now (matrices .exit)) ⌝ }
-{
-    let mut j: usize = 0;
-    while j < 6 * count {
-        let index = j / 6;
-        let set = j % 6;
-        let qi = qis[index] as usize;
-        let at = (set * 3 + index) * 64;
-        let end = at + 64;
-        matrices::matrix(
-            table,
-            parameters,
-            set / 3,
-            set % 3,
-            qi,
-            &mut matrices[at..end],
-        );
-        j += 1;
-    }
-}
-
 // The matrices of a list of qi, made anew.
 fn load(table: &[u8], parameters: LoadedParameters, qis: [u8; 3], count: u8) -> KeptMatrices
     requires { ⌜ (length (now table) ≤ longest) × Held (now table) parameters × AllQi qis count × (count ≤ 3) ⌝ }
@@ -65,7 +36,7 @@ fn load(table: &[u8], parameters: LoadedParameters, qis: [u8; 3], count: u8) -> 
 {
     let number = count as usize;
     let mut values = [0u16; 1152];
-    load_matrices(table, parameters, qis, number, &mut values);
+    matrices::all_matrices(table, parameters, qis, number, &mut values);
     KeptMatrices { qis, count, values }
 }
 

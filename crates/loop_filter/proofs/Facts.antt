@@ -1,69 +1,16 @@
--- The ways that f of R can go; a step or a neighbour that is wanted or not; and where block (x, y) of a plane lies.
--- Assumes nothing.
-use mathlib.Core.Path.{_≡_, refl, ap, _∙_, subst}
+-- Where block (x, y) of a plane lies, and the step at it. Assumes nothing.
+use mathlib.Core.Path.{_≡_}
 use mathlib.Core.Bool.{Bool, true, false, not, cond}
 use mathlib.Core.List.{List}
-use Prim.Native.Nat.{ℕ, suc, _+_, _-_, _*_, _≤_, _<_}
+use Prim.Native.Nat.{ℕ, suc, _+_, _*_, _≤_, _<_}
 use native.Mathlib.Nat.{mul-le-mul-left, mul-le-mul-right}
 use native.Mathlib.Omega.{arith}
-use native.Mathlib.Decide.{decLt}
-use borrow.Author.Tests.{lt-ltb, le-ltb, ltb-true}
-use lib.Dec.{T, ltb}
-use lib.IntN.{ℤ, pos, negsuc, negℤ, natAbs, _-ℤ_, +ℤ-idl}
-use lib.Signed.{ltZ, nonNeg}
-use Rattle.numeric.proofs.Magnitude.{abs-neg}
+use lib.Dec.{ltb}
 use Rattle.geometry.specs.Sample.{sampleIn}
-use Rattle.ways.specs.Loops.{when}
 use Rattle.ways.specs.Ways.{edgesAt}
-use Rattle.loop_filter.specs.Filter.{tentOf, limitedOf, filtered}
-use Rattle.loop_filter.specs.Flags.{codedAt}
+use Rattle.edge_filter.specs.Filter.{filtered}
+use Rattle.block_edges.specs.Flags.{codedAt}
 use Rattle.loop_filter.specs.Plane.{blockStep}
-
--- ---- f of a magnitude
-module _ (L n : ℕ) where
-  pub tent-low : n < L → n ≡ tentOf L n
-  unfolding tentOf
-  tent-low h = rw (lt-ltb n L h)
-
-  pub tent-high : 2 * L - n ≤ n → 2 * L - n ≡ tentOf L n
-  unfolding tentOf
-  tent-high h = go (decLt n L) (decLt n (2 * L))
-    where
-      go : Dec (n < L) → Dec (n < 2 * L) → 2 * L - n ≡ tentOf L n
-      go (yes l) d = absurd (omega arith)
-      go (no l) (yes k) = rw (le-ltb n L (omega arith), lt-ltb n (2 * L) k)
-      go (no l) (no k) = let z : 2 * L - n ≡ 0 = omega arith in rw (le-ltb n L (omega arith), le-ltb n (2 * L) (omega arith)) z
-
--- ---- f of R, by its sign
-pub minus-ok : (z : ℤ) → ltZ z (pos 0) ≡ true → T (nonNeg (pos 0 -ℤ z))
-minus-ok (pos n) e = absurd (let h = ltb-true n 0 e in omega arith)
-minus-ok (negsuc n) e = tt
-
-pub minus-abs : (z : ℤ) → natAbs (pos 0 -ℤ z) ≡ natAbs z
-minus-abs z = ap natAbs (+ℤ-idl (negℤ z)) ∙ abs-neg z
-
-pub limited-minus : (L : ℕ) (z : ℤ) → ltZ z (pos 0) ≡ true → pos 0 -ℤ pos (tentOf L (natAbs z)) ≡ limitedOf L z
-unfolding limitedOf
-limited-minus L (pos n) e = absurd (let h = ltb-true n 0 e in omega arith)
-limited-minus L (negsuc n) e = +ℤ-idl _
-
-pub limited-plus : (L : ℕ) (z : ℤ) → ltZ z (pos 0) ≡ false → pos (tentOf L (natAbs z)) ≡ limitedOf L z
-unfolding limitedOf
-limited-plus L (pos n) e = refl
-limited-plus L (negsuc n) e = absurd (subst T e tt)
-
--- ---- a step that is made or not, a neighbour that is there or not
-pub when-on : {A : Type 0} (b : Bool) (f : A → A) (a : A) → b ≡ true → when b f a ≡ f a
-when-on b f a e = rw e
-
-pub when-off : {A : Type 0} (b : Bool) (f : A → A) (a : A) → b ≡ false → when b f a ≡ a
-when-off b f a e = rw e
-
-pub open-off : (t b : Bool) → t ≡ false → false ≡ cond t b false
-open-off t b e = rw e
-
-pub open-on : (t b : Bool) → t ≡ true → b ≡ cond t b false
-open-on t b e = rw e
 
 -- ---- block (x, y) of u rows of a blocks: what omega needs of the products y a and u a
 pub record Room (a u y x : ℕ) : Type 0 where

@@ -18,8 +18,8 @@ use Rattle.geometry.proofs.SizeLaws.{before-next, before-to}
 use Rattle.ways.specs.Loops.{upTo, over, when}
 use Rattle.ways.specs.Ways.{edgesAt, openRight, openAbove, edges, filterAll}
 use Rattle.ways.proofs.Steps.{upTo-same, over-turns, over-ones}
-use Rattle.loop_filter.specs.Filter.{filtered}
-use Rattle.loop_filter.specs.Flags.{codedAt, codedBy}
+use Rattle.edge_filter.specs.Filter.{filtered}
+use Rattle.block_edges.specs.Flags.{codedAt, codedBy}
 use Rattle.loop_filter.specs.Plane.{blockStep, rowSteps, planeSteps}
 
 module _ (f : PixelFormat) (w h : ℕ) where

@@ -1,6 +1,4 @@
--- What the functions' proofs need: Facts, Edge, Frame, Zero. Examples: worked values. Assumes nothing.
+-- What the functions' proofs need: Facts, Frame, Zero. Assumes nothing.
 pub mod Facts
-pub mod Edge
 pub mod Frame
 pub mod Zero
-pub mod Examples

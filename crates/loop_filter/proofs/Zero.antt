@@ -18,8 +18,8 @@ use Rattle.geometry.specs.Sample.{sampleAt}
 use Rattle.ways.specs.Loops.{upTo, over, when}
 use Rattle.geometry.specs.Raster.{raster}
 use Rattle.ways.specs.Ways.{acrossEdge, edge, edgesAt, openRight, openAbove, edges, filterAll}
-use Rattle.loop_filter.specs.Filter.{tentOf, limitedOf, responseOf, filtered}
-use Rattle.loop_filter.proofs.Facts.{tent-high}
+use Rattle.edge_filter.specs.Filter.{tentOf, limitedOf, responseOf, filtered}
+use Rattle.edge_filter.proofs.Facts.{tent-high}
 
 -- ---- f(R) is 0, and a sample is itself
 zero-tent : (n : ℕ) → tentOf 0 n ≡ 0

@@ -1,4 +1,3 @@
-pub mod Filter
-pub mod Edge
-pub mod Flags
 pub mod Plane
+pub use Rattle.edge_filter.specs.Filter
+pub use Rattle.block_edges.specs.Flags

@@ -6,8 +6,8 @@ use lib.Dec.{ltb}
 use Rattle.geometry.specs.Sample.{sampleIn}
 use Rattle.ways.specs.Loops.{upTo, when}
 use Rattle.ways.specs.Ways.{edgesAt}
-use Rattle.loop_filter.specs.Filter.{filtered}
-use Rattle.loop_filter.specs.Flags.{codedAt}
+use Rattle.edge_filter.specs.Filter.{filtered}
+use Rattle.block_edges.specs.Flags.{codedAt}
 
 module _ (records : List ℕ) (L first a u : ℕ) where
   -- the edges of block (x, y), if it is coded

@@ -13,9 +13,11 @@ use Rattle.bitstream.specs.Lists.{tabulated}
 use Rattle.bitstream.proofs.Lists.{tabulated-same}
 use Rattle.quantization.specs.Parameters.{Ranges, Quantization}
 use Rattle.quantization.specs.Sound.{total, Sound}
-use Rattle.matrices.specs.Matrix.{rangeAt, InRange, interpolated, minimum, scaled, valueAt, baseAt, entryAt}
-use Rattle.matrices.specs.declared.Range.{Range}
-use Rattle.matrices.proofs.Ranges.{total-more}
+use Rattle.quant_ranges.specs.Ranges.{rangeAt, InRange}
+use Rattle.matrix_values.specs.Values.{interpolated, minimum, scaled}
+use Rattle.matrices.specs.Matrix.{valueAt, baseAt, entryAt}
+use Rattle.quant_ranges.specs.declared.Range.{Range}
+use Rattle.quant_ranges.proofs.Ranges.{total-more}
 
 module _ (r : Range) (some : 1 ≤ r .size) (qi b₁ b₂ : ℕ) where
   at-end : qi ≡ r .start + r .size → interpolated r qi b₁ b₂ ≡ b₂

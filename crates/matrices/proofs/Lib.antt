@@ -1,6 +1,4 @@
-pub mod Ranges
 pub mod Borders
 pub mod Values
-pub mod Reciprocals
 pub mod Matrices
-pub mod Examples
+pub mod All

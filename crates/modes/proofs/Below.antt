@@ -13,8 +13,9 @@ use Rattle.bitstream.proofs.Laws.{bind-got, whole-cases}
 use Rattle.bitstream.proofs.ListLaws.{all-append, all-replicate, all-at, all-of, set-cases}
 use Rattle.bitstream.proofs.Table.{at}
 use Rattle.bitstream.proofs.Unary.{unary-most}
-use Rattle.modes.specs.Modes.{ranksFrom, sentAlphabet, digits, digit, modeOfRank, mode, lumaCoded, modeOf, modesFrom, macroModes}
-use Rattle.modes.proofs.Facts.{places, digit-by}
+use Rattle.mode_schemes.specs.Schemes.{ranksFrom, sentAlphabet, digits, digit, modeOfRank, lumaCoded}
+use Rattle.modes.specs.Modes.{mode, modeOf, modesFrom, macroModes}
+use Rattle.mode_schemes.proofs.Facts.{places, digit-by}
 
 -- ---- the digits: one line after the other, at each of its places
 line-below : (j r : ℕ) → r ≤ 7 → getD digits j 0 / getD places r 0 % 10 ≤ 7

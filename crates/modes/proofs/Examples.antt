@@ -5,7 +5,8 @@ use mathlib.Core.List.{List, [], _∷_}
 use lib.ListN.{replicate}
 use Rattle.bitstream.specs.Bits.{bitAt, number}
 use Rattle.bitstream.specs.Reading.{got, refused, field, whole, unary}
-use Rattle.modes.specs.Modes.{ranksFrom, sentAlphabet, digit, modeOfRank, mode, lumaCoded, modeOf, modesFrom, macroModes}
+use Rattle.mode_schemes.specs.Schemes.{ranksFrom, sentAlphabet, digit, modeOfRank, lumaCoded}
+use Rattle.modes.specs.Modes.{mode, modeOf, modesFrom, macroModes}
 
 -- all luma blocks of n macro blocks are coded
 abbrev ones : ℕ → List ℕ

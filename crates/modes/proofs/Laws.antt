@@ -13,7 +13,8 @@ use Rattle.bitstream.proofs.Laws.{Lawful, pure-lawful, pick-lawful, bind-lawful
 use Rattle.bitstream.proofs.Inside.{Inside, pure-inside, pick-inside, bind-inside, field-inside, whole-inside, Refuses, pure-refuses, pick-refuses, bind-refuses, field-refuses, whole-refuses}
 use Rattle.bitstream.proofs.Spends.{Spends, spends-more, pure-spends, field-spends, bind-spends, pick-spends, whole-spends}
 use Rattle.bitstream.proofs.Unary.{unary-lawful, unary-inside, unary-refuses, unary-spends}
-use Rattle.modes.specs.Modes.{ranksFrom, sentAlphabet, mode, lumaCoded, modeOf, modesFrom, macroModes}
+use Rattle.mode_schemes.specs.Schemes.{ranksFrom, sentAlphabet, lumaCoded}
+use Rattle.modes.specs.Modes.{mode, modeOf, modesFrom, macroModes}
 
 ranks-lawful : (n m : ℕ) (alphabet : List ℕ) → Lawful (ranksFrom n m alphabet)
 unfolding ranksFrom

@@ -8,7 +8,8 @@ use lib.ListN.{length, getD, length-append, List·getD-append}
 use lib.Seq.{getD-at}
 use Rattle.bitstream.specs.Reading.{got, bind, field}
 use Rattle.bitstream.proofs.Laws.{bind-got}
-use Rattle.modes.specs.Modes.{sentAlphabet, lumaCoded, modeOf, modesFrom, macroModes}
+use Rattle.mode_schemes.specs.Schemes.{sentAlphabet, lumaCoded}
+use Rattle.modes.specs.Modes.{modeOf, modesFrom, macroModes}
 use Rattle.modes.proofs.Facts.{mode-none}
 
 module _ (scheme : ℕ) (alphabet flags p : List ℕ) where

@@ -27,8 +27,8 @@ use Rattle.frame_packet.specs.Frame.{Frame, frame, framePacket, repeatFrame}
 use Rattle.frame_packet.proofs.Laws.{frame-lawful, packet-some}
 use Rattle.reading.specs.Answer.{Asked, counted, readBy, read, answerFor}
 use Rattle.decoding.specs.Answer.{State, Done, Way, done, newBy}
-use Rattle.theora.specs.Call.{Call, lengthsHold, outcomeOf, memoryAfter, byRules}
-use Rattle.theora.specs.Demand.{turn, turns}
+use Rattle.calls.specs.Call.{Call, lengthsHold, outcomeOf, memoryAfter, byRules}
+use Rattle.calls.specs.Demand.{turn, turns}
 use Rattle.padding.specs.Padding.{Settled, withMore, SettledCall, paddedBy, AllSettled, Left, leftIn, ListsPadded, PaddingHolds}
 
 module _ (more : List ℕ) where

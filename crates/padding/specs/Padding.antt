@@ -7,8 +7,8 @@ use Rattle.bitstream.specs.Reading.{Outcome, got, refused}
 use Rattle.headers.specs.Identification.{identification}
 use Rattle.setup.specs.Table.{setupOutcome, tableAfter}
 use Rattle.decoding.specs.Answer.{State, Done, Way}
-use Rattle.theora.specs.Call.{Call, call, outcomeOf, byRules, FramePromise}
-use Rattle.theora.specs.Demand.{Turn, turns}
+use Rattle.calls.specs.Call.{Call, call, outcomeOf, byRules, FramePromise}
+use Rattle.calls.specs.Demand.{Turn, turns}
 
 -- accepted, or refused by a number other than 4: "Nothing is promised for refusal 4"
 abbrev pub Settled : {A : Type 0} → Outcome A → Type 0

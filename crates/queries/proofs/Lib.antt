@@ -1,4 +1,2 @@
 pub mod FoundLaws
 pub mod OrderLaws
-pub mod SetupLaws
-pub mod RangeLaws

@@ -1,4 +1,2 @@
 pub mod Found
 pub mod Orders
-pub mod Setup
-pub mod Ranges

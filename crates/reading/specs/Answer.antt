@@ -1,13 +1,10 @@
--- What a packet asks for, what is answered for it, and what the session becomes.
-use Prim.Native.Nat.{ℕ, _+_, _^_}
-use mathlib.Core.Bool.{Bool, true}
+-- What a packet asks for, and what is answered for it.
+use Prim.Native.Nat.{ℕ}
 use mathlib.Core.List.{List, [], _∷_}
-use lib.Dec.{ltb}
 use lib.ListN.{getD}
 use Rattle.bitstream.specs.Reading.{Outcome, got, refused, after, choose}
 use Rattle.bitstream.specs.Numbers.{uncounted}
 use Rattle.headers.specs.declared.Session.{Session}
-use Rattle.headers.specs.Fits.{withinShift}
 use Rattle.headers.specs.Sizes.{format}
 use Rattle.setup.specs.Header.{Setup}
 use Rattle.setup.specs.Table.{heldSetup}
@@ -16,6 +13,7 @@ use Rattle.frame_header.specs.declared.Kind.{Kind}
 use Rattle.frame_header.specs.declared.Kind.the-variants.{Intra, Inter, Repeat}
 use Rattle.frame_header.specs.Answer.{asHeader, repeatHeader}
 use Rattle.frame_packet.specs.Frame.{Frame, framePacket}
+unfoldable pub use Rattle.session_steps.specs.Steps.{staysCounted, sessionAfter}
 use Rattle.reading.specs.declared.FrameAnswer.{FrameAnswer}
 use Rattle.reading.specs.declared.Verdict.{Verdict}
 use Rattle.reading.specs.declared.Verdict.the-variants.{Accepted, Refused}
@@ -24,12 +22,6 @@ use Rattle.reading.specs.declared.Verdict.the-variants.{Accepted, Refuse
 pub record Asked : Type 0 where
   pub setup : Setup
   pub frame : Frame
-
--- "The first has 64 bits"; "KFGSHIFT bounds the second": whether the numbers stay within them after a packet of a kind
-unfoldable pub staysCounted : Kind → Session → Bool
-staysCounted Intra s = ltb (s .«key_frames» + 1) (2 ^ 64)
-staysCounted Inter s = withinShift (s .fields) (s .others + 1)
-staysCounted Repeat s = withinShift (s .fields) (s .others + 1)
 
 -- "past that the packet is refused as new number 17, after all other checks"
 abbrev pub counted : Session → Setup → Frame → ℕ → Outcome Asked
@@ -42,12 +34,6 @@ readBy s setup packet = after (framePacket (format s) (s .fields .fmbw) (s .fiel
 -- "the rest of 8, then the packet"
 unfoldable pub read : Session → (table packet : List ℕ) → Outcome Asked
 read s table packet = after (heldSetup table) (λ setup _. readBy s setup packet)
-
--- an intra frame sets the reference flag; "accepted key frames, and accepted other packets since the last one"; "An empty packet counts as other. A key frame sets the second to 0"
-unfoldable pub sessionAfter : Kind → Session → Session
-sessionAfter Intra s = record { fields = s .fields; references = true; «key_frames» = s .«key_frames» + 1; others = 0 }
-sessionAfter Inter s = record { fields = s .fields; references = s .references; «key_frames» = s .«key_frames»; others = s .others + 1 }
-sessionAfter Repeat s = record { fields = s .fields; references = s .references; «key_frames» = s .«key_frames»; others = s .others + 1 }
 
 -- a refusal answers its number and "the bit place of the first bit of the field at fault": the header beside them says nothing, and the session is as it was.
 -- "An accepted frame answers with its kind (intra, inter, repeat) and the qi list (empty for repeat)"; "the number of coefficient tokens read .. the count that the reading rules themselves give"

@@ -1,14 +1,12 @@
-// What a frame packet answers, and what the session becomes. No sample is needed for it.
+// What a frame packet answers. No sample is needed for it.
 use frame_header::Header;
 use frame_header::Kind;
 use headers::Session;
-ghost use mathlib.Core.Bool.{true};
 ghost use mathlib.Core.Path.{_≡_};
 ghost use lib.ListN.{length};
 ghost use Rattle.bitstream.specs.Reading.{refused};
-ghost use Rattle.headers.specs.Fits.{sessionFits};
 ghost use Rattle.reading.specs.declared.Verdict.the-variants.{Accepted};
-ghost use Rattle.reading.specs.Answer.{staysCounted, sessionAfter, answerFor, kindNumber, answerNumbers};
+ghost use Rattle.reading.specs.Answer.{answerFor, kindNumber, answerNumbers};
 
 // An accepted frame, with the number of its tokens; or the number of the refusal and its bit place.
 pub enum Verdict {
@@ -36,40 +34,6 @@ pub fn refusal(k: u32, place: usize, s: Session) -> FrameAnswer
         },
         session: s,
     }
-}
-
-// Whether the session's two numbers stay within their bounds after a packet of a kind: else it is refused by 17.
-pub fn stays_counted(kind: Kind, s: Session) -> bool
-    requires { ⌜ sessionFits s ≡ true ⌝ }
-    ensures { λ r. ⌜ r ≡ staysCounted kind s ⌝ }
-{
-    match kind {
-        Kind::Intra => s.key_frames < 18446744073709551615,
-        Kind::Inter => headers::within_shift(s.fields, s.others + 1),
-        Kind::Repeat => headers::within_shift(s.fields, s.others + 1),
-    }
-}
-
-// The session after an accepted frame of a kind.
-pub fn session_after(kind: Kind, s: Session) -> Session
-    requires { ⌜ (sessionFits s ≡ true) × (staysCounted kind s ≡ true) ⌝ }
-    ensures { λ r. ⌜ r ≡ sessionAfter kind s ⌝ }
-{
-    let mut next = s;
-    match kind {
-        Kind::Intra => {
-            next.references = true;
-            next.key_frames = s.key_frames + 1;
-            next.others = 0;
-        }
-        Kind::Inter => {
-            next.others = s.others + 1;
-        }
-        Kind::Repeat => {
-            next.others = s.others + 1;
-        }
-    }
-    next
 }
 
 // ---- an answer as numbers

@@ -18,7 +18,8 @@ use Rattle.geometry.specs.Sample.{sampleAt}
 use Rattle.geometry.proofs.SampleLaws.{sample-hit}
 use Rattle.block_record.specs.declared.BlockRecord.{BlockRecord}
 use Rattle.transform.specs.Block.{inverse}
-use Rattle.transform.specs.Residual.{zigZag, tabulated, dequantized, dcOnly, rounded, valueAt, values, residual}
+use Rattle.zig_zag.specs.Values.{zigZag, tabulated, dequantized, valueAt, values}
+use Rattle.transform.specs.Residual.{dcOnly, rounded, residual}
 use Rattle.dc_prediction.specs.Planes.{predictedDc}
 use Rattle.prediction.specs.Predicted.{summed}
 use Rattle.loop_filter.specs.Filter.{filtered}

@@ -16,8 +16,10 @@ use Rattle.bitstream.specs.Answer.{asEnd, IfGot}
 use Rattle.bitstream.specs.declared.End.{End}
 use Rattle.bitstream.specs.declared.End.the-variants.{At, Refused}
 use Rattle.huffman.specs.Tree.{Tree, Proper, nodesOf, huffmanTree}
-use Rattle.huffman.specs.Answer.{nodesAfter, leavesOf}
-use Rattle.huffman.proofs.Answers.{tree-refused, tree-next, loaded-none, loaded-next}
+use Rattle.huffman.specs.Answer.{nodesAfter}
+use Rattle.huffman.proofs.Answers.{tree-refused, tree-next}
+use Rattle.stored_trees.specs.Answer.{leavesOf}
+use Rattle.stored_trees.proofs.Answers.{loaded-none, loaded-next}
 use Rattle.huffman.proofs.Nodes.{nodes-length}
 use Rattle.huffman.proofs.Trees.{read-proper, huffman-lawful}
 use Rattle.quantization.specs.Parameters.{Quantization, quantization}

@@ -92,7 +92,7 @@ fn load_trees(packet: &[u8], at: usize, nodes: &mut [u8]) -> End
     while k < 80 {
         let start = k * 64;
         let end = start + 64;
-        let leaves = huffman::load_tree(packet, place, &mut nodes[start..end]);
+        let leaves = stored_trees::load_tree(packet, place, &mut nodes[start..end]);
         if leaves == 0 {
             return End::Refused(bitstream::NOT_GENUINE, 0);
         }

@@ -24,9 +24,9 @@ use Rattle.work_memory.specs.declared.WorkLengths.{WorkLengths}
 use Rattle.work_memory.specs.Memory.{Memory}
 use Rattle.work_memory.specs.Lengths.{blocks, lengthsOf, lengthsFit, cleared}
 use Rattle.decoding.specs.Answer.{Way, Done}
-use Rattle.theora.specs.Lengths.{buffersFit}
-use Rattle.theora.specs.Call.{byRules}
-use Rattle.theora.proofs.Lengths as theora
+use Rattle.calls.specs.Lengths.{buffersFit}
+use Rattle.calls.specs.Call.{byRules}
+use Rattle.calls.proofs.Lengths as theora
 use Rattle.packet_list.specs.Packets.{packetsIn}
 use Rattle.buffer_names.specs.declared.Names.{Names}
 use Rattle.buffer_names.specs.Names.{namesOf, namesFit, free}

@@ -14,8 +14,8 @@ use Rattle.ways.specs.Ways.{firstWay}
 use Rattle.work_memory.specs.Memory.{Memory}
 use Rattle.work_memory.specs.Lengths.{blocks, lengthsOf, lengthsFit}
 use Rattle.decoding.specs.Answer.{Way}
-use Rattle.theora.specs.Lengths.{buffersFit}
-use Rattle.theora.specs.Call.{byRules}
+use Rattle.calls.specs.Lengths.{buffersFit}
+use Rattle.calls.specs.Call.{byRules}
 use Rattle.packet_list.specs.Packets.{packetsIn, total}
 use Rattle.buffer_names.specs.declared.Names.{Names}
 use Rattle.buffer_names.specs.Names.{namesOf, namesFit}

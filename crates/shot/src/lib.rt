@@ -69,7 +69,7 @@ pub fn lent_number(
 {
     if headers::session_fits(s) {
         let l = work_memory::lengths_of(s);
-        let buffers = theora::buffers_fit(l.records, first, second, third, table);
+        let buffers = calls::buffers_fit(l.records, first, second, third, table);
         let slices = work_memory::lengths_fit(
             l,
             records,

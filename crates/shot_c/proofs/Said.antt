@@ -8,33 +8,21 @@ use lib.Dec.{eqb}
 use lib.ListN.{length, getD, set, length-set}
 use lib.Seq.{getD-set-same, getD-set-other}
 use borrow.Author.Tests.{eqb-true, eq-eqb}
-use Rattle.bitstream.specs.Reading.{Outcome, got, refused, choose}
+use Rattle.bitstream.specs.Reading.{choose}
 use Rattle.headers.specs.declared.Fields.{Fields}
 use Rattle.headers.specs.declared.Session.{Session}
 use Rattle.session_list.specs.List.{sessionOf}
-use Rattle.frame_header.specs.declared.Kind.{Kind}
-use Rattle.frame_header.specs.declared.Kind.the-variants.{Intra, Inter, Repeat}
 use Rattle.ways.specs.Ways.{firstWay}
 use Rattle.work_memory.specs.Memory.{Memory}
-use Rattle.reading.specs.Answer.{Asked, sessionAfter, answerFor}
 use Rattle.decoding.specs.Answer.{Way}
-use Rattle.theora.specs.Call.{Call, outcomeOf, byRules}
+use Rattle.calls.specs.Call.{Call, outcomeOf, byRules}
 use Rattle.packet_list.specs.Packets.{packetsIn}
 use Rattle.shot_packets.specs.Play.{Shot, stateOf, callOf, after, oneMore, played}
+use Rattle.shot_packets.proofs.Rules.{answer-fields}
 use Rattle.shot.specs.Call.{ShotCall, ShotDone, shotCall, shotNumber, startOf, ended, unchanged, byShot}
 use Rattle.shot_c.specs.Face.{namesIn, referenceNumber, sessionNumbers, ShotReturned, doneReturned, shotFace, ListsSay}
 
 -- ---- packets change no field of the session
-after-fields : (kind : Kind) (s : Session) → sessionAfter kind s .fields ≡ s .fields
-unfolding sessionAfter
-after-fields Intra s = refl
-after-fields Inter s = refl
-after-fields Repeat s = refl
-
-answer-fields : (s : Session) (o : Outcome Asked) → answerFor s o .session .fields ≡ s .fields
-answer-fields s (refused k e) = refl
-answer-fields s (got a e) = after-fields (a .frame .header .kind) s
-
 played-fields : (way : Way) (table : List ℕ) (h : Shot) (ps : List (List ℕ)) → played (byRules way) table h ps .session .fields ≡ h .session .fields
 unfolding played oneMore byRules
 played-fields way table h [] = refl

@@ -16,7 +16,7 @@ use Rattle.settings.specs.Settings.{settingsFit}
 use Rattle.ways.specs.Ways.{firstWay}
 use Rattle.reading.specs.Answer.{Asked}
 use Rattle.decoding.specs.Answer.{State}
-use Rattle.theora.specs.Call.{Call, outcomeOf, byRules}
+use Rattle.calls.specs.Call.{Call, outcomeOf, byRules}
 use Rattle.shot_packets.specs.Play.{Shot, stateOf, callOf, oneMore, played}
 use Rattle.changed_tiles.specs.Call.{mapLengthOf, mapFits, tilesCall}
 use Rattle.changed_tiles.proofs.Calls.{map-here, map-any}

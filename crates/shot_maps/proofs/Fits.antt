@@ -14,8 +14,8 @@ use Rattle.settings.specs.declared.Settings.{Settings}
 use Rattle.settings.specs.Settings.{settingsFit}
 use Rattle.reading.specs.declared.Verdict.{Verdict}
 use Rattle.reading.specs.declared.Verdict.the-variants.{Accepted, Refused}
-use Rattle.shot_packets.specs.Play.{bufferOf}
-use Rattle.shot_packets.proofs.Packet.{big}
+use Rattle.frame_into.specs.Buffers.{bufferOf}
+use Rattle.frame_into.proofs.Lent.{big}
 use Rattle.changed_tiles.specs.Call.{mapLengthOf, IfAccepted}
 use Rattle.shot_maps.specs.Maps.{mapsFit, mapsNumber}
 

@@ -9,44 +9,32 @@ use mathlib.Core.List.{List, [], _∷_, _++_, append-assoc}
 use lib.ListN.{length, getD, take, drop, set, length-drop, length-append, take-append-drop}
 use lib.Seq.{drop-drop, take-at, drop-at, length-take-le, getD-set-other}
 use borrow.Author.Tests.{eq-eqb}
-use Rattle.bitstream.specs.Reading.{Outcome, got, refused, choose}
+use Rattle.bitstream.specs.Reading.{choose}
 use Rattle.headers.specs.declared.Session.{Session}
 use Rattle.headers.specs.Fits.{sessionFits}
 use Rattle.settings.specs.declared.Settings.{Settings}
 use Rattle.settings.specs.Settings.{settingsFit}
-use Rattle.frame_header.specs.declared.Kind.{Kind}
-use Rattle.frame_header.specs.declared.Kind.the-variants.{Intra, Inter, Repeat}
 use Rattle.ways.specs.Ways.{firstWay}
 use Rattle.work_memory.specs.Memory.{Memory}
 use Rattle.reading.specs.declared.FrameAnswer.{FrameAnswer}
 use Rattle.reading.specs.declared.Verdict.{Verdict}
 use Rattle.reading.specs.declared.Verdict.the-variants.{Refused}
-use Rattle.reading.specs.Answer.{Asked, sessionAfter, answerFor}
 use Rattle.decoding.specs.Answer.{State, Done, Way}
-use Rattle.theora.specs.Call.{Call, outcomeOf, byRules}
+use Rattle.calls.specs.Call.{Call, outcomeOf, byRules}
 use Rattle.packet_list.specs.Packets.{packetsIn}
 use Rattle.packet_list.proofs.Walk.{packets-left, packets-none}
 use Rattle.buffer_names.specs.declared.Names.{Names}
 use Rattle.buffer_names.specs.Names.{free, Sound}
 use Rattle.buffer_names.proofs.Free.{free-is}
-use Rattle.shot_packets.specs.Play.{Shot, shot, bufferOf, stateOf, callOf, after, oneMore, played}
-use Rattle.shot_packets.proofs.Rules.{index, apart}
+use Rattle.frame_into.specs.Buffers.{bufferOf, index}
+use Rattle.shot_packets.specs.Play.{Shot, shot, stateOf, callOf, after, oneMore, played}
+use Rattle.shot_packets.proofs.Rules.{answer-fields, apart}
 use Rattle.changed_tiles.specs.Call.{mapLengthOf, mapFits, mapAfter, refusedBy, frameFor, tilesCall}
 use Rattle.changed_tiles.proofs.Calls.{map-here}
 use Rattle.shot_maps.specs.Maps.{mapOf, mapsAfter, withPart}
 use Rattle.shot_maps.proofs.Parts.{part-ends}
 
 -- ---- packets change no field of the session, so maps keep their length
-after-fields : (kind : Kind) (s : Session) → sessionAfter kind s .fields ≡ s .fields
-unfolding sessionAfter
-after-fields Intra s = refl
-after-fields Inter s = refl
-after-fields Repeat s = refl
-
-answer-fields : (s : Session) (o : Outcome Asked) → answerFor s o .session .fields ≡ s .fields
-answer-fields s (refused k e) = refl
-answer-fields s (got a e) = after-fields (a .frame .header .kind) s
-
 more-fields : (way : Way) (table : List ℕ) (h : Shot) (p : List ℕ) → oneMore (byRules way) table h p .session .fields ≡ h .session .fields
 unfolding oneMore byRules
 more-fields way table h p = answer-fields (h .session) (outcomeOf (stateOf h) (callOf table h p))

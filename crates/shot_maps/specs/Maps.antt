@@ -11,7 +11,7 @@ use Rattle.headers.specs.Fits.{sessionFits}
 use Rattle.settings.specs.declared.Settings.{Settings}
 use Rattle.settings.specs.Settings.{settingsFit}
 use Rattle.ways.specs.Ways.{firstWay}
-use Rattle.theora.specs.Call.{byRules}
+use Rattle.calls.specs.Call.{byRules}
 use Rattle.shot_packets.specs.Play.{Shot, stateOf, callOf, oneMore}
 use Rattle.changed_tiles.specs.Call.{mapLengthOf, tilesCall}
 

@@ -10,7 +10,7 @@ use Rattle.reading.specs.declared.Verdict.{Verdict}
 use Rattle.reading.specs.declared.Verdict.the-variants.{Accepted, Refused}
 use Rattle.reading.specs.Answer.{answerNumbers}
 use Rattle.decoding.specs.Answer.{State, Done}
-use Rattle.theora.specs.Call.{Call}
+use Rattle.calls.specs.Call.{Call}
 use Rattle.shot_packets.specs.Play.{Shot, stateOf, callOf, after, oneMore, played, answerSize, numbersOf, allNumbers}
 
 module _ (does : State → Call → Done) (table : List ℕ) where

@@ -14,32 +14,18 @@ use Rattle.work_memory.specs.Memory.{Memory}
 use Rattle.work_memory.specs.Lengths.{blocks, lengthsOf, lengthsFit, cleared}
 use Rattle.reading.specs.declared.FrameAnswer.{FrameAnswer}
 use Rattle.decoding.specs.Answer.{Done}
-use Rattle.theora.specs.Call.{outcomeOf, lengthsHold, byRules}
-use Rattle.theora.proofs.Tokens.{outcome-got}
+use Rattle.calls.specs.Call.{outcomeOf, lengthsHold, byRules}
+use Rattle.calls.proofs.Tokens.{outcome-got}
 use Rattle.packet_list.specs.Packets.{packetsIn, total}
 use Rattle.packet_list.proofs.Walk.{total-drop, packets-left, packets-none}
 use Rattle.buffer_names.specs.declared.Names.{Names}
 use Rattle.buffer_names.specs.Names.{free, Sound}
 use Rattle.buffer_names.proofs.Free.{free-is}
-use Rattle.shot_packets.specs.Play.{Shot, shot, bufferOf, stateOf, callOf, oneMore, played, answerSize, numbersOf, allNumbers}
+use Rattle.shot_packets.specs.Play.{Shot, shot, stateOf, callOf, oneMore, played, answerSize, numbersOf, allNumbers}
 use Rattle.shot_packets.specs.Inner.{PlaysAll}
 use Rattle.shot_packets.proofs.Cut.{numbers-more, numbers-first}
 use Rattle.shot_packets.proofs.Rules.{sound-after, session-kept, by-decoded}
-use Rattle.shot_packets.proofs.Packet.{big, cleared-memory, fit-with}
-
--- ---- every buffer has the length of a frame
-module _ (x y z : List ℕ) {n : ℕ} (hx : length x ≡ n) (hy : length y ≡ n) (hz : length z ≡ n) where
-  pub buffer-long : (k : ℕ) → length (bufferOf (x ∷ y ∷ z ∷ []) k) ≡ n
-  buffer-long zero = hx
-  buffer-long (suc zero) = hy
-  buffer-long (suc (suc zero)) = hz
-  buffer-long (suc (suc (suc k))) = ap length (big x y z (suc (suc (suc k))) (omega arith)) ∙ hy
-
-  pub plane-long : (k : ℕ) → k < 3 → length (getD (x ∷ y ∷ z ∷ []) k []) ≡ n
-  plane-long zero l = hx
-  plane-long (suc zero) l = hy
-  plane-long (suc (suc zero)) l = hz
-  plane-long (suc (suc (suc k))) l = absurd (omega arith)
+use Rattle.shot_packets.proofs.Packet.{buffer-long, plane-long, cleared-memory, fit-with}
 
 -- ---- inside a shot no packet is refused by 1
 module _ (s : Session) (x y z : List ℕ) (n : Names) (m : Memory) (fit : lengthsFit (lengthsOf s) m ≡ true) (table packet : List ℕ) (ht : length table ≡ tableBytes)

@@ -5,7 +5,7 @@ use mathlib.Core.Path.{_≡_, refl, sym, ap, _∙_, subst}
 use mathlib.Core.Bool.{Bool, true, false}
 use mathlib.Core.List.{List, [], _∷_, _++_}
 use mathlib.Core.Logic.{_⊎_, inl, inr, ⊎-elim, _≢_}
-use lib.Dec.{eqb, ltb}
+use lib.Dec.{eqb}
 use lib.ListN.{length, getD, set, length-set}
 use lib.Seq.{getD-set-same, getD-set-other}
 use borrow.Author.Tests.{eqb-true, lt-ltb}
@@ -33,13 +33,14 @@ use Rattle.reading.specs.Answer.{Asked, staysCounted, read, sessionAfter, answe
 use Rattle.reading.proofs.Counted.{fits-after}
 use Rattle.reading.proofs.Places.{outcome-by}
 use Rattle.decoding.specs.Answer.{State, Done, Way, state, done, newBy, decoded}
-use Rattle.theora.specs.Call.{Call, call, lengthsHold, outcomeOf, memoryAfter, byRules}
-use Rattle.theora.specs.Demand.{handedOn}
-use Rattle.theora.proofs.Tokens.{outcome-got}
+use Rattle.calls.specs.Call.{Call, call, lengthsHold, outcomeOf, memoryAfter, byRules}
+use Rattle.calls.specs.Demand.{handedOn}
+use Rattle.calls.proofs.Tokens.{outcome-got}
 use Rattle.buffer_names.specs.declared.Names.{Names}
 use Rattle.buffer_names.specs.Names.{names, free, namesAfter, Sound}
 use Rattle.buffer_names.proofs.Free.{free-is}
-use Rattle.shot_packets.specs.Play.{Shot, shot, bufferOf, stateOf, callOf, after}
+use Rattle.frame_into.specs.Buffers.{bufferOf, index}
+use Rattle.shot_packets.specs.Play.{Shot, shot, stateOf, callOf, after}
 use Rattle.shot_packets.specs.Inner.{TableLoaded}
 
 -- ---- an accepted frame without references is an intra frame
@@ -68,10 +69,18 @@ cleared-after Intra s = refl
 cleared-after Inter s = refl
 cleared-after Repeat s = refl
 
--- ---- names that are sound
-abbrev pub index : ℕ → ℕ
-index k = choose (ltb k 3) k 1
+-- ---- nor do the fields of the session
+after-fields : (kind : Kind) (s : Session) → sessionAfter kind s .fields ≡ s .fields
+unfolding sessionAfter
+after-fields Intra s = refl
+after-fields Inter s = refl
+after-fields Repeat s = refl
 
+pub answer-fields : (s : Session) (o : Outcome Asked) → answerFor s o .session .fields ≡ s .fields
+answer-fields s (refused k e) = refl
+answer-fields s (got a e) = after-fields (a .frame .header .kind) s
+
+-- ---- names that are sound
 small-index : (k : ℕ) → k < 3 → index k ≡ k
 small-index k l = ap (λ (t : Bool). choose t k 1) (lt-ltb k 3 l)
 

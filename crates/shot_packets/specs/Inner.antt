@@ -11,7 +11,7 @@ use Rattle.headers.specs.declared.Session.{Session}
 use Rattle.ways.specs.Ways.{firstWay}
 use Rattle.work_memory.specs.Memory.{Memory}
 use Rattle.reading.specs.declared.FrameAnswer.{FrameAnswer}
-use Rattle.theora.specs.Call.{byRules}
+use Rattle.calls.specs.Call.{byRules}
 use Rattle.buffer_names.specs.declared.Names.{Names}
 use Rattle.shot_packets.specs.Play.{Shot, shot, played, allNumbers}
 

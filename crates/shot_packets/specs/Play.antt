@@ -1,17 +1,16 @@
 -- Packets that are applied in order, one frame call each.
 use Prim.Native.Nat.{ℕ}
 use mathlib.Core.List.{List, [], _∷_, _++_}
-use lib.Dec.{ltb}
 use lib.ListN.{getD, set}
-use Rattle.bitstream.specs.Reading.{choose}
 use Rattle.headers.specs.declared.Session.{Session}
 use Rattle.work_memory.specs.Memory.{Memory}
 use Rattle.reading.specs.declared.FrameAnswer.{FrameAnswer}
 use Rattle.reading.specs.Answer.{answerNumbers}
 use Rattle.decoding.specs.Answer.{State, Done, state}
-use Rattle.theora.specs.Call.{Call, call}
+use Rattle.calls.specs.Call.{Call, call}
 use Rattle.buffer_names.specs.declared.Names.{Names}
 use Rattle.buffer_names.specs.Names.{free, namesAfter}
+use Rattle.frame_into.specs.Buffers.{bufferOf}
 
 -- a shot so far: the session, three buffers and the names of two, work memory, and the answers of its packets
 pub record Shot : Type 0 where
@@ -23,10 +22,6 @@ pub record Shot : Type 0 where
 
 abbrev pub shot : Session → List (List ℕ) → Names → Memory → List FrameAnswer → Shot
 shot s planes names memory answers = record { session = s; planes = planes; names = names; memory = memory; answers = answers }
-
--- the buffer of a name. Without references golden and previous may be anything: buffer 1 is lent (law `alone` of `shot`)
-abbrev pub bufferOf : List (List ℕ) → ℕ → List ℕ
-bufferOf planes k = getD planes (choose (ltb k 3) k 1) []
 
 -- the frame call of a packet
 abbrev pub stateOf : Shot → State

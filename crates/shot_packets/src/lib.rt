@@ -9,103 +9,23 @@ ghost use mathlib.Core.Bool.{true};
 ghost use mathlib.Core.List.{List, [], _∷_, _++_};
 ghost use Prim.Native.Nat.{_*_, _≤_};
 ghost use lib.ListN.{length};
-ghost use Rattle.bitstream.specs.Reading.{choose};
 ghost use Rattle.headers.specs.Fits.{sessionFits};
 ghost use Rattle.kept_matrices.specs.Kept.{Keeps};
 ghost use Rattle.ways.specs.Ways.{firstWay};
 ghost use Rattle.work_memory.specs.Memory.{memory};
 ghost use Rattle.work_memory.specs.Lengths.{blocks, lengthsOf, cleared};
 ghost use Rattle.reading.specs.declared.FrameAnswer.{FrameAnswer};
-ghost use Rattle.reading.specs.Answer.{read};
-ghost use Rattle.decoding.specs.Answer.{state, done, decoded};
-ghost use Rattle.theora.specs.Call.{byRules};
+ghost use Rattle.calls.specs.Call.{byRules};
 ghost use Rattle.packet_list.specs.Packets.{total, packetsIn};
 ghost use Rattle.buffer_names.specs.Names.{namesAfter, Sound};
 ghost use Rattle.shot_packets.specs.Play.{shot, oneMore, answerSize};
 ghost use Rattle.shot_packets.specs.Inner.{TableLoaded, PlaysAll};
-
-// One of two buffers.
-fn one_of<'a>(second: bool, a: &'a [u8], b: &'a [u8]) -> &'a [u8]
-    ensures { λ r. ⌜ now r ≡ choose second (now (b .entry)) (now (a .entry)) ⌝ }
-{
-    if second {
-        return b;
-    }
-    a
-}
 
 // What one packet answers, the names after it, and the matrices that are kept.
 pub struct Played {
     pub answer: FrameAnswer,
     pub names: Names,
     pub kept: KeptMatrices,
-}
-
-// A packet, into the buffer of the number `free`, by golden and previous in the two others.
-fn decode_into<'a>(
-    s: Session,
-    names: Names,
-    packet: &[u8],
-    table: &[u8],
-    loaded: LoadedSetup,
-    kept: KeptMatrices,
-    records: &mut [u32],
-    coded: &mut [u64],
-    coefs: &mut [i16],
-    dc: &mut [i16],
-    lasts: &mut [u8],
-    flags: &mut [u8],
-    bits: &mut [u8],
-    supers: &mut [u8],
-    modes: &mut [u8],
-    active: &mut [u64],
-    low: &'a [u8],
-    high: &'a [u8],
-    golden_high: bool,
-    previous_high: bool,
-    new: &mut [u8],
-    free: u64,
-) -> Played
-    requires { ⌜ (sessionFits s ≡ true) × TableLoaded (now table) loaded × Keeps (now table) (loaded .parameters) kept ⌝ }
-    requires { ⌜ (memory (now records) (now coded) (now coefs) (now dc) (now lasts) (now flags) (now bits) (now supers) (now modes) (now active) ≡ cleared (lengthsOf s)) × (length (now new) ≡ 64 * blocks s) × (length (now low) ≡ 64 * blocks s) × (length (now high) ≡ 64 * blocks s) ⌝ }
-    ensures { λ r. ⌜ done (r .answer) (now (new .exit)) (memory (now (records .exit)) (now (coded .exit)) (now (coefs .exit)) (now (dc .exit)) (now (lasts .exit)) (now (flags .exit)) (now (bits .exit)) (now (supers .exit)) (now (modes .exit)) (now (active .exit)))
-        ≡ decoded firstWay (state s (choose «golden_high» (now (high .entry)) (now (low .entry))) (choose «previous_high» (now (high .entry)) (now (low .entry)))) (now (new .entry)) (read s (now (table .entry)) (now (packet .entry))) ⌝ }
-    ensures { λ r. ⌜ (r .names ≡ namesAfter names free (r .answer .verdict) (r .answer .header .kind)) × Keeps (now (table .entry)) (loaded .parameters) (r .kept) ⌝ }
-{
-    let part = bitstream::readable(packet);
-    let golden = one_of(golden_high, low, high);
-    let previous = one_of(previous_high, low, high);
-    let decoded = decoding::decode_packet(
-        s,
-        part,
-        table,
-        loaded,
-        kept,
-        records,
-        coded,
-        coefs,
-        dc,
-        lasts,
-        flags,
-        bits,
-        supers,
-        modes,
-        active,
-        golden,
-        previous,
-        new,
-    );
-    let answer = decoded.answer;
-    let verdict = answer.verdict;
-    let header = answer.header;
-    let kind = header.kind;
-    let matrices = decoded.kept;
-    let after = buffer_names::names_after(names, free, verdict, kind);
-    Played {
-        answer,
-        names: after,
-        kept: matrices,
-    }
 }
 
 // One packet of a shot: a frame call whose new frame goes into the free buffer.
@@ -137,89 +57,56 @@ pub fn play_packet(
         (memory (now (records .entry)) (now (coded .entry)) (now (coefs .entry)) (now (dc .entry)) (now (lasts .entry)) (now (flags .entry)) (now (bits .entry)) (now (supers .entry)) (now (modes .entry)) (now (active .entry))) answers) (now (packet .entry))) ⌝ }
     ensures { λ r. ⌜ Keeps (now (table .entry)) (loaded .parameters) (r .kept) ⌝ }
 {
+    let part = bitstream::readable(packet);
     let free = buffer_names::free_buffer(names);
-    if free == 0 {
-        let golden_high = names.golden == 2;
-        let previous_high = names.previous == 2;
-        return decode_into(
-            s,
-            names,
-            packet,
-            table,
-            loaded,
-            kept,
-            records,
-            coded,
-            coefs,
-            dc,
-            lasts,
-            flags,
-            bits,
-            supers,
-            modes,
-            active,
-            second,
-            third,
-            golden_high,
-            previous_high,
-            first,
-            0,
-        );
-    }
-    if free == 1 {
-        let golden_high = names.golden == 2;
-        let previous_high = names.previous == 2;
-        return decode_into(
-            s,
-            names,
-            packet,
-            table,
-            loaded,
-            kept,
-            records,
-            coded,
-            coefs,
-            dc,
-            lasts,
-            flags,
-            bits,
-            supers,
-            modes,
-            active,
-            first,
-            third,
-            golden_high,
-            previous_high,
-            second,
-            1,
-        );
-    }
-    let golden_high = names.golden != 0;
-    let previous_high = names.previous != 0;
-    decode_into(
+    let ready = decoding::read_packet(
         s,
-        names,
-        packet,
+        part,
         table,
         loaded,
         kept,
         records,
         coded,
         coefs,
-        dc,
         lasts,
         flags,
         bits,
         supers,
         modes,
         active,
+    );
+    let matrices = ready.kept;
+    let format = ready.format;
+    frame_into::make_into(
+        ready.accepted,
+        free,
+        names.golden,
+        names.previous,
         first,
         second,
-        golden_high,
-        previous_high,
         third,
-        2,
-    )
+        records,
+        coded,
+        ready.count,
+        coefs,
+        dc,
+        lasts,
+        &matrices.values,
+        ready.limit,
+        format,
+        s.fields.fmbw,
+        s.fields.fmbh,
+    );
+    let answer = ready.answer;
+    let verdict = answer.verdict;
+    let header = answer.header;
+    let kind = header.kind;
+    let after = buffer_names::names_after(names, free, verdict, kind);
+    Played {
+        answer,
+        names: after,
+        kept: matrices,
+    }
 }
 
 // The session and the names after some packets.

@@ -12,7 +12,8 @@ use Rattle.output.specs.declared.Written.{Written}
 use Rattle.output.specs.declared.Written.the-variants.{Bytes, Refused}
 use Rattle.output.specs.Output.{Output, gives, leftBy, asWritten}
 use Rattle.output.proofs.Splices.{within-fits}
-use Rattle.y4m.specs.Stream.{numbersOf, headerText, headerFor}
+use Rattle.stream_numbers.specs.Numbers.{numbersOf}
+use Rattle.y4m.specs.Stream.{headerText, headerFor}
 use Rattle.y4m.proofs.HeaderLaws.{header-short}
 
 bytesOf : Written → ℕ

@@ -13,7 +13,9 @@ use Rattle.headers.specs.declared.Session.{Session}
 use Rattle.headers.specs.Fits.{sessionFits}
 use Rattle.headers.specs.Sizes.{formatOf}
 use Rattle.rows.specs.Rows.{turned}
-use Rattle.y4m.specs.Stream.{numbersOf, frameBytes, planeRows, frameRows, frameLine, frameText}
+use Rattle.stream_numbers.specs.Numbers.{numbersOf}
+use Rattle.y4m.specs.Stream.{frameBytes, planeRows, frameRows, frameText}
+use Rattle.frame_marks.specs.Marks.{frameLine}
 use Rattle.y4m.proofs.Sessions.{session-range}
 use Rattle.y4m.proofs.Streams.{session-bytes}
 use native.Mathlib.Nat.{mul-div-right}

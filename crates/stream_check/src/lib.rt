@@ -10,7 +10,8 @@ ghost use lib.ListN.{length};
 ghost use Rattle.geometry.specs.Sizes.{blocksOf, largest};
 ghost use Rattle.headers.specs.Fits.{sessionFits};
 ghost use Rattle.rows.specs.Rows.{turned};
-ghost use Rattle.y4m.specs.Stream.{numbersOf, frameBytes, frameRows, frameText, headerText};
+ghost use Rattle.stream_numbers.specs.Numbers.{numbersOf};
+ghost use Rattle.y4m.specs.Stream.{frameBytes, frameRows, frameText, headerText};
 ghost use Rattle.stream_check.specs.Compared.{difference, onward, beginning};
 
 // The place that was reached in the file, and whether a difference was found there. The place never goes behind the file's end.

@@ -21,8 +21,9 @@ use Rattle.frame_header.specs.declared.Header.{Header}
 use Rattle.frame_header.specs.declared.Kind.the-variants.{Inter}
 use Rattle.frame_header.specs.Answer.{asHeader}
 use Rattle.frame_packet.specs.Frame.{Frame, framePacket}
-use Rattle.frame_packet.specs.Work.{padded, keeping, workKept, asFrame}
-use Rattle.frame_packet.specs.declared.Read.the-variants.{Whole, Refused}
+use Rattle.packet_body.specs.Work.{padded}
+use Rattle.frame_packet.specs.Work.{keeping, workKept, asFrame}
+use Rattle.packet_body.specs.declared.Read.the-variants.{Whole, Refused}
 use Rattle.frame_packet.specs.declared.FrameRead.{FrameRead}
 use Rattle.frame_packet.proofs.Fits.{Fits, packet-fits}
 use Rattle.frame_packet.proofs.Held.{read-refused, read-whole, Front, padded-front}

@@ -32,13 +32,13 @@ fn answer(s: Session, header: Header, tokens: usize, counts: Counts) -> Counted
     ensures { λ r. ⌜ r ≡ choose (staysCounted (header .kind) s) (accepted s header tokens counts) (countedBy s (refused uncounted 0)) ⌝ }
 {
     let kind = header.kind;
-    if !reading::stays_counted(kind, s) {
+    if !session_steps::stays_counted(kind, s) {
         return Counted {
             answer: reading::refusal(bitstream::UNCOUNTED, 0, s),
             counts: counting::no_counts(),
         };
     }
-    let next = reading::session_after(kind, s);
+    let next = session_steps::session_after(kind, s);
     Counted {
         answer: FrameAnswer {
             verdict: Verdict::Accepted(tokens),

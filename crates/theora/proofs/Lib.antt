@@ -1,11 +1,2 @@
-pub mod Lengths
-pub mod Calls
 pub mod Table
-pub mod LeftBySetup
-pub mod Demand
-pub mod Places
-pub mod Tokens
-pub mod First
-pub mod KeyFrames
 pub mod Promised
-pub mod Examples

@@ -15,7 +15,7 @@ use denote.Triple.Entry.{Args, Res}
 use denote.Triple.Clauses.{AtExit}
 use Rattle.work_memory.specs.Memory.{memory}
 use Rattle.decoding.specs.Answer.{State, Done, state, done}
-use Rattle.theora.specs.Call.{Call, call, FramePromise}
+use Rattle.calls.specs.Call.{Call, call, FramePromise}
 use Rattle.theora.proofs.frame as frame
 
 module _ {M : Type 1} (𝓤 : URA M) (H : Heap 𝓤) (A : Atoms 𝓤) (mem : Memory → SProp 𝓤) (run : Routine → Fun 𝓤) (κs : Lfts 15) where

@@ -6,15 +6,14 @@ use reading::FrameAnswer;
 use setup::SetupAnswer;
 use work_memory::WorkLengths;
 ghost use mathlib.Core.Path.{_≡_};
-ghost use Prim.Native.Nat.{_≤_, _^_};
 ghost use lib.ListN.{length};
 ghost use Rattle.headers.specs.Identification.{identification, asIdentification};
 ghost use Rattle.headers.specs.Sizes.{sessionSizes};
 ghost use Rattle.setup.specs.Table.{setupOutcome, asSetupAnswer, tableAfter};
 ghost use Rattle.work_memory.specs.Memory.{memory};
 ghost use Rattle.decoding.specs.Answer.{state, done};
-ghost use Rattle.theora.specs.Lengths.{workLengths, buffersFit};
-ghost use Rattle.theora.specs.Call.{call, FramePromise};
+ghost use Rattle.calls.specs.Call.{call, FramePromise};
+ghost use Rattle.theora.specs.Lengths.{workLengths};
 
 // The published lengths of work memory, or number 8.
 pub enum WorkAnswer {
@@ -54,18 +53,6 @@ pub fn work_lengths(s: Session) -> WorkAnswer
     WorkAnswer::Refused(bitstream::NOT_GENUINE)
 }
 
-// Whether the buffers for frames of n blocks, and table memory, have their lengths.
-pub fn buffers_fit(n: u64, golden: &[u8], previous: &[u8], new: &[u8], table: &[u8]) -> bool
-    requires { ⌜ n ≤ 2 ^ 36 ⌝ }
-    ensures { λ r. ⌜ r ≡ buffersFit n (now (golden .entry)) (now (previous .entry)) (now (new .entry)) (now (table .entry)) ⌝ }
-{
-    let buffer = 64 * n;
-    (golden.len() as u64 == buffer)
-        & (previous.len() as u64 == buffer)
-        & (new.len() as u64 == buffer)
-        & (table.len() == setup::TABLE_BYTES)
-}
-
 // A frame call: reads a packet and, if it is accepted, makes its frame in `new`. Of the lent slices a caller keeps golden, previous and new;
 // the others are work memory, which may hold anything.
 pub fn frame(
@@ -92,7 +79,7 @@ pub fn frame(
 {
     if headers::session_fits(s) {
         let l = work_memory::lengths_of(s);
-        let buffers = buffers_fit(l.records, golden, previous, new, table);
+        let buffers = calls::buffers_fit(l.records, golden, previous, new, table);
         let slices = work_memory::lengths_fit(
             l,
             records,

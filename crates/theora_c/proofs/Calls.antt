@@ -6,9 +6,9 @@ use lib.ListN.{length, set}
 use borrow.Author.Tests.{eq-eqb}
 use Rattle.setup.specs.declared.SetupAnswer.{SetupAnswer}
 use Rattle.setup.specs.Table.{setupOutcome, asSetupAnswer, tableAfter}
-use Rattle.queries.specs.declared.MatrixAnswer.{MatrixAnswer}
+use Rattle.table_queries.specs.declared.MatrixAnswer.{MatrixAnswer}
 use Rattle.queries.specs.Found.{Found, is, absent, refused as no-table}
-use Rattle.queries.specs.Setup.{tableMatrix, matrixInto, asMatrix, leaving}
+use Rattle.table_queries.specs.Setup.{tableMatrix, matrixInto, asMatrix, leaving}
 use Rattle.session_list.specs.List.{Returned, gives, answers}
 use Rattle.session_list.proofs.Lists.{only}
 use Rattle.theora_c.specs.Face.{setupReturned, setupCall, matrixFound, matrixCall}

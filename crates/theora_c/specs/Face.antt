@@ -13,7 +13,7 @@ use Rattle.session_list.specs.List.{Returned, gives, Answered, answers, onList}
 use Rattle.setup.specs.declared.SetupAnswer.{SetupAnswer}
 use Rattle.setup.specs.Table.{setupOutcome, asSetupAnswer, tableAfter}
 use Rattle.queries.specs.Found.{Found, is, absent, refused}
-use Rattle.queries.specs.Setup.{tableLimit, tableMatrix}
+use Rattle.table_queries.specs.Setup.{tableLimit, tableMatrix}
 use Rattle.queries.specs.Orders.{blockAt, blockNumber, macroBlockAt, macroBlockNumber, macroBlockOf, sampleOffset, asBlock, asPlace, asNumber}
 use Rattle.theora.specs.declared.WorkAnswer.{WorkAnswer}
 use Rattle.work_memory.specs.declared.WorkLengths.{WorkLengths}

@@ -208,7 +208,7 @@ pub extern "C" fn wedgepetal_loop_limit(table: &[u8], qi: u64, limit: &mut [u64]
     ensures { λ r. ⌜ gives r (now (limit .exit)) ≡ limitCall (now (table .entry)) qi (now (limit .entry)) ⌝ }
 {
     if limit.len() == 1 {
-        return answer_lists::return_number(queries::loop_limit(table, qi), limit);
+        return answer_lists::return_number(table_queries::loop_limit(table, qi), limit);
     }
     bitstream::WRONG_LENGTH
 }
@@ -226,7 +226,7 @@ pub extern "C" fn wedgepetal_matrix(
 {
     if matrix.len() == 64 {
         let mut numbers = [0u16; 64];
-        let answer = queries::matrix(table, qti, plane, qi, &mut numbers);
+        let answer = table_queries::matrix(table, qti, plane, qi, &mut numbers);
         return answer_lists::return_matrix(answer, &numbers, matrix);
     }
     bitstream::WRONG_LENGTH

@@ -7,7 +7,7 @@ use Rattle.bitstream.specs.Reading.{choose}
 use Rattle.bitstream.specs.Numbers.{wrongLength, badSettings}
 use Rattle.settings.specs.Settings.{settingsFit}
 use Rattle.settings_list.specs.List.{settingsOf}
-use Rattle.theora.specs.Call.{Call}
+use Rattle.calls.specs.Call.{Call}
 use Rattle.session_list.specs.List.{Returned, gives, sessionOf, listsNumber, answers}
 use Rattle.frame_c.specs.Face.{FrameReturned, frameGives, stateOf, doneReturned}
 use Rattle.changed_tiles.specs.declared.MapLength.{MapLength}

@@ -3,7 +3,7 @@ use changed_tiles::MapLength;
 ghost use mathlib.Core.Path.{_≡_};
 ghost use lib.ListN.{length};
 ghost use Rattle.work_memory.specs.Memory.{memory};
-ghost use Rattle.theora.specs.Call.{call};
+ghost use Rattle.calls.specs.Call.{call};
 ghost use Rattle.session_list.specs.List.{gives, answers};
 ghost use Rattle.frame_c.specs.Face.{frameGives};
 ghost use Rattle.tiles_c.specs.Face.{tilesNumber, lengthReturned, lengthCall, tilesGives, tilesFrameCall};

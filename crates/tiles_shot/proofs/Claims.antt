@@ -8,13 +8,13 @@ use Rattle.geometry.specs.Sizes.{across, squares as tiles}
 use Rattle.headers.specs.Sizes.{format}
 use Rattle.settings.specs.declared.Settings.{Settings}
 use Rattle.ways.specs.Ways.{firstWay}
-use Rattle.theora.specs.Call.{byRules}
+use Rattle.calls.specs.Call.{byRules}
 use Rattle.packet_list.specs.Packets.{packetsIn, total}
 use Rattle.packet_list.proofs.Cut.{packets-cut, packets-many}
 use Rattle.shot_packets.specs.Play.{played}
 use Rattle.shot.specs.Call.{ShotCall, startOf, ended, unchanged, byShot}
 use Rattle.shot.proofs.Calls.{passes, shot-refused, shot-played}
-use Rattle.shot.proofs.Turns.{accepted-passed}
+use Rattle.shot_claims.proofs.Turns.{accepted-passed}
 use Rattle.changed_tiles.specs.Call.{mapLengthOf}
 use Rattle.changed_tiles.proofs.Said.{quiet-is-zero, repeat-is-zero, first-is-one, map-is-left}
 use Rattle.shot_maps.specs.Maps.{mapsAfter}

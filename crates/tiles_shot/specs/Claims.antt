@@ -11,7 +11,7 @@ use Rattle.settings.specs.declared.Settings.{Settings}
 use Rattle.ways.specs.Ways.{firstWay}
 use Rattle.reading.specs.Answer.{Asked}
 use Rattle.decoding.specs.Answer.{State}
-use Rattle.theora.specs.Call.{Call, outcomeOf, byRules}
+use Rattle.calls.specs.Call.{Call, outcomeOf, byRules}
 use Rattle.packet_list.specs.Packets.{packetsIn, total}
 use Rattle.shot_packets.specs.Play.{Shot, stateOf, callOf, played}
 use Rattle.shot.specs.Call.{ShotCall, shotNumber, startOf, unchanged, byShot}

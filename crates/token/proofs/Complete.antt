@@ -14,7 +14,7 @@ use Rattle.bitstream.proofs.Lists.{tabulated-length, tabulated-at}
 use Rattle.bitstream.proofs.ListLaws.{and-both}
 use Rattle.numeric.specs.Sign.{withSign}
 use Rattle.token.specs.Token.{Meaning, endOfBlock, zeroRun, coefficient, rowOf, meaning}
-use Rattle.token.specs.Answer.{extraBits, signOf, sizeOf, zerosOf, biased, saying, completeOf, completeAt, tokenComplete, kindOf, told}
+use Rattle.token.specs.Answer.{extraBits, signOf, sizeOf, zerosOf, biased, saying, completeOf, completeAt, tokenComplete, kindOf, completeMeaning}
 use Rattle.token.proofs.Rows.{size-base-most, zero-base-most}
 
 -- ---- 512 plus a value, and back
@@ -27,14 +27,14 @@ minus-from k n m h =
     ∙ (ap (λ (x : ℤ). pos k +ℤ x) (negℤ-+ℤ (pos k) (pos n)) ∙ (sym (+ℤ-assoc (pos k) (negℤ (pos k)) (negℤ (pos n))) ∙ (ap (λ (x : ℤ). x +ℤ negℤ (pos n)) (+ℤ-invr (pos k)) ∙ +ℤ-idl (negℤ (pos n)))))
 
 -- ---- what a number says, by its kind
-told-end : (m n : ℕ) → kindOf m ≡ 1 → m % 2 ^ 16 ≡ n → told m ≡ endOfBlock n
-told-end m n k h = rw k (ap endOfBlock h)
+complete-end : (m n : ℕ) → kindOf m ≡ 1 → m % 2 ^ 16 ≡ n → completeMeaning m ≡ endOfBlock n
+complete-end m n k h = rw k (ap endOfBlock h)
 
-told-zeros : (m n : ℕ) → kindOf m ≡ 2 → m % 2 ^ 16 ≡ n → told m ≡ zeroRun n
-told-zeros m n k h = rw k (ap zeroRun h)
+complete-zeros : (m n : ℕ) → kindOf m ≡ 2 → m % 2 ^ 16 ≡ n → completeMeaning m ≡ zeroRun n
+complete-zeros m n k h = rw k (ap zeroRun h)
 
-told-value : (m z v : ℕ) → kindOf m ≡ 3 → m / 2 ^ 16 % 64 ≡ z → m % 1024 ≡ v → told m ≡ coefficient z (pos v -ℤ pos 512)
-told-value m z v k h g = rw k (λ i. coefficient (h i) (pos (g i) -ℤ pos 512))
+complete-value : (m z v : ℕ) → kindOf m ≡ 3 → m / 2 ^ 16 % 64 ≡ z → m % 1024 ≡ v → completeMeaning m ≡ coefficient z (pos v -ℤ pos 512)
+complete-value m z v k h g = rw k (λ i. coefficient (h i) (pos (g i) -ℤ pos 512))
 
 module _ (t s n z b : ℕ) (small : n ≤ 76) (few : z ≤ 17) where
   -- below 2 ^ 36, and of a kind
@@ -47,16 +47,16 @@ module _ (t s n z b : ℕ) (small : n ≤ 76) (few : z ≤ 17) where
       go false false true = (omega arith, λ h. omega (arith, h))
       go false false false = (omega arith, λ h. omega (arith, h))
 
-  pub told-saying : told (saying t s n z + b * 2 ^ 36) ≡ meaning t s n z
+  pub saying-meaning : completeMeaning (saying t s n z + b * 2 ^ 36) ≡ meaning t s n z
   unfolding meaning withSign
-  told-saying = go (ltb t 7) (ltb t 9) (eqb s 1)
+  saying-meaning = go (ltb t 7) (ltb t 9) (eqb s 1)
     where
-      value : (v : ℕ) → v < 1024 → told (3 * 2 ^ 33 + z * 2 ^ 16 + v + b * 2 ^ 36) ≡ coefficient z (pos v -ℤ pos 512)
-      value v h = told-value (3 * 2 ^ 33 + z * 2 ^ 16 + v + b * 2 ^ 36) z v (omega arith) (omega arith) (omega arith)
+      value : (v : ℕ) → v < 1024 → completeMeaning (3 * 2 ^ 33 + z * 2 ^ 16 + v + b * 2 ^ 36) ≡ coefficient z (pos v -ℤ pos 512)
+      value v h = complete-value (3 * 2 ^ 33 + z * 2 ^ 16 + v + b * 2 ^ 36) z v (omega arith) (omega arith) (omega arith)
 
-      go : (x y w : Bool) → told (choose x (2 ^ 33 + n) (choose y (2 * 2 ^ 33 + n) (3 * 2 ^ 33 + z * 2 ^ 16 + choose w (512 - n) (512 + n))) + b * 2 ^ 36) ≡ choose x (endOfBlock n) (choose y (zeroRun n) (coefficient z (cond w (negℤ (pos n)) (pos n))))
-      go true y w = told-end (2 ^ 33 + n + b * 2 ^ 36) n (omega arith) (omega arith)
-      go false true w = told-zeros (2 * 2 ^ 33 + n + b * 2 ^ 36) n (omega arith) (omega arith)
+      go : (x y w : Bool) → completeMeaning (choose x (2 ^ 33 + n) (choose y (2 * 2 ^ 33 + n) (3 * 2 ^ 33 + z * 2 ^ 16 + choose w (512 - n) (512 + n))) + b * 2 ^ 36) ≡ choose x (endOfBlock n) (choose y (zeroRun n) (coefficient z (cond w (negℤ (pos n)) (pos n))))
+      go true y w = complete-end (2 ^ 33 + n + b * 2 ^ 36) n (omega arith) (omega arith)
+      go false true w = complete-zeros (2 * 2 ^ 33 + n + b * 2 ^ 36) n (omega arith) (omega arith)
       go false false true = value (512 - n) (omega arith) ∙ ap (coefficient z) (minus-from (512 - n) n 512 (omega arith))
       go false false false = value (512 + n) (omega arith) ∙ ap (coefficient z) (plus n)
 
@@ -85,8 +85,8 @@ module _ (t x : ℕ) (short : extraBits t ≤ 3) where
     pub complete-kind : kindOf (completeOf t x + a * 2 ^ 36) ≡ 0 → ⊥
     complete-kind h = facts .1 (sym (ap kindOf regrouped) ∙ h)
 
-    pub complete-told : told (completeOf t x + a * 2 ^ 36) ≡ meaning t (signOf (rowOf t) x) (sizeOf (rowOf t) x) (zerosOf (rowOf t) x)
-    complete-told = ap told regrouped ∙ told-saying t (signOf (rowOf t) x) (sizeOf (rowOf t) x) (zerosOf (rowOf t) x) (extraBits t + a) size-small zeros-few
+    pub complete-meaning : completeMeaning (completeOf t x + a * 2 ^ 36) ≡ meaning t (signOf (rowOf t) x) (sizeOf (rowOf t) x) (zerosOf (rowOf t) x)
+    complete-meaning = ap completeMeaning regrouped ∙ saying-meaning t (signOf (rowOf t) x) (sizeOf (rowOf t) x) (zerosOf (rowOf t) x) (extraBits t + a) size-small zeros-few
 
 -- ---- the table
 complete-place : (i : ℕ) → i < 256 → getD tokenComplete i 0 ≡ completeAt i

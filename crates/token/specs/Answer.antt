@@ -68,12 +68,12 @@ completeAt i = choose (leb (extraBits (i / 8)) 3 && ltb (i % 8) (2 ^ extraBits (
 unfoldable pub tokenComplete : List ℕ
 tokenComplete = tabulated completeAt 0 256
 
--- what such a number says, whatever stands from 2 ^ 36 on; its kind
+-- the kind of such a number, and the meaning that it holds, whatever stands from 2 ^ 36 on
 abbrev pub kindOf : ℕ → ℕ
 kindOf n = n / 2 ^ 33 % 8
 
-abbrev pub told : ℕ → Meaning
-told n = choose (eqb (kindOf n) 3) (coefficient (n / 2 ^ 16 % 64) (pos (n % 1024) -ℤ pos 512)) (choose (eqb (kindOf n) 1) (endOfBlock (n % 2 ^ 16)) (zeroRun (n % 2 ^ 16)))
+abbrev pub completeMeaning : ℕ → Meaning
+completeMeaning n = choose (eqb (kindOf n) 3) (coefficient (n / 2 ^ 16 % 64) (pos (n % 1024) -ℤ pos 512)) (choose (eqb (kindOf n) 1) (endOfBlock (n % 2 ^ 16)) (zeroRun (n % 2 ^ 16)))
 
 -- how large the numbers of a row are
 pub record Small (r : Extra) : Type 0 where

@@ -17,16 +17,17 @@ use Rattle.bitstream.proofs.Bytes.{bits-of-window}
 use Rattle.bitstream.proofs.Fields.{no-mix, field-got}
 use Rattle.bitstream.proofs.Laws.{got-more}
 use Rattle.huffman.specs.Code.{Formed, treeOf}
-use Rattle.huffman.specs.Lookup.{lookupOf, entryIn, extraOf}
 use Rattle.huffman.proofs.Codes.{token-code-lt}
 use Rattle.huffman.proofs.Nodes.{formed-length, formed-proper}
-use Rattle.huffman.proofs.Spreads.{Found, Completed, found-code}
-use Rattle.huffman.proofs.Walks.{walk-code}
+use Rattle.code_walk.specs.Walk.{entryIn}
+use Rattle.code_walk.proofs.Walks.{Found, walk-code}
+use Rattle.code_lookup.specs.Lookup.{lookupOf, extraOf}
+use Rattle.code_lookup.proofs.Spreads.{Completed, found-code}
 use Rattle.token.specs.Token.{Meaning, rowOf}
-use Rattle.token.specs.Answer.{packed, valueOf, tokenValues, tokenComplete, extraBits, completeOf, kindOf, told}
+use Rattle.token.specs.Answer.{packed, valueOf, tokenValues, tokenComplete, extraBits, completeOf, kindOf, completeMeaning}
 use Rattle.token.proofs.Rows.{bits-most, packed-lt, value-at}
 use Rattle.token.proofs.Facts.{extra-got}
-use Rattle.token.proofs.Complete.{complete-bits, complete-kind, complete-told, complete-at}
+use Rattle.token.proofs.Complete.{complete-bits, complete-kind, complete-meaning, complete-at}
 use Rattle.token_reader.specs.Reader.{token}
 use Rattle.token_reader.specs.Answer.{Lookup, lookedUp, entryAt, rowSays, tokenBy, tokenOf}
 use Rattle.token_reader.proofs.Lookups.{none-set}
@@ -133,8 +134,8 @@ module _ (nodes p : List ℕ) (at w : ℕ) (f : Formed nodes) (is : w ≡ number
     of-a-kind : kindOf e ≡ 0 → ⊥
     of-a-kind h = complete-kind t x short (done .taken) (sym (ap kindOf complete-is) ∙ h)
 
-    says : told e ≡ rowSays t x
-    says = ap told complete-is ∙ complete-told t x short (done .taken)
+    says : completeMeaning e ≡ rowSays t x
+    says = ap completeMeaning complete-is ∙ complete-meaning t x short (done .taken)
 
     by-itself : Entry e
     by-itself =

@@ -4,8 +4,8 @@ use mathlib.Core.Path.{_≡_, refl, ap, _∙_}
 use mathlib.Core.List.{List}
 use mathlib.Core.Logic.{inl, inr}
 use lib.ListN.{length, getD, replicate, length-replicate}
-use Rattle.huffman.specs.Lookup.{lookupOf}
-use Rattle.huffman.proofs.Spreads.{lookup-length}
+use Rattle.code_lookup.specs.Lookup.{lookupOf}
+use Rattle.code_lookup.proofs.Spreads.{lookup-length}
 use Rattle.token.specs.Answer.{tokenValues, tokenComplete}
 use Rattle.token_reader.specs.Answer.{Lookup}
 

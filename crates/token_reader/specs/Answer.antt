@@ -7,9 +7,10 @@ use lib.Dec.{eqb}
 use lib.ListN.{length, getD}
 use Rattle.bitstream.specs.Reading.{Outcome, got, choose}
 use Rattle.huffman.specs.Code.{treeOf}
-use Rattle.huffman.specs.Lookup.{lookupOf, entryIn}
+use Rattle.code_walk.specs.Walk.{entryIn}
+use Rattle.code_lookup.specs.Lookup.{lookupOf}
 use Rattle.token.specs.Token.{Meaning, rowOf, meaning}
-use Rattle.token.specs.Answer.{tokenValues, tokenComplete, kindOf, told, extraBits, signOf, sizeOf, zerosOf}
+use Rattle.token.specs.Answer.{tokenValues, tokenComplete, kindOf, completeMeaning, extraBits, signOf, sizeOf, zerosOf}
 
 -- a lookup for a tree: each entry is 0, which says nothing, or the tree's: the value of a token, or a complete one, with the bits of its code
 pub record Lookup (nodes lookup : List ℕ) : Type 0 where
@@ -35,4 +36,4 @@ tokenBy entry window at = got (named entry window at) (at + entry / 2 ^ 36)
 
 -- the same, and where an entry is complete what it says itself
 abbrev pub tokenOf : ℕ → ℕ → ℕ → Outcome Meaning
-tokenOf entry window at = got (choose (eqb (kindOf entry) 0) (named entry window at) (told entry)) (at + entry / 2 ^ 36)
+tokenOf entry window at = got (choose (eqb (kindOf entry) 0) (named entry window at) (completeMeaning entry)) (at + entry / 2 ^ 36)

@@ -19,7 +19,7 @@ fn entry_in(window: u64, from: usize, nodes: &[u8], lookup: &[u64], values: &[u6
     let first = ((window >> (56 - from)) % 256) as usize;
     let entry = lookup[first];
     if entry == 0 {
-        return huffman::walk(window, from, nodes, values);
+        return code_walk::walk(window, from, nodes, values);
     }
     entry
 }

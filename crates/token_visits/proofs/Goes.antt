@@ -18,8 +18,11 @@ use Rattle.token.specs.Token.{Meaning, endOfBlock, zeroRun, coefficient}
 use Rattle.token.proofs.Laws.{Sound}
 use Rattle.token_reader.specs.Reader.{token}
 use Rattle.token_reader.proofs.Laws.{token-sound}
-use Rattle.token_visits.specs.Visits.{TokenState, stateOf, runOf, act, readFor, visit, pass}
-use Rattle.token_visits.specs.Answer.{room, Below}
+use Rattle.block_positions.specs.Positions.{runOf}
+use Rattle.block_visits.specs.Visits.{TokenState, stateOf, act, readFor, visit}
+use Rattle.token_visits.specs.Visits.{pass}
+use Rattle.block_positions.specs.Answer.{Below}
+use Rattle.token_visits.specs.Answer.{room}
 
 -- ---- the room that the blocks have
 pub room-set : (ps : List ℕ) (b x : ℕ) → b < length ps → room (set ps b x) + (64 - getD ps b 0) ≡ room ps + (64 - x)

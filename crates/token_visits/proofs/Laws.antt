@@ -13,7 +13,8 @@ use Rattle.bitstream.proofs.Inside.{Inside, pure-inside, here-inside, guard-ins
 use Rattle.bitstream.proofs.Spends.{Spends, spends-more, pure-spends, here-then, guard-spends, pick-spends, bind-spends}
 use Rattle.huffman.specs.Tree.{Tree, Proper}
 use Rattle.token.specs.Token.{Meaning, endOfBlock, zeroRun, coefficient}
-use Rattle.token_visits.specs.Visits.{TokenState, act, readFor, visit, pass}
+use Rattle.block_visits.specs.Visits.{TokenState, act, readFor, visit}
+use Rattle.token_visits.specs.Visits.{pass}
 use Rattle.token_reader.proofs.Laws.{token-lawful, token-inside, token-refuses, token-spends}
 
 -- ---- local and firm

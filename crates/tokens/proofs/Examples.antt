@@ -11,8 +11,11 @@ use Rattle.huffman.specs.Code.{code, tokenCode}
 use Rattle.numeric.specs.Sign.{withSign}
 use Rattle.token.specs.Token.{rowOf, meaning, extra}
 use Rattle.token_reader.specs.Reader.{token}
-use Rattle.token_visits.specs.Visits.{unfinished, runOf, act, readFor, visit, pass}
-use Rattle.tokens.specs.Tokens.{group, table, choices, atPosition, positionsFrom, ranks, start, Tokens, readTokens}
+use Rattle.block_positions.specs.Positions.{unfinished, runOf}
+use Rattle.block_visits.specs.Visits.{act, readFor, visit}
+use Rattle.token_visits.specs.Visits.{pass}
+use Rattle.table_choices.specs.Choices.{group, choices}
+use Rattle.tokens.specs.Tokens.{table, atPosition, positionsFrom, ranks, start, Tokens, readTokens}
 
 abbrev given : List ℤ → List ℕ → ℕ → Tokens
 given cs ls n = record { coefs = cs; lasts = ls; tokens = n }

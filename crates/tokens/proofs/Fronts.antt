@@ -8,9 +8,10 @@ use lib.Seq.{take-at, drop-at, length-take-le}
 use lib.IntN.{ℤ, pos}
 use Rattle.bitstream.specs.Reading.{Outcome, got, refused}
 use Rattle.huffman.specs.Tree.{Tree}
-use Rattle.token_visits.specs.Visits.{TokenState, stateOf}
-use Rattle.tokens.specs.Tokens.{choicesOf, positionsFrom, ranks, start, Tokens, tokensOf, readTokens}
-use Rattle.token_visits.specs.Answer.{Shape}
+use Rattle.block_visits.specs.Visits.{TokenState, stateOf}
+use Rattle.table_choices.specs.Choices.{choicesOf}
+use Rattle.tokens.specs.Tokens.{positionsFrom, ranks, start, Tokens, tokensOf, readTokens}
+use Rattle.block_visits.specs.Answer.{Shape}
 use Rattle.tokens.specs.Answer.{AllOpen, Cleared, Stored, Untouched, asCounted}
 use Rattle.tokens.specs.declared.Counted.the-variants as counted
 

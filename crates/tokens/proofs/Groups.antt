@@ -1,25 +1,16 @@
--- Where groups of positions begin, and the lookups that change there. Assumes nothing.
-use Prim.Native.Nat.{ℕ, zero, suc, _+_, _-_, _≤_, _<_}
+-- The lookups, which change where a group of positions begins. Assumes nothing.
+use Prim.Native.Nat.{ℕ, zero, suc, _+_, _-_, _≤_}
 use native.Mathlib.Omega.{arith}
 use mathlib.Core.Path.{_≡_, sym, _∙_}
 use mathlib.Core.List.{List}
-use mathlib.Core.Bool.{true, false, not}
-use lib.Dec.{eqb}
+use mathlib.Core.Bool.{true, false}
 use lib.ListN.{length}
-use borrow.Author.Tests.{eq-eqb, ne-eqb, eqb-true, not-false}
+use borrow.Author.Tests.{eqb-true, not-false}
 use Rattle.bitstream.specs.Reading.{got}
-use Rattle.tokens.specs.Tokens.{group, Choices, choices}
-use Rattle.tokens.specs.Answer.{beginsGroup, Ready, Current}
-use Rattle.tokens.proofs.Positions.{choices-kept}
-
-module _ (k : ℕ) where
-  pub begins-first : k ≡ 0 → true ≡ beginsGroup k
-  unfolding beginsGroup
-  begins-first h = rw (eq-eqb k 0 h)
-
-  pub begins-later : (k ≡ 0 → ⊥) → not (eqb (group k) (group (k - 1))) ≡ beginsGroup k
-  unfolding beginsGroup
-  begins-later h = rw (ne-eqb k 0 h)
+use Rattle.table_choices.specs.Choices.{group, Choices, choices}
+use Rattle.table_choices.specs.Answer.{beginsGroup}
+use Rattle.table_choices.proofs.Choices.{choices-kept, begins-later}
+use Rattle.tokens.specs.Answer.{Ready, Current}
 
 -- the groups before position 2 have one position each
 inside : (k : ℕ) → beginsGroup k ≡ false → 2 ≤ k

@@ -14,8 +14,9 @@ use Rattle.bitstream.proofs.Laws.{Lawful, lawful, pure-lawful, bind-lawful, bin
 use Rattle.bitstream.proofs.Inside.{Inside, inside, pure-inside, bind-inside, Refuses, refuses, pure-refuses, bind-refuses}
 use Rattle.bitstream.proofs.Spends.{Spends, spends-more, pure-spends, pick-spends, bind-spends, field-spends}
 use Rattle.huffman.specs.Tree.{Tree}
-use Rattle.token_visits.specs.Visits.{TokenState}
-use Rattle.tokens.specs.Tokens.{group, table, Choices, choicesOf, choices, atPosition, positionsFrom, ranks, start, Tokens, tokensOf, readTokens}
+use Rattle.block_visits.specs.Visits.{TokenState}
+use Rattle.table_choices.specs.Choices.{group, Choices, choicesOf, choices}
+use Rattle.tokens.specs.Tokens.{table, atPosition, positionsFrom, ranks, start, Tokens, tokensOf, readTokens}
 use Rattle.tokens.specs.Answer.{AllProper}
 use Rattle.token_visits.proofs.Laws.{pass-lawful, pass-inside, pass-refuses, pass-spends}
 use Rattle.token_visits.proofs.Goes.{Visits, Bounded, room-most}

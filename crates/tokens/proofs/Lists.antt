@@ -6,9 +6,10 @@ use mathlib.Core.List.{List}
 use lib.ListN.{length, take, drop, length-drop}
 use lib.Seq.{take-all}
 use Rattle.huffman.specs.Tree.{Tree}
-use Rattle.token_visits.specs.Visits.{TokenState}
-use Rattle.tokens.specs.Tokens.{Choices, atPosition, ranks}
-use Rattle.token_visits.specs.Answer.{Below}
+use Rattle.block_visits.specs.Visits.{TokenState}
+use Rattle.table_choices.specs.Choices.{Choices}
+use Rattle.tokens.specs.Tokens.{atPosition, ranks}
+use Rattle.block_positions.specs.Answer.{Below}
 use Rattle.tokens.specs.Answer.{unfinishedOf, AllOpen, KeptActive}
 use Rattle.token_visits.proofs.Goes.{Later, below-each}
 use Rattle.tokens.proofs.Unfinished.{unfinished-all, unfinished-twice, below-unfinished, position-unfinished}

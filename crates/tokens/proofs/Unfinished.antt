@@ -13,10 +13,14 @@ use borrow.Rule.Slice.PartMut.{putMid, postOf, mid-len}
 use borrow.Author.Tests.{lt-ltb, le-ltb, ltb-true, ltb-false}
 use Rattle.bitstream.specs.Reading.{Outcome, got, refused, after}
 use Rattle.huffman.specs.Tree.{Tree}
-use Rattle.token_visits.specs.Visits.{TokenState, unfinished, visit, pass}
-use Rattle.tokens.specs.Tokens.{Choices, table, atPosition}
+use Rattle.block_positions.specs.Positions.{unfinished}
+use Rattle.block_visits.specs.Visits.{TokenState, visit}
+use Rattle.token_visits.specs.Visits.{pass}
+use Rattle.table_choices.specs.Choices.{Choices}
+use Rattle.tokens.specs.Tokens.{table, atPosition}
 use Rattle.tokens.specs.Answer.{unfinishedOf, KeptOne, KeptActive}
-use Rattle.token_visits.proofs.Ways.{visit-other, one-unfinished, one-finished}
+use Rattle.block_positions.proofs.Unfinished.{one-unfinished, one-finished}
+use Rattle.block_visits.proofs.Ways.{visit-other}
 use Rattle.token_visits.proofs.Goes.{Later, AllBelow, visit-goes, pass-goes}
 
 -- ---- one block

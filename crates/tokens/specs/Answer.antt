@@ -2,8 +2,8 @@
 use Prim.Native.Nat.{ℕ, zero, suc, _+_, _-_, _*_, _^_, _<_, _≤_}
 use mathlib.Core.Path.{_≡_}
 use mathlib.Core.List.{List, [], _∷_, _++_}
-use mathlib.Core.Bool.{Bool, true, false, not}
-use lib.Dec.{eqb, ltb}
+use mathlib.Core.Bool.{false}
+use lib.Dec.{ltb}
 use lib.ListN.{length, getD, take, drop, replicate}
 use lib.IntN.{ℤ, pos}
 use Rattle.bitstream.specs.Reading.{Outcome, got, refused, choose}
@@ -11,15 +11,11 @@ use Rattle.bitstream.specs.Answer.{IfGot}
 use Rattle.huffman.specs.Tree.{Tree, Proper, leaf, nodesOf}
 use Rattle.huffman.specs.Code.{treeOf}
 use Rattle.token_reader.specs.Answer.{Lookup}
-use Rattle.tokens.specs.Tokens.{Choices, Tokens, group}
-use Rattle.tokens.specs.declared.Chosen.{Chosen}
-use Rattle.tokens.specs.declared.Chosen.the-variants as chosen
+use Rattle.table_choices.specs.Choices.{group}
+use Rattle.table_choices.specs.Answer.{beginsGroup}
+use Rattle.tokens.specs.Tokens.{Tokens}
 use Rattle.tokens.specs.declared.Counted.{Counted}
 use Rattle.tokens.specs.declared.Counted.the-variants as counted
-
-abbrev pub asChosen : Outcome Choices → Chosen
-asChosen (got ch e) = chosen.Tables (ch .luma) (ch .chroma) e
-asChosen (refused k e) = chosen.Refused k e
 
 abbrev pub asCounted : Outcome Tokens → Counted
 asCounted (got t e) = counted.Done e (t .tokens)
@@ -86,10 +82,6 @@ pub record Tables (nodes : List ℕ) : Type 0 where
 -- the nodes of the tree j
 abbrev pub nodesAt : List ℕ → ℕ → List ℕ
 nodesAt nodes j = take 64 (drop (64 * j) nodes)
-
--- whether a group of positions begins at k
-unfoldable pub beginsGroup : ℕ → Bool
-beginsGroup k = choose (eqb k 0) true (not (eqb (group k) (group (k - 1))))
 
 -- the lookup of the table that is used at the position k by a choice, for n blocks: for none it may be any; and what of it stands before the position: where a group begins, room
 abbrev pub Ready : List ℕ → ℕ → ℕ → ℕ → List ℕ → Type 0

@@ -1,31 +1,17 @@
 -- How tokens give the coefficients of the coded blocks. A block is named by its rank: its index among the coded blocks in coded order.
 use Prim.Native.Nat.{ℕ, zero, suc, _+_, _-_, _*_}
 use mathlib.Core.List.{List, [], _∷_}
-use lib.Dec.{ltb}
 use lib.ListN.{getD, replicate}
 use lib.IntN.{ℤ, pos}
-use Rattle.bitstream.specs.Reading.{Parse, pure, bind, pick, choose, field, _>>=_, _>>_}
+use Rattle.bitstream.specs.Reading.{Parse, pure, bind, _>>=_, _>>_}
 use Rattle.huffman.specs.Tree.{Tree, leaf}
-use Rattle.token_visits.specs.Visits.{TokenState, stateOf, pass}
-
--- "Groups 0, 1–5, 6–14, 15–27, 28–63"
-unfoldable pub group : ℕ → ℕ
-group k = choose (ltb k 1) 0 (choose (ltb k 6) 1 (choose (ltb k 15) 2 (choose (ltb k 28) 3 4)))
+use Rattle.block_visits.specs.Visits.{TokenState, stateOf}
+use Rattle.token_visits.specs.Visits.{pass}
+use Rattle.table_choices.specs.Choices.{group, Choices, choicesOf, choices}
 
 -- "table is 16·group + choice"
 unfoldable pub table : List Tree → ℕ → ℕ → Tree
 table trees k choice = getD trees (16 * group k + choice) (leaf 0)
-
-pub record Choices : Type 0 where
-  pub luma : ℕ
-  pub chroma : ℕ
-
-abbrev pub choicesOf : ℕ → ℕ → Choices
-choicesOf a b = record { luma = a; chroma = b }
-
--- "at 0 and 1, two 4-bit table choices (luma, chroma), also if no block is coded"
-unfoldable pub choices : ℕ → Choices → Parse Choices
-choices k ch = pick (ltb k 2) (bind (field 4) (λ a. bind (field 4) (λ b. pure (choicesOf a b)))) (pure ch)
 
 -- the luma blocks and then the chroma blocks at the position k, each by their table
 unfoldable pub atPosition : List Tree → List ℕ → List ℕ → ℕ → Choices → TokenState → Parse TokenState

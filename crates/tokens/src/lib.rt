@@ -1,21 +1,19 @@
 // Reads the tokens of a frame into the coefficients of its coded blocks, which are named by their rank in coded order.
-use bitstream::Two;
-use token_visits::Visit;
+use block_visits::Visit;
+use table_choices::Chosen;
 ghost use mathlib.Core.Path.{_≡_};
 ghost use Prim.Native.Nat.{_+_, _-_, _*_, _<_, _≤_, _^_};
 ghost use lib.ListN.{length, getD, take, drop};
 ghost use Rattle.bitstream.specs.Bits.{longest};
 ghost use Rattle.token_reader.specs.Answer.{Lookup};
-ghost use Rattle.token_visits.specs.Visits.{stateOf, pass};
-ghost use Rattle.token_visits.specs.Answer.{Visited, Shape, room, Below};
-ghost use Rattle.tokens.specs.Tokens.{group, choices, choicesOf, ranks, atPosition, positionsFrom, readTokens};
-ghost use Rattle.tokens.specs.Answer.{unfinishedOf, KeptOne, KeptActive, asChosen, Tables, nodesAt, beginsGroup, Ready, Current, treeAt, treesOf, AllOpen, asCounted, Cleared, Stored, Untouched};
-
-// The table choices for luma and chroma and the place behind them, or the refusal.
-enum Chosen {
-    Tables(usize, usize, usize),
-    Refused(u32, usize),
-}
+ghost use Rattle.block_visits.specs.Visits.{stateOf};
+ghost use Rattle.token_visits.specs.Visits.{pass};
+ghost use Rattle.block_positions.specs.Answer.{Below};
+ghost use Rattle.block_visits.specs.Answer.{Visited, Shape};
+ghost use Rattle.token_visits.specs.Answer.{room};
+ghost use Rattle.table_choices.specs.Choices.{choicesOf};
+ghost use Rattle.tokens.specs.Tokens.{ranks, atPosition, positionsFrom, readTokens};
+ghost use Rattle.tokens.specs.Answer.{unfinishedOf, KeptOne, KeptActive, Tables, nodesAt, Ready, Current, treeAt, treesOf, AllOpen, asCounted, Cleared, Stored, Untouched};
 
 // The place behind all tokens and how many there are, or the refusal.
 pub enum Counted {
@@ -31,7 +29,7 @@ fn keep_one(positions: &[u8], blocks: &mut [u64], j: usize, kept: usize) -> usiz
     let b = blocks[j];
     let p = positions[b as usize];
     blocks[kept] = b;
-    kept + token_visits::one_if_unfinished(p)
+    kept + block_positions::one_if_unfinished(p)
 }
 
 // Moves the unfinished blocks of a list to its front, and answers how many they are.
@@ -76,44 +74,6 @@ fn write_ranks(blocks: &mut [u64])
     while b < blocks.len() {
         blocks[b] = b as u64;
         b += 1;
-    }
-}
-
-// The group of the position k.
-fn group_of(k: usize) -> usize
-    ensures { λ r. ⌜ (r ≡ group k) × (r ≤ 4) ⌝ }
-{
-    if k < 1 {
-        return 0;
-    }
-    if k < 6 {
-        return 1;
-    }
-    if k < 15 {
-        return 2;
-    }
-    if k < 28 {
-        return 3;
-    }
-    4
-}
-
-// The table choices at the position k: new ones at 0 and 1, and else the present ones.
-fn read_choices(packet: &[u8], at: usize, k: usize, luma: usize, chroma: usize) -> Chosen
-    requires { ⌜ length (now packet) ≤ longest ⌝ }
-    ensures { λ r. ⌜ r ≡ asChosen (choices k (choicesOf luma chroma) (now (packet .entry)) at) ⌝ }
-{
-    if 2 <= k {
-        return Chosen::Tables(luma, chroma, at);
-    }
-    let both = bitstream::read_two(packet, at, 4, 4);
-    match both {
-        Two::Refused(number, place) => Chosen::Refused(number, place),
-        Two::Got(a, b, end) => {
-            let lumas = a as usize;
-            let chromas = b as usize;
-            Chosen::Tables(lumas, chromas, end)
-        }
     }
 }
 
@@ -184,7 +144,7 @@ fn read_position(
     requires { ⌜ Shape (now positions) (now lasts) (now coefs) × (tokens + room (now positions) < 2 ^ 60) ⌝ }
     ensures { λ r. ⌜ Visited r (now (positions .exit)) (now (lasts .exit)) (now (coefs .exit)) (atPosition (treesOf (now (nodes .entry))) (take lumas (now (active .entry))) (take (end - luma) (drop luma (now (active .entry)))) k (choicesOf y c) (stateOf (now (positions .entry)) (now (lasts .entry)) (now (coefs .entry)) run tokens) (now (packet .entry)) at) ⌝ }
 {
-    let g = 16 * group_of(k);
+    let g = 16 * table_choices::group_of(k);
     let one = pass_table(
         packet,
         at,
@@ -218,23 +178,13 @@ fn read_position(
     )
 }
 
-// Whether a group begins at the position k.
-fn begins_group(k: usize) -> bool
-    ensures { λ r. ⌜ r ≡ beginsGroup k ⌝ }
-{
-    if k == 0 {
-        return true;
-    }
-    group_of(k) != group_of(k - 1)
-}
-
-// From how many blocks on a lookup is filled at the position k. Filling one takes some 2,600 instructions, and a token 50 more where its code is walked;
+// From how many blocks on a lookup is filled at the position k. Filling one takes some 2,900 instructions, and a token 90 more where its code is walked;
 // at the position 0, a group by itself, a block has at most one token.
 fn lookup_pays(k: usize) -> usize {
     if k == 0 {
         return 24;
     }
-    8
+    7
 }
 
 // Fills the lookup of a tree for the codes of so many blocks from the position k on. For few all its entries are 0, so that their codes are walked:
@@ -244,12 +194,12 @@ fn fill_lookup(nodes: &[u8], k: usize, count: usize, lookup: &mut [u64])
     ensures { λ _. ⌜ Lookup (now (nodes .entry)) (now (lookup .exit)) ⌝ }
 {
     if count < lookup_pays(k) {
-        huffman::fill_with(lookup, 0);
+        code_lookup::fill_with(lookup, 0);
         return;
     }
     let values = token::all_values();
     let complete = token::all_complete();
-    huffman::fill_by(nodes, &values, &complete, lookup);
+    code_lookup::fill_by(nodes, &values, &complete, lookup);
 }
 
 // Fills the lookup of the table that is used at the position k by a choice, where a group begins; else it is there. For no block none is filled.
@@ -260,10 +210,10 @@ fn renew_lookup(nodes: &[u8], k: usize, choice: usize, count: usize, lookup: &mu
     if count == 0 {
         return;
     }
-    if !begins_group(k) {
+    if !table_choices::begins_group(k) {
         return;
     }
-    let from = 64 * (16 * group_of(k) + choice);
+    let from = 64 * (16 * table_choices::group_of(k) + choice);
     let to = from + 64;
     fill_lookup(&nodes[from..to], k, count, lookup);
 }
@@ -294,7 +244,7 @@ fn read_positions(
     let mut lumas = luma;
     let mut end = active.len();
     while k < 64 {
-        let choice = read_choices(packet, place, k, y, c);
+        let choice = table_choices::read_choices(packet, place, k, y, c);
         match choice {
             Chosen::Refused(number, e) => {
                 return Visit::Refused(number, e);

@@ -10,8 +10,9 @@ use borrow.Author.Tests.{ltb-true, ltb-false}
 use lib.Dec.{ltb}
 use lib.IntN.{ℤ, pos}
 use lib.ListN.{getD}
-use Rattle.transform.specs.declared.Line.{Line}
-use Rattle.transform.specs.Block.{lineAt}
+use Rattle.lines.specs.declared.Line.{Line}
+use Rattle.lines.specs.Places.{lineAt}
+use Rattle.zig_zag.specs.Placing.{ZerosFrom}
 
 abbrev pub zeros : Line
 zeros = record { x0 = pos 0; x1 = pos 0; x2 = pos 0; x3 = pos 0; x4 = pos 0; x5 = pos 0; x6 = pos 0; x7 = pos 0 }
@@ -27,10 +28,6 @@ zero-at s at (suc (suc (suc (suc (suc zero))))) e h = ap (λ (l : Line). l .x5) 
 zero-at s at (suc (suc (suc (suc (suc (suc zero)))))) e h = ap (λ (l : Line). l .x6) e
 zero-at s at (suc (suc (suc (suc (suc (suc (suc zero))))))) e h = ap (λ (l : Line). l .x7) e
 zero-at s at (suc (suc (suc (suc (suc (suc (suc (suc j)))))))) e h = absurd (omega arith)
-
--- from place n of the 64 behind `at` on
-abbrev pub ZerosFrom : List ℤ → ℕ → ℕ → Type 0
-ZerosFrom s at n = (k : ℕ) → n ≤ k → k < 64 → getD s (at + k) (pos 0) ≡ pos 0
 
 either : (s : List ℤ) (at m n k : ℕ) (t : Bool) → ltb k n ≡ t → n ≡ m + 8 → lineAt s (at + m) 1 ≡ zeros → ZerosFrom s at n → m ≤ k → k < 64 → getD s (at + k) (pos 0) ≡ pos 0
 either s at m n k true e d l z a b =

@@ -18,8 +18,8 @@ use Rattle.block_record.specs.declared.Prediction.the-variants.{None, Previous,
 use Rattle.block_record.specs.declared.BlockRecord.{BlockRecord}
 use Rattle.block_record.specs.Record.{uncoded}
 use Rattle.numeric.specs.Sign.{withSign}
-use Rattle.vectors.specs.Component.{added, shortest, width, least, variable, byCode, component, vector}
-use Rattle.vectors.specs.Motion.{motion, moving, movingGolden, ifCoded, row, movingFour, meanOfTwo, meanOfFour, lumaVector, chromaVector, fourVector, predictionOf}
+use Rattle.motion_reader.specs.Component.{added, shortest, width, least, variable, byCode, component, vector}
+use Rattle.motion_reader.specs.Motion.{motion, moving, movingGolden, ifCoded, row, movingFour, meanOfTwo, meanOfFour, lumaVector, chromaVector, fourVector, predictionOf}
 use Rattle.motion.specs.Kept.{still, lastRead}
 use Rattle.vectors.specs.Vectors.{numberIn, codedIn, predictedAt, predictedFrom, macroBlock, macroBlocks, vectors}
 

@@ -25,12 +25,12 @@ use Rattle.block_record.specs.declared.BlockRecord.{BlockRecord}
 use Rattle.block_record.specs.Record.{VectorInRange, PredictionInRange, InRange, withPrediction, uncoded}
 use Rattle.block_record.proofs.MemoryLaws.{AllInRange, in-range-at, in-range-set}
 use Rattle.motion.specs.declared.Motion.{Motion}
-use Rattle.vectors.specs.Component.{added, width, least, variable, byCode, component, vector}
-use Rattle.vectors.specs.Motion.{motion, moving, movingGolden, ifCoded, row, movingFour, predictionOf}
+use Rattle.motion_reader.specs.Component.{added, width, least, variable, byCode, component, vector}
+use Rattle.motion_reader.specs.Motion.{motion, moving, movingGolden, ifCoded, row, movingFour, predictionOf}
 use Rattle.motion.specs.Kept.{MotionInRange, zeroVector, still}
 use Rattle.vectors.specs.Vectors.{numberIn, predictedAt, predictedFrom, VectorState, macroBlock, macroBlocks, vectors}
-use Rattle.vectors.proofs.Components.{long-fits}
-use Rattle.vectors.proofs.Motions.{prediction-small}
+use Rattle.motion_reader.proofs.Components.{long-fits}
+use Rattle.motion_reader.proofs.Motions.{prediction-small}
 use Rattle.motion.proofs.Kept.{zero-small}
 use Rattle.vectors.proofs.Records.{macro-through, first}
 

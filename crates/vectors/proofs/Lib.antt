@@ -1,6 +1,4 @@
--- What other crates cite: Laws. LastRead: what FOUR keeps. Components, Motions, Records and Start have what the functions' proofs need, Examples worked examples. Assumes nothing.
-pub mod Components
-pub mod Motions
+-- What other crates cite: Laws. Records and Start have what the functions' proofs need, Examples worked examples. Assumes nothing.
 pub mod Records
 pub mod Start
 pub mod Laws

@@ -28,11 +28,11 @@ use Rattle.motion.specs.declared.Motion.{Motion}
 use Rattle.motion.specs.declared.Moved.{Moved}
 use Rattle.vectors.specs.declared.Step.{Step}
 use Rattle.vectors.specs.declared.Step.the-variants.{Next, Refused}
-use Rattle.vectors.specs.Motion.{motion, predictionOf}
+use Rattle.motion_reader.specs.Motion.{motion, predictionOf}
 use Rattle.motion.specs.Kept.{MovedInRange, zeroVector}
 use Rattle.vectors.specs.Vectors.{numberIn, codedIn, predictedAt, predictedFrom, VectorState, macroBlock, macroBlocks, vectors}
 use Rattle.vectors.specs.Memory.{stateOf, StoredState, asStep}
-use Rattle.vectors.proofs.Motions.{motion-small}
+use Rattle.motion_reader.proofs.Motions.{motion-small}
 
 -- ---- the record of a block
 pub coded-at : (f : PixelFormat) (w h : ℕ) (q : Place) (l : List ℕ) (k i : ℕ) → i ≡ numberIn f w h q k → unpacked (getD l i 0) .coded ≡ codedIn f w h q (recordsOf l) k

@@ -35,15 +35,14 @@ use Rattle.block_record.specs.Memory.{AllPacked, recordsOf}
 use Rattle.motion.specs.declared.Motion.{Motion}
 use Rattle.motion.specs.declared.Motion.the-variants.{One}
 use Rattle.motion.specs.declared.Moved.{Moved}
-use Rattle.vectors.specs.Motion.{motion, predictionOf}
+use Rattle.motion_reader.specs.Motion.{motion, predictionOf}
 use Rattle.motion.specs.Kept.{zeroVector, unmoved, predictedAs, started}
 use Rattle.vectors.specs.Vectors.{numberIn, codedIn, predictedAt, predictedFrom, VectorState, macroBlock, macroBlocks}
 use Rattle.vectors.specs.Memory.{stateOf}
 use Rattle.vectors.specs.Start.{Waiting}
-use Rattle.vectors.proofs.Motions.{motion-still}
-use Rattle.motion.proofs.Kept.{still-nomv}
+use Rattle.motion_reader.proofs.Motions.{motion-still}
+use Rattle.motion.proofs.Kept.{still-nomv, started-packed, started-record}
 use Rattle.vectors.proofs.Records.{moves, movedTo, macro-end, macro-moved}
-use Rattle.motion.proofs.Kept.{started-packed, started-record}
 
 -- ---- one record
 module _ (p : Prediction) (r : BlockRecord) where

@@ -16,7 +16,7 @@ use Rattle.block_record.specs.declared.Prediction.{Prediction}
 use Rattle.block_record.specs.declared.BlockRecord.{BlockRecord}
 use Rattle.block_record.specs.Record.{withPrediction, uncoded}
 use Rattle.motion.specs.declared.Motion.{Motion}
-use Rattle.vectors.specs.Motion.{motion, predictionOf}
+use Rattle.motion_reader.specs.Motion.{motion, predictionOf}
 use Rattle.motion.specs.Kept.{zeroVector}
 
 -- the raster number of block k of macro block q: luma A, B, C, D, then Cb, then Cr

@@ -20,19 +20,19 @@ use Rattle.ways.specs.Ways.{firstWay}
 use Rattle.work_memory.specs.Memory.{Memory}
 use Rattle.work_memory.specs.Lengths.{lengthsOf, cleared}
 use Rattle.decoding.specs.Answer.{Done}
-use Rattle.theora.specs.Call.{byRules}
+use Rattle.calls.specs.Call.{byRules}
 use Rattle.packet_list.specs.Packets.{packetsIn}
 use Rattle.buffer_names.specs.declared.Names.{Names}
 use Rattle.buffer_names.specs.Names.{names, namesOf, free}
 use Rattle.buffer_names.proofs.First.{sound-first}
-use Rattle.y4m.specs.Stream.{numbersOf}
+use Rattle.stream_numbers.specs.Numbers.{numbersOf}
 use Rattle.shot_packets.specs.Play.{Shot, shot, stateOf, after}
 use Rattle.shot_packets.proofs.Rules.{any-memory}
 use Rattle.shot_packets.proofs.Packet.{cleared-memory}
 use Rattle.shot_packets.proofs.Loop.{holds}
 use Rattle.shot.specs.declared.ShotVerdict.the-variants.{Played}
 use Rattle.shot.specs.Call.{ShotCall, ShotDone, shotCall, shotDone, reaches, lentNumber, shotNumber, startOf, unchanged, byShot}
-use Rattle.shot.specs.Claims.{answerOf}
+use Rattle.shot_claims.specs.Claims.{answerOf}
 use Rattle.shot.proofs.Calls.{passes, number-0, shot-refused, shot-empty, shot-some, memory-fits, planes-long}
 use Rattle.film.specs.Film.{filmOf}
 use Rattle.checked_packets.specs.declared.Watched.{Watched}

@@ -12,15 +12,16 @@ use Rattle.ways.specs.Ways.{firstWay}
 use Rattle.reading.specs.declared.Verdict.{Verdict}
 use Rattle.reading.specs.declared.Verdict.the-variants as verdict
 use Rattle.decoding.specs.Answer.{State, Done}
-use Rattle.theora.specs.Call.{Call, byRules}
-use Rattle.theora.specs.Demand.{Turn, turns}
+use Rattle.calls.specs.Call.{Call, byRules}
+use Rattle.calls.specs.Demand.{Turn, turns}
 use Rattle.buffer_names.specs.Names.{Sound}
-use Rattle.y4m.specs.declared.Numbers.{Numbers}
-use Rattle.y4m.specs.Stream.{numbersOf, frameBytes, frameOf, frameText, framesText, headerText, streamText}
+use Rattle.stream_numbers.specs.declared.Numbers.{Numbers}
+use Rattle.stream_numbers.specs.Numbers.{numbersOf}
+use Rattle.y4m.specs.Stream.{frameBytes, frameOf, frameText, framesText, headerText, streamText}
 use Rattle.y4m.proofs.Streams.{session-bytes}
 use Rattle.shot_packets.specs.Play.{Shot, stateOf, callOf, after, oneMore}
 use Rattle.shot_packets.proofs.Rules.{state-handed, three-after, sound-after}
-use Rattle.shot.specs.Claims.{callsOf, answerOf}
+use Rattle.shot_claims.specs.Claims.{callsOf, answerOf}
 use Rattle.film.specs.Film.{withFrame, framesOf, joined, filmOf}
 use Rattle.film.proofs.Frames.{AllLong, joined-at, all-long}
 use Rattle.stream_check.specs.declared.Compared.{Compared}

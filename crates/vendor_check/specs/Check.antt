@@ -15,15 +15,16 @@ use Rattle.work_memory.specs.Memory.{Memory}
 use Rattle.reading.specs.declared.FrameAnswer.{FrameAnswer}
 use Rattle.reading.specs.declared.Verdict.{Verdict}
 use Rattle.reading.specs.declared.Verdict.the-variants as verdict
-use Rattle.theora.specs.Call.{byRules}
-use Rattle.theora.specs.Demand.{Turn, turns}
+use Rattle.calls.specs.Call.{byRules}
+use Rattle.calls.specs.Demand.{Turn, turns}
 use Rattle.packet_list.specs.Packets.{packetsIn}
 use Rattle.text.specs.Same.{same}
-use Rattle.y4m.specs.Stream.{numbersOf, headerText}
+use Rattle.stream_numbers.specs.Numbers.{numbersOf}
+use Rattle.y4m.specs.Stream.{headerText}
 use Rattle.buffer_names.specs.Names.{names}
 use Rattle.shot_packets.specs.Play.{stateOf}
 use Rattle.shot.specs.Call.{ShotCall, shotNumber, startOf, byShot}
-use Rattle.shot.specs.Claims.{callsOf, answerOf}
+use Rattle.shot_claims.specs.Claims.{callsOf, answerOf}
 use Rattle.film.specs.Film.{filmOf}
 use Rattle.stream_check.specs.Compared.{difference, onward, beginning}
 use Rattle.checked_packets.specs.declared.Watched.{Watched}

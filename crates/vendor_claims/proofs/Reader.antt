@@ -7,16 +7,17 @@ use mathlib.Core.List.{List}
 use lib.Dec.{leb}
 use lib.ListN.{length}
 use Rattle.bitstream.specs.Reading.{choose}
-use Rattle.y4m.specs.declared.Numbers.{Numbers}
-use Rattle.y4m.specs.Stream.{numbersOf, frameBytes, streamText}
+use Rattle.stream_numbers.specs.declared.Numbers.{Numbers}
+use Rattle.stream_numbers.specs.Numbers.{numbersOf}
+use Rattle.y4m.specs.Stream.{frameBytes, streamText}
 use Rattle.y4m.specs.Film.{holds, refused, numbersIn, isStreamOf, bodyOf, framesOf as countIn, planesOf, filmIn}
 use Rattle.y4m.proofs.Streams.{stream-only}
 use Rattle.shot.proofs.Calls.{passes}
-use Rattle.shot.proofs.Turns.{accepted-passed}
+use Rattle.shot_claims.proofs.Turns.{accepted-passed}
 use Rattle.shot.specs.Call.{startOf}
-use Rattle.shot.specs.Claims.{callsOf}
+use Rattle.shot_claims.specs.Claims.{callsOf}
 use Rattle.shot_packets.specs.Play.{stateOf}
-use Rattle.theora.specs.Call.{byRules}
+use Rattle.calls.specs.Call.{byRules}
 use Rattle.ways.specs.Ways.{firstWay}
 use Rattle.packet_list.specs.Packets.{packetsIn}
 use Rattle.film.specs.Film.{framesOf, joined, filmOf}

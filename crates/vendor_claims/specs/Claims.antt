@@ -14,10 +14,10 @@ use Rattle.ways.specs.Ways.{firstWay}
 use Rattle.reading.specs.declared.FrameAnswer.{FrameAnswer}
 use Rattle.reading.specs.declared.Verdict.{Verdict}
 use Rattle.reading.specs.declared.Verdict.the-variants as verdict
-use Rattle.y4m.specs.Stream.{numbersOf}
+use Rattle.stream_numbers.specs.Numbers.{numbersOf}
 use Rattle.y4m.specs.Film.{holds, filmIn}
 use Rattle.shot.specs.Call.{ShotCall, shotNumber, byShot}
-use Rattle.shot.specs.Claims.{answerOf}
+use Rattle.shot_claims.specs.Claims.{answerOf}
 use Rattle.film.specs.Film.{framesOf, joined, filmOf}
 use Rattle.check_answer.specs.declared.CheckAnswer.{CheckAnswer}
 use Rattle.check_answer.specs.declared.CheckAnswer.the-variants.{Passes, Differs, Refused}

@@ -1,3 +1,3 @@
--- Lengths: the published lengths. Clearing: what becomes zero, slice by slice and whole. Assumes nothing.
+-- Lengths: the published lengths. Clearing: work memory becomes zero. Assumes nothing.
 pub mod Lengths
 pub mod Clearing

@@ -11,8 +11,9 @@ use Rattle.headers.specs.Fits.{sessionFits}
 use Rattle.output.specs.Output.{refused, leftBy, within, asWritten, spliced}
 use Rattle.output.specs.declared.Written.the-variants.{Bytes}
 use Rattle.output.proofs.Splices.{written-whole}
-use Rattle.y4m.specs.declared.Numbers.{Numbers}
-use Rattle.y4m.specs.Stream.{numbersOf, headerText, frameBytes, frameText, framesText, streamText, countOf, streamWith, streamFor, headerFor, frameWith, frameFor}
+use Rattle.stream_numbers.specs.declared.Numbers.{Numbers}
+use Rattle.stream_numbers.specs.Numbers.{numbersOf}
+use Rattle.y4m.specs.Stream.{headerText, frameBytes, frameText, framesText, streamText, countOf, streamWith, streamFor, headerFor, frameWith, frameFor}
 use Rattle.y4m.specs.Film.{step}
 use Rattle.y4m.proofs.FrameLaws.{count-fits, stream-length, stream-written, room-enough, room-short}
 

@@ -12,9 +12,11 @@ use Rattle.headers.specs.Sizes.{formatOf}
 use Rattle.text.specs.Decimal.{decimal, trimmed, digits, scan}
 use Rattle.text.specs.Same.{same}
 use Rattle.rows.specs.Rows.{turned}
-use Rattle.y4m.specs.declared.Numbers.{Numbers}
-use Rattle.y4m.specs.Stream.{aspect, numbersOf, formatText, headerText, frameBytes, planeRows, frameRows, frameLine, frameText, framesText, streamText}
-use Rattle.y4m.specs.Film.{formatIn, numbersIn, numbersFit, isHeader, marked, isStreamOf}
+use Rattle.stream_numbers.specs.declared.Numbers.{Numbers}
+use Rattle.stream_numbers.specs.Numbers.{aspect, numbersOf}
+use Rattle.y4m.specs.Stream.{formatText, headerText, frameBytes, planeRows, frameRows, frameText, framesText, streamText}
+use Rattle.frame_marks.specs.Marks.{frameLine, marked}
+use Rattle.y4m.specs.Film.{formatIn, numbersIn, numbersFit, isHeader, isStreamOf}
 
 -- the numbers of the request's example
 abbrev small : Numbers

@@ -13,7 +13,7 @@ use Rattle.geometry.specs.Sizes.{blocksEach, macroBlocksOf}
 use Rattle.geometry.proofs.SizeLaws.{blocks-each, sizes-small}
 use Rattle.headers.specs.Sizes.{formatOf}
 use Rattle.text.proofs.Texts.{and-left, and-right}
-use Rattle.y4m.specs.declared.Numbers.{Numbers}
+use Rattle.stream_numbers.specs.declared.Numbers.{Numbers}
 use Rattle.y4m.specs.Stream.{wide, high, frameBytes}
 use Rattle.y4m.specs.Film.{sizeFits, rateFits, aspectFits, formatFits, numbersFit}
 

@@ -1,13 +1,11 @@
 -- Frames and their planes, as loops write and read them. Assumes nothing.
 use Prim.Native.Nat.{ℕ, zero, suc, _+_, _*_, _-_, _/_, _≤_, _<_}
 use native.Mathlib.Omega.{arith}
-use native.Mathlib.Nat.{mul-assoc, mul-left-comm, le-of-eq, eq-or-lt-of-le, div-mul-le-self, le-div-iff-mul-le, div-lt-iff-lt-mul}
+use native.Mathlib.Nat.{mul-assoc, mul-left-comm, le-of-eq, div-mul-le-self, le-div-iff-mul-le, div-lt-iff-lt-mul}
 use mathlib.Core.Path.{_≡_, refl, sym, ap, _∙_}
-use mathlib.Core.Bool.{Bool, true, false, _&&_}
 use mathlib.Core.List.{List, _++_, append-nil}
-use mathlib.Core.Logic.{_⊎_, inl, inr}
 use lib.ListN.{length, take, drop, length-append, drop-of-length-le}
-use lib.Seq.{take-all, drop-drop, take-add}
+use lib.Seq.{take-all, take-add}
 use borrow.Rule.Slice.PartMut.{putMid}
 use Rattle.geometry.specs.declared.PixelFormat.{PixelFormat}
 use Rattle.geometry.specs.declared.Plane.{Plane}
@@ -18,13 +16,14 @@ use Rattle.geometry.proofs.SizeLaws.{before-luma, before-next, before-all, befo
 use Rattle.headers.specs.Sizes.{formatOf}
 use Rattle.output.specs.Output.{part, spliced}
 use Rattle.output.proofs.Splices.{part-length, spliced-next, spliced-part, spliced-none, spliced-first}
-use Rattle.text.specs.Same.{same}
 use Rattle.rows.specs.Rows.{turned}
-use Rattle.rows.proofs.Facts.{in-turn-more, row-fits}
+use Rattle.rows.proofs.Facts.{in-turn-more}
 use Rattle.rows.proofs.Twice.{turn-part, in-turn-length, turned-length, turned-twice}
-use Rattle.y4m.specs.declared.Numbers.{Numbers}
-use Rattle.y4m.specs.Stream.{headerText, wide, high, frameBytes, planeRows, frameRows, rowsOf, frameLine, frameText, frameOf, framesText, streamText, countOf}
-use Rattle.y4m.specs.Film.{step, marked, planesAt, planesOf}
+use Rattle.stream_numbers.specs.declared.Numbers.{Numbers}
+use Rattle.y4m.specs.Stream.{headerText, wide, high, frameBytes, planeRows, frameRows, rowsOf, frameText, frameOf, framesText, streamText, countOf}
+use Rattle.frame_marks.specs.Marks.{frameLine}
+use Rattle.y4m.specs.Film.{step, planesAt, planesOf}
+use Rattle.frame_marks.proofs.Laws.{more-fits, part-behind}
 
 -- one list more into a slice
 pub turn-more : (f : ℕ → List ℕ) (k at place : ℕ) (o m : List ℕ)
@@ -172,10 +171,6 @@ module _ (n : Numbers) where
             ∙ spliced-next at begin frameLine (rowsOf n planes) o o₁ s eb (omega arith),
       )
 
--- n of them fit, and one more
-pub more-fits : (k count size : ℕ) → k < count → k * size + size ≤ count * size
-more-fits k count size h = row-fits k count size h
-
 -- ---- frames that lie one behind the other in a buffer
 module _ (n : Numbers) (frames : List ℕ) (count : ℕ) (long : count * frameBytes n ≤ length frames) where
   pub frame-there : (k : ℕ) → k < count → length (frameOf n frames k) ≡ frameBytes n
@@ -201,36 +196,6 @@ module _ (n : Numbers) (frames : List ℕ) (count : ℕ) (long : count * frameBy
       let more = more-fits k count (step n) l in
       e ∙ (λ i. spliced place (frameText n (take (z i) (drop (ef i) frames))) m)
       ∙ turn-more (λ i. frameText n (frameOf n frames i)) k at place o m s (omega arith) (omega (arith, text-length n (frameOf n frames k) (frame-there k l)))
-
--- ---- the lines of the frames
-marked-last : (w : ℕ) (body : List ℕ) (k : ℕ) → marked w body (suc k) ≡ (marked w body k && same (part body (k * w) 6) frameLine)
-unfolding marked
-marked-last w body k = refl
-
-and-false : (a b : Bool) → b ≡ false → (a && b) ≡ false
-and-false true b h = h
-and-false false b h = refl
-
-pub marked-none : (w : ℕ) (body : List ℕ) → marked w body 0 ≡ true
-unfolding marked
-marked-none w body = refl
-
-pub marked-not : (w : ℕ) (body : List ℕ) (count k : ℕ) → k < count → same (part body (k * w) 6) frameLine ≡ false → marked w body count ≡ false
-marked-not w body zero k l h = absurd (omega arith)
-marked-not w body (suc c) k l h = marked-last w body c ∙ by (eq-or-lt-of-le (omega arith)) (λ g. marked-not w body c k g h)
-  where
-    by : (k ≡ c) ⊎ (k < c) → (k < c → marked w body c ≡ false) → (marked w body c && same (part body (c * w) 6) frameLine) ≡ false
-    by (inl e) rest = and-false (marked w body c) (same (part body (c * w) 6) frameLine) (ap (λ (m : ℕ). same (part body (m * w) 6) frameLine) (sym e) ∙ h)
-    by (inr g) rest = ap (λ (b : Bool). b && same (part body (c * w) 6) frameLine) (rest g)
-
-pub marked-more : (w : ℕ) (body : List ℕ) (k : ℕ) → marked w body k ≡ true → same (part body (k * w) 6) frameLine ≡ true → marked w body (k + 1) ≡ true
-marked-more w body k h e =
-    let s : k + 1 ≡ suc k = omega arith in
-    ap (marked w body) s ∙ marked-last w body k ∙ (λ i. h i && e i)
-
--- a part of what stands behind a place
-pub part-behind : (t : List ℕ) (at k size : ℕ) → part (drop at t) k size ≡ part t (at + k) size
-part-behind t at k size = ap (λ (l : List ℕ). take size l) (drop-drop k at t)
 
 -- ---- frames out of a stream
 module _ (n : Numbers) (t : List ℕ) (at count : ℕ) (long : at + count * step n ≤ length t) where

@@ -14,7 +14,7 @@ use Rattle.output.proofs.Splices.{spliced-length, spliced-next, spliced-first}
 use Rattle.text.specs.Decimal.{Scanned, decimal, number, FoundAt}
 use Rattle.text.specs.Same.{same}
 use Rattle.text.proofs.Decimals.{decimal-length}
-use Rattle.y4m.specs.declared.Numbers.{Numbers}
+use Rattle.stream_numbers.specs.declared.Numbers.{Numbers}
 use Rattle.y4m.specs.Stream.{two, sizeText, rateText, aspectText, formatText, headerText}
 use Rattle.y4m.specs.Film.{formatIn, numbersIn, numbersFit, isHeader, headerEnd}
 

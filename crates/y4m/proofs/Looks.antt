@@ -13,12 +13,13 @@ use Rattle.output.specs.Output.{spliced}
 use Rattle.output.proofs.Splices.{spliced-first}
 use Rattle.text.specs.Same.{same}
 use Rattle.text.proofs.Texts.{and-left, and-right, same-eq}
-use Rattle.y4m.specs.declared.Numbers.{Numbers}
+use Rattle.stream_numbers.specs.declared.Numbers.{Numbers}
 use Rattle.y4m.specs.declared.Looked.{Looked}
 use Rattle.y4m.specs.declared.Looked.the-variants.{Frames, Other}
 use Rattle.y4m.specs.declared.FilmAnswer.{FilmAnswer}
 use Rattle.y4m.specs.Stream.{headerText, frameBytes}
-use Rattle.y4m.specs.Film.{numbersIn, filmIn, numbersFit, isHeader, headerEnd, bodyOf, step, framesOf, marked, isStreamOf, looked, planesOf, Holds, holds, refused, filmWith, asFilm, planesBy}
+use Rattle.y4m.specs.Film.{numbersIn, filmIn, numbersFit, isHeader, headerEnd, bodyOf, step, framesOf, isStreamOf, looked, planesOf, Holds, holds, refused, filmWith, asFilm, planesBy}
+use Rattle.frame_marks.specs.Marks.{marked}
 use Rattle.y4m.proofs.Fitting.{bytes-some}
 use Rattle.y4m.proofs.HeaderLaws.{header-short}
 

@@ -13,8 +13,8 @@ use Rattle.headers.specs.declared.Session.{Session}
 use Rattle.headers.specs.Fits.{all, widthsFit, pictureInside, rangesHold, withinShift, sessionFits}
 use Rattle.bitstream.proofs.ListLaws.{and-both}
 use Rattle.headers.proofs.Fitting.{all-at}
-use Rattle.y4m.specs.declared.Numbers.{Numbers}
-use Rattle.y4m.specs.Stream.{aspect, numbersOf}
+use Rattle.stream_numbers.specs.declared.Numbers.{Numbers}
+use Rattle.stream_numbers.specs.Numbers.{aspect, numbersOf}
 use Rattle.y4m.specs.Film.{sizeFits, rateFits, aspectFits, formatFits, numbersFit}
 use Rattle.y4m.proofs.Fitting.{Between, Aspects, Format, Fit, fit}
 

@@ -23,11 +23,14 @@ use Rattle.text.specs.Same.{same}
 use Rattle.text.proofs.Decimals.{NoDigit, number-decimal}
 use Rattle.text.proofs.Texts.{and-left, and-right, same-refl, same-eq}
 use Rattle.rows.proofs.Twice.{in-turn-part, in-order}
-use Rattle.y4m.specs.declared.Numbers.{Numbers}
-use Rattle.y4m.specs.Stream.{numbersOf, formatText, headerText, frameBytes, rowsOf, frameLine, frameText, frameOf, framesText, streamText, whole, countOf, headerFor, frameFor}
-use Rattle.y4m.specs.Film.{formatIn, numbersIn, numbersFit, isHeader, bodyOf, step, framesOf, marked, isStreamOf, planesAt, planesOf, holds, filmWith, filmIn}
+use Rattle.stream_numbers.specs.declared.Numbers.{Numbers}
+use Rattle.stream_numbers.specs.Numbers.{numbersOf}
+use Rattle.y4m.specs.Stream.{formatText, headerText, frameBytes, rowsOf, frameText, frameOf, framesText, streamText, whole, countOf, headerFor, frameFor}
+use Rattle.frame_marks.specs.Marks.{frameLine, marked}
+use Rattle.y4m.specs.Film.{formatIn, numbersIn, numbersFit, isHeader, bodyOf, step, framesOf, isStreamOf, planesAt, planesOf, holds, filmWith, filmIn}
 use Rattle.y4m.proofs.Fitting.{Format, Fit, fit}
-use Rattle.y4m.proofs.FrameLaws.{rows-length, rows-twice, text-length, frame-there, frames-length, marked-none, marked-more, marked-not, planes-there, planes-so-far, stream-length, count-fits}
+use Rattle.y4m.proofs.FrameLaws.{rows-length, rows-twice, text-length, frame-there, frames-length, planes-there, planes-so-far, stream-length, count-fits}
+use Rattle.frame_marks.proofs.Laws.{marked-none, marked-more, marked-not}
 use Rattle.y4m.proofs.Looks.{Begins, stream-begins, film-holds}
 use Rattle.y4m.proofs.Sessions.{numbers-fit, someSession, some-session}
 

@@ -1,6 +1,6 @@
 -- "A reader accepts exactly what this writer writes and gives the same planes"
-use Prim.Native.Nat.{ℕ, zero, suc, _+_, _*_, _/_, _%_}
-use mathlib.Core.Bool.{Bool, true, _&&_, _||_}
+use Prim.Native.Nat.{ℕ, _+_, _*_, _/_, _%_}
+use mathlib.Core.Bool.{Bool, _&&_, _||_}
 use mathlib.Core.List.{List, _++_}
 use lib.Dec.{eqb, leb}
 use lib.ListN.{length, take, drop, getD}
@@ -10,12 +10,13 @@ use Rattle.geometry.specs.Order.{inTurn}
 use Rattle.output.specs.Output.{part}
 use Rattle.text.specs.Decimal.{number}
 use Rattle.text.specs.Same.{same}
-use Rattle.y4m.specs.declared.Numbers.{Numbers}
+use Rattle.stream_numbers.specs.declared.Numbers.{Numbers}
 use Rattle.y4m.specs.declared.FilmAnswer.{FilmAnswer}
 use Rattle.y4m.specs.declared.FilmAnswer.the-variants.{Is, Refused}
 use Rattle.y4m.specs.declared.Looked.{Looked}
 use Rattle.y4m.specs.declared.Looked.the-variants.{Frames, Other}
-use Rattle.y4m.specs.Stream.{headerText, frameBytes, frameLine, rowsOf}
+use Rattle.y4m.specs.Stream.{headerText, frameBytes, rowsOf}
+use Rattle.frame_marks.specs.Marks.{marked}
 
 -- ---- the header's numbers
 -- what the header of a stream says, if it is one: the numbers by their places, and C by its third letter
@@ -68,11 +69,6 @@ step n = 6 + frameBytes n
 
 abbrev pub framesOf : Numbers → List ℕ → ℕ
 framesOf n t = length (bodyOf n t) / step n
-
--- each of the first k frames begins with `FRAME` and a line feed
-unfoldable pub marked : ℕ → List ℕ → ℕ → Bool
-marked step body zero = true
-marked step body (suc k) = marked step body k && same (part body (k * step) 6) frameLine
 
 unfoldable pub isStreamOf : Numbers → List ℕ → Bool
 isStreamOf n t = isHeader n t && (eqb (length (bodyOf n t) % step n) 0 && marked (step n) (bodyOf n t) (framesOf n t))

@@ -1,5 +1,5 @@
 -- "a YUV4MPEG2 stream: whole coded frame, top row first, planes in order"
-use Prim.Native.Nat.{ℕ, _+_, _*_, _/_, _%_}
+use Prim.Native.Nat.{ℕ, _*_, _/_, _%_}
 use mathlib.Core.Bool.{Bool}
 use mathlib.Core.List.{List, [], _∷_, _++_}
 use lib.Dec.{eqb}
@@ -15,25 +15,11 @@ use Rattle.headers.specs.Sizes.{formatOf}
 use Rattle.output.specs.Output.{Output, refused, within, part}
 use Rattle.text.specs.Decimal.{decimal}
 use Rattle.rows.specs.Rows.{turned}
-use Rattle.y4m.specs.declared.Numbers.{Numbers}
+use Rattle.stream_numbers.specs.declared.Numbers.{Numbers}
+use Rattle.stream_numbers.specs.Numbers.{numbersOf}
+use Rattle.frame_marks.specs.Marks.{frameLine}
 
 -- ---- the header
--- "if either aspect number is 0, write `A0:0`"
-unfoldable pub aspect : ℕ → ℕ → ℕ
-aspect this other = choose (eqb other 0) 0 this
-
--- "numbers as in the session, not reduced"; the whole coded frame
-unfoldable pub numbersOf : Session → Numbers
-numbersOf s = record {
-  width = 16 * s .fields .fmbw;
-  height = 16 * s .fields .fmbh;
-  frn = s .fields .frn;
-  frd = s .fields .frd;
-  parn = aspect (s .fields .parn) (s .fields .pard);
-  pard = aspect (s .fields .pard) (s .fields .parn);
-  pf = s .fields .pf;
-}
-
 -- two numbers, each behind some text
 abbrev pub two : List ℕ → ℕ → List ℕ → ℕ → List ℕ
 two before a between b = before ++ (decimal a ++ (between ++ decimal b))
@@ -80,10 +66,6 @@ frameRows f w h planes = inTurn (planeRows f w h planes) 3
 
 abbrev pub rowsOf : Numbers → List ℕ → List ℕ
 rowsOf n = frameRows (formatOf (n .pf)) (wide n) (high n)
-
--- "each frame is `FRAME`, a line feed, and here 384 bytes"
-abbrev pub frameLine : List ℕ
-frameLine = 70 ∷ 82 ∷ 65 ∷ 77 ∷ 69 ∷ 10 ∷ []
 
 unfoldable pub frameText : Numbers → List ℕ → List ℕ
 frameText n planes = frameLine ++ rowsOf n planes

@@ -1,15 +1,14 @@
 // Frames of a stream: plane buffers with the rows of each plane turned over.
-use crate::Numbers;
 use geometry::PixelFormat;
+use stream_numbers::Numbers;
 ghost use mathlib.Core.Path.{_≡_};
 ghost use mathlib.Core.Bool.{true};
 ghost use Prim.Native.Nat.{_+_, _*_, _≤_};
 ghost use lib.ListN.{length, drop};
 ghost use Rattle.geometry.specs.Sizes.{blocksOf, largest};
-ghost use Rattle.output.specs.Output.{part, spliced};
-ghost use Rattle.text.specs.Same.{same};
-ghost use Rattle.y4m.specs.Stream.{frameBytes, frameRows, rowsOf, frameLine, frameText, framesText};
-ghost use Rattle.y4m.specs.Film.{numbersFit, step, marked, planesOf};
+ghost use Rattle.output.specs.Output.{spliced};
+ghost use Rattle.y4m.specs.Stream.{frameBytes, frameRows, rowsOf, frameText, framesText};
+ghost use Rattle.y4m.specs.Film.{numbersFit, step, planesOf};
 
 // The three planes of src, the rows of each turned over.
 fn turn_planes(format: PixelFormat, w: u64, h: u64, src: &[u8], dst: &mut [u8])
@@ -72,31 +71,6 @@ pub fn put_frames(
         k += 1;
     }
     place
-}
-
-// Whether a frame begins at a place.
-fn line_at(stream: &[u8], at: usize) -> bool
-    requires { ⌜ at ≤ length (now stream) ⌝ }
-    ensures { λ r. ⌜ r ≡ same (part (now (stream .entry)) at 6) frameLine ⌝ }
-{
-    text::stands_at(stream, at, b"FRAME\n")
-}
-
-// Whether each of the first `count` frames behind place `at` begins with its line.
-pub fn all_marked(stream: &[u8], at: usize, size: usize, count: usize) -> bool
-    requires { ⌜ at + count * (6 + size) ≤ length (now stream) ⌝ }
-    ensures { λ r. ⌜ r ≡ marked (6 + size) (drop at (now (stream .entry))) count ⌝ }
-{
-    let mut place = at;
-    let mut k: usize = 0;
-    while k < count {
-        if !line_at(stream, place) {
-            return false;
-        }
-        place += 6 + size;
-        k += 1;
-    }
-    true
 }
 
 // The planes of the frames behind place `at`, one frame after the other.

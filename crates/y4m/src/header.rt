@@ -1,42 +1,12 @@
 // The header line of a stream: its numbers, written and read.
-use crate::Numbers;
-use headers::Session;
+use stream_numbers::Numbers;
 ghost use mathlib.Core.Path.{_≡_};
 ghost use mathlib.Core.Bool.{true};
-ghost use Prim.Native.Nat.{_+_, _*_, _^_, _≤_, _<_};
+ghost use Prim.Native.Nat.{_+_, _^_, _≤_, _<_};
 ghost use lib.ListN.{length, getD};
-ghost use Rattle.headers.specs.Fits.{sessionFits};
 ghost use Rattle.output.specs.Output.{spliced};
-ghost use Rattle.y4m.specs.Stream.{aspect, numbersOf, two, formatText, headerText, frameBytes};
+ghost use Rattle.y4m.specs.Stream.{two, formatText, headerText, frameBytes};
 ghost use Rattle.y4m.specs.Film.{numbersIn, formatIn, numbersFit, headerEnd, sizeFits, rateFits, aspectFits};
-
-fn aspect(this: u64, other: u64) -> u64
-    ensures { λ r. ⌜ r ≡ aspect this other ⌝ }
-{
-    if other == 0 {
-        return 0;
-    }
-    this
-}
-
-// The numbers of a session's streams.
-pub fn numbers_of(s: Session) -> Numbers
-    requires { ⌜ sessionFits s ≡ true ⌝ }
-    ensures { λ r. ⌜ r ≡ numbersOf s ⌝ }
-{
-    let f = s.fields;
-    let parn = aspect(f.parn, f.pard);
-    let pard = aspect(f.pard, f.parn);
-    Numbers {
-        width: 16 * f.fmbw,
-        height: 16 * f.fmbh,
-        frn: f.frn,
-        frd: f.frd,
-        parn: parn,
-        pard: pard,
-        pf: f.pf,
-    }
-}
 
 // Writes two numbers, each behind some text; the place behind them.
 fn put_two(out: &mut [u8], at: usize, before: &[u8], a: u64, between: &[u8], b: u64) -> usize

@@ -4,23 +4,13 @@ mod header;
 
 use headers::Session;
 use output::Written;
+use stream_numbers::Numbers;
 ghost use mathlib.Core.Path.{_≡_};
 ghost use mathlib.Core.Bool.{true};
 ghost use lib.ListN.{length};
 ghost use Rattle.output.specs.Output.{leftBy, within, asWritten};
 ghost use Rattle.y4m.specs.Stream.{streamText, frameBytes, countOf, streamFor, headerFor, frameFor};
 ghost use Rattle.y4m.specs.Film.{numbersFit, looked, filmIn, asFilm, planesBy};
-
-// What a stream's header says: W, H, F, A, and C as a pixel format's number.
-pub struct Numbers {
-    pub width: u64,
-    pub height: u64,
-    pub frn: u64,
-    pub frd: u64,
-    pub parn: u64,
-    pub pard: u64,
-    pub pf: u64,
-}
 
 // What a reader found: the header's numbers, and how many frames.
 pub struct Film {
@@ -61,7 +51,7 @@ pub fn write(s: Session, frames: &[u8], out: &mut [u8]) -> Written
     if !headers::session_fits(s) {
         return Written::Refused(bitstream::NOT_GENUINE, 0);
     }
-    let n = header::numbers_of(s);
+    let n = stream_numbers::numbers_of(s);
     let size = header::frame_bytes(n);
     if frames.len() % size != 0 {
         return Written::Refused(bitstream::WRONG_LENGTH, 0);
@@ -77,7 +67,7 @@ pub fn write_header(s: Session, out: &mut [u8]) -> Written
     if !headers::session_fits(s) {
         return Written::Refused(bitstream::NOT_GENUINE, 0);
     }
-    let n = header::numbers_of(s);
+    let n = stream_numbers::numbers_of(s);
     let mut line = [0u8; 110];
     let head = header::put_header(n, &mut line);
     if out.len() < head {
@@ -95,7 +85,7 @@ pub fn write_frame(s: Session, planes: &[u8], out: &mut [u8]) -> Written
     if !headers::session_fits(s) {
         return Written::Refused(bitstream::NOT_GENUINE, 0);
     }
-    let n = header::numbers_of(s);
+    let n = stream_numbers::numbers_of(s);
     let size = header::frame_bytes(n);
     if planes.len() != size {
         return Written::Refused(bitstream::WRONG_LENGTH, 0);
@@ -127,7 +117,7 @@ fn look(n: Numbers, stream: &[u8]) -> Looked
         return Looked::Other;
     }
     let count = rest / (6 + size);
-    if !frames::all_marked(stream, begin, size, count) {
+    if !frame_marks::all_marked(stream, begin, size, count) {
         return Looked::Other;
     }
     Looked::Frames(begin, size, count)

@@ -3,7 +3,7 @@ use borrow.Author.Needs.{needs}
 use mathlib.Core.Path.{refl, ap, _∙_}
 use Rattle.work_memory.specs.Memory.{Memory, memory}
 use Rattle.work_memory.specs.Lengths.{lengthsOf}
-use Rattle.theora.proofs.Lengths.{blocks-few, tests-are, ranks-fit, memory-fits}
+use Rattle.calls.proofs.Lengths.{blocks-few, tests-are, ranks-fit, memory-fits}
 use Rattle.census_packets.specs.Recording.{lent}
 use Rattle.census.proofs.Steps.{loads, by-read, by-wrong}
 use Rattle.census.proofs.count_frames.Statement.{statement}

@@ -1,5 +1,5 @@
 -- `checked_packets::watch` meets its contract. Assumes nothing.
-use Rattle.y4m.specs.Stream.{numbersOf}
+use Rattle.stream_numbers.specs.Numbers.{numbersOf}
 use Rattle.checked_packets.proofs.Steps.{watched-stays, watched-refused, watched-accepted}
 use borrow.Author.Needs.{needs}
 use Rattle.checked_packets.proofs.watch.Statement.{statement}

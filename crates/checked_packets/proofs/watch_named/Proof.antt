@@ -1,6 +1,6 @@
 -- `checked_packets::watch_named` meets its contract. Assumes nothing.
 use mathlib.Core.Path.{ap, _∙_}
-use Rattle.y4m.specs.Stream.{numbersOf}
+use Rattle.stream_numbers.specs.Numbers.{numbersOf}
 use Rattle.checked_packets.specs.Watch.{watched}
 use Rattle.checked_packets.proofs.Steps.{buffer-first, buffer-second, buffer-third}
 use Rattle.checked_packets.proofs.watch_named.Statement.{statement}

@@ -10,11 +10,12 @@ use Rattle.block_record.specs.Record.{nowCoded}
 use Rattle.block_record.specs.Packed.{packed}
 use Rattle.coded_flags.specs.Coded.{order, codedLuma, codedBlocks, setAt}
 use Rattle.coded_flags.specs.Flags.{ones}
-use Rattle.coded_list.specs.Listing.{Listing, WholeAt}
+use Rattle.super_list.specs.Listing.{Listing, WholeAt}
 use Rattle.coded_flags.proofs.Order.{order-length}
-use Rattle.coded_list.proofs.Listing.{listing-start, listing-count, listing-numbers, listing-marks, records-packed, listed-by, luma-blocks, luma-part}
+use Rattle.super_list.proofs.Listing.{listing-start, listing-count, listing-numbers, listing-marks}
+use Rattle.coded_list.proofs.Listing.{records-packed, listed-by, luma-blocks, luma-part}
 use Rattle.coded_flags.proofs.Spread.{firstOf, first-zero, first-next, first-all}
-use Rattle.coded_list.proofs.Whole.{whole-at}
+use Rattle.super_list.proofs.Whole.{whole-at}
 use borrow.Author.Needs.{needs}
 use Rattle.coded_list.proofs.list_coded.Statement.{statement}
 use Rattle.coded_list.proofs.list_coded.Tie as tie

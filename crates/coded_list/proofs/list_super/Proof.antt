@@ -3,9 +3,9 @@ use Prim.Native.Nat.{ℕ, _+_, _-_}
 use native.Mathlib.Omega.{arith}
 use mathlib.Core.Path.{_≡_, sym, subst}
 use Rattle.coded_flags.specs.Coded.{order}
-use Rattle.coded_list.specs.Listing.{Goes, NoneSet}
+use Rattle.super_list.specs.Listing.{Goes, NoneSet}
 use Rattle.coded_flags.proofs.Order.{order-length}
-use Rattle.coded_list.proofs.Listing.{goes-over}
+use Rattle.super_list.proofs.Listing.{goes-over}
 use borrow.Author.Needs.{needs}
 use Rattle.coded_list.proofs.list_super.Statement.{statement}
 use Rattle.coded_list.proofs.list_super.Tie as tie

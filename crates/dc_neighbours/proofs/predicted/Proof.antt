@@ -6,7 +6,7 @@ use lib.IntN.{ℤ}
 use mir.Syntax.{w16, w32}
 use Rattle.numeric.proofs.Known.{Known, k-any, k-cast, ask-cast, k-is, k-got, ask-size}
 use Rattle.dc_neighbours.specs.declared.Neighbour.{Neighbour}
-use Rattle.dc_neighbours.specs.Means.{meanLDr, meanDlDDr, meanOfTwo, replaced}
+use Rattle.dc_means.specs.Means.{meanLDr, meanDlDDr, meanOfTwo, replaced}
 use Rattle.dc_neighbours.specs.Neighbours.{predicted}
 use Rattle.dc_neighbours.proofs.predicted.Statement.{statement}
 use Rattle.dc_neighbours.proofs.predicted.Tie as tie

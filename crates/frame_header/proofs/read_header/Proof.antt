@@ -5,7 +5,8 @@ use mathlib.Core.List.{List}
 use lib.ListN.{length}
 use Rattle.bitstream.specs.Reading.{got}
 use Rattle.bitstream.proofs.Fields.{read-got, read-refused}
-use Rattle.frame_header.specs.Header.{frameType, qiList, reserved, frameHeader}
+use Rattle.frame_type.specs.Judged.{frameType, reserved}
+use Rattle.frame_header.specs.Header.{qiList, frameHeader}
 use Rattle.frame_header.specs.Answer.{three, asRead}
 use Rattle.frame_header.proofs.Facts.{qis-refused, qis-got, header-type, header-qis, header-reserved, header-got, header-answer}
 use borrow.Author.Needs.{needs}

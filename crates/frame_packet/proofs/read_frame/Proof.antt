@@ -1,10 +1,10 @@
 -- `frame_packet::read_frame` meets its contract: the modes are cleared, and nothing else changes. Assumes nothing.
 use mathlib.Core.Path.{_≡_, _∙_}
 use Rattle.tokens.specs.Answer.{treesOf}
-use Rattle.frame_packet.specs.Frame.{framePacket}
+use Rattle.packet_body.specs.Frame.{framePacket}
 use Rattle.work_memory.specs.Memory.{work}
 use Rattle.work_memory.proofs.Clearing.{clear-whole, cleared-to}
-use Rattle.frame_packet.proofs.Steps.{Sized, sized}
+use Rattle.packet_body.proofs.Steps.{Sized, sized}
 use Rattle.frame_packet.proofs.Whole.{modes-cleared}
 use borrow.Author.Needs.{needs}
 use Rattle.frame_packet.proofs.read_frame.Statement.{statement}

@@ -10,10 +10,10 @@ use Rattle.frame_header.specs.Header.{FrameHeader, frameHeader}
 use Rattle.frame_header.specs.Answer as header
 use Rattle.frame_header.proofs.Laws.{header-fits}
 use Rattle.tokens.specs.Answer.{treesOf}
-use Rattle.frame_packet.specs.Frame.{Body, body, framePacket}
+use Rattle.packet_body.specs.Frame.{Body, body, framePacket}
 use Rattle.work_memory.specs.Memory.{work}
-use Rattle.frame_packet.specs.Work.{LeftBy, asRead}
-use Rattle.frame_packet.proofs.Steps.{Sized, sized}
+use Rattle.packet_body.specs.Work.{LeftBy, asRead}
+use Rattle.packet_body.proofs.Steps.{Sized, sized}
 use Rattle.work_memory.proofs.Clearing.{clear-whole, cleared-to, nothing-behind}
 use Rattle.frame_packet.proofs.Whole.{header-refused, header-got, body-refused, body-got, packet-header, packet-body, packet-got, on-empty, on-no-frame, on-frame, zeros-behind}
 use borrow.Author.Needs.{needs}

@@ -3,8 +3,9 @@ use borrow.Author.Needs.{needs}
 use mathlib.Core.Path.{_≡_, sym}
 use Rattle.bitstream.specs.Reading.{got}
 use Rattle.bitstream.proofs.Fields.{read-got, read-refused}
-use Rattle.headers.specs.Judgement.{commonHeader}
-use Rattle.headers.specs.Identification.{rates, coding, identification}
+use Rattle.header_groups.specs.Judgement.{commonHeader}
+use Rattle.header_groups.specs.Groups.{rates, coding}
+use Rattle.headers.specs.Identification.{identification}
 use Rattle.header_fields.specs.Frame.{version, frameSize}
 use Rattle.headers.proofs.Groups.{frame-size-is, frame-size-refused, rates-is, rates-refused, coding-is, coding-refused}
 use Rattle.bitstream.proofs.Ends.{end-refused, end-at}

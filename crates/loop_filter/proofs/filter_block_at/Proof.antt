@@ -6,7 +6,7 @@ use Prim.Native.Nat.{ℕ, _+_, _*_, _<_}
 use native.Mathlib.Omega.{arith}
 use borrow.Author.Tests.{ltb-true, not-true, not-false}
 use Rattle.ways.proofs.Kept.{there}
-use Rattle.loop_filter.specs.Flags.{codedAt}
+use Rattle.block_edges.specs.Flags.{codedAt}
 use Rattle.loop_filter.proofs.Facts.{Room, room, uncoded-step, coded-step}
 use borrow.Author.Needs.{needs}
 use Rattle.loop_filter.proofs.filter_block_at.Statement.{statement}

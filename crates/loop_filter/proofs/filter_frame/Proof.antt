@@ -4,8 +4,8 @@ use mathlib.Core.Path.{_≡_, sym, ap, _∙_}
 use Prim.Native.Nat.{ℕ}
 use native.Mathlib.Omega.{arith}
 use Rattle.ways.specs.Ways.{filterAll}
-use Rattle.loop_filter.specs.Filter.{filtered}
-use Rattle.loop_filter.specs.Flags.{codedBy}
+use Rattle.edge_filter.specs.Filter.{filtered}
+use Rattle.block_edges.specs.Flags.{codedBy}
 use Rattle.loop_filter.proofs.Frame.{steps, planes-all}
 use Rattle.loop_filter.proofs.Zero.{zero-filter}
 use borrow.Author.Needs.{needs}

@@ -11,9 +11,11 @@ use Rattle.bitstream.specs.Bits.{number}
 use Rattle.bitstream.specs.Lists.{tabulated}
 use Rattle.bitstream.proofs.Lists.{tabulated-is}
 use Rattle.bitstream.proofs.Numbers.{number-lt}
-use Rattle.matrices.specs.Matrix.{interpolated, minimum, scaled, valueAt, weighed, Weighs}
-use Rattle.matrices.specs.declared.Range.{Range}
-use Rattle.matrices.specs.declared.Weights.{Weights}
+use Rattle.matrix_values.specs.Values.{interpolated, minimum, scaled}
+use Rattle.matrix_values.specs.Weights.{weighed, Weighs}
+use Rattle.matrices.specs.Matrix.{valueAt}
+use Rattle.quant_ranges.specs.declared.Range.{Range}
+use Rattle.matrix_values.specs.declared.Weights.{Weights}
 use Rattle.matrices.proofs.Values.{value-dc, value-ac}
 use Rattle.matrices.proofs.fill_matrix.Statement.{statement}
 use Rattle.matrices.proofs.fill_matrix.Tie as tie

@@ -1,11 +1,11 @@
 -- `matrices::matrix` meets its contract. Assumes nothing.
-use Prim.Native.Nat.{ℕ, _+_, _-_, _*_, _≤_, _<_}
+use Prim.Native.Nat.{_+_, _-_, _*_, _≤_, _<_}
 use native.Mathlib.Omega.{arith}
-use mathlib.Core.Path.{_≡_, refl, ap, _∙_}
+use mathlib.Core.Path.{_∙_}
 use lib.ListN.{getD}
 use Rattle.bitstream.specs.Bits.{bits}
-use Rattle.matrices.specs.Matrix.{InRange}
-use Rattle.matrices.proofs.Matrices.{sizes-long, enough, in-range, number-few, base-room, matrix-is}
+use Rattle.quant_ranges.specs.Ranges.{InRange}
+use Rattle.matrices.proofs.Matrices.{sizes-long, enough, ends, matrix-found}
 use borrow.Author.Needs.{needs}
 use Rattle.matrices.proofs.matrix.Statement.{statement}
 use Rattle.matrices.proofs.matrix.Tie as tie
@@ -40,17 +40,7 @@ facts : (c : tie.After-range-of)
 facts c =
     let a = c .before .before .before .before .before .before .args in
     let g = c .before .before .before .before .before .before .pre in
-    let l = a .t2 in
-    let q = g .1 .0 in
-    let h = g .1 .1 in
-    let k = (3 * a .qti + a .plane) * 64 in
-    let r = c .range-of .result in
-    let e : k + r .number + 1 ≡ k + (r .number + 1) = omega arith in (
-      number-few (a .packet .now) l q h (a .qti) (a .plane) (a .qi) (g .2) (g .3) (g .4) r (c .range-of .ensures),
-      in-range (a .packet .now) l q h (a .qti) (a .plane) (a .qi) (g .2) (g .3) (g .4) r (c .range-of .ensures),
-      base-room (a .packet .now) l q h (a .qti) (a .plane) (a .qi) (g .2) (g .3) (g .4) r (c .range-of .ensures) (r .number) (omega arith) (getD (l .indices) (k + r .number) 0) refl,
-      base-room (a .packet .now) l q h (a .qti) (a .plane) (a .qi) (g .2) (g .3) (g .4) r (c .range-of .ensures) (r .number + 1) (omega arith) (getD (l .indices) (k + r .number + 1) 0) (ap (λ (x : ℕ). getD (l .indices) x 0) e),
-    )
+    ends (a .packet .now) (a .t2) (g .1 .0) (g .1 .1) (a .qti) (a .plane) (a .qi) (g .2) (g .3) (g .4) (c .range-of .result) (c .range-of .ensures)
 
 add-one : tie.Need-add-one
 add-one c = omega (arith, facts c .0)
@@ -117,13 +107,8 @@ returns c =
     λ q h.
     let a = c .before .before .before .before .before .before .before .before .before .before .before .before .before .before .args in
     let g = c .before .before .before .before .before .before .before .before .before .before .before .before .before .before .pre in
-    let l = a .t2 in
-    let k = (3 * a .qti + a .plane) * 64 in
     let r = c .before .before .before .before .before .before .before .before .range-of in
-    let e : k + r .result .number + 1 ≡ k + (r .result .number + 1) = omega arith in
-    c .before .before .fill-matrix .ensures
-    ∙ matrix-is (a .packet .now) l q h (a .qti) (a .plane) (a .qi) (g .2) (g .3) (g .4) (r .result) (r .ensures)
-    (getD (l .indices) (k + r .result .number) 0) (getD (l .indices) (k + r .result .number + 1) 0) refl (ap (λ (x : ℕ). getD (l .indices) x 0) e) (getD (l .«dc_scale») (a .qi) 0) (getD (l .«ac_scale») (a .qi) 0) refl refl
+    c .before .before .fill-matrix .ensures ∙ matrix-found (a .packet .now) (a .t2) q h (a .qti) (a .plane) (a .qi) (g .2) (g .3) (g .4) (r .result) (r .ensures)
 
 pub matrix-spec : {M : Type 1} → statement M
 matrix-spec =

@@ -4,7 +4,8 @@ use native.Mathlib.Omega.{arith}
 use mathlib.Core.Path.{_≡_, ap, ap₂, _∙_}
 use Rattle.bitstream.specs.Bits.{number}
 use Rattle.bitstream.proofs.Numbers.{number-lt}
-use Rattle.matrices.specs.Matrix.{scaled, weighed}
+use Rattle.matrix_values.specs.Values.{scaled}
+use Rattle.matrix_values.specs.Weights.{weighed}
 use borrow.Author.Needs.{needs}
 use Rattle.matrices.proofs.value_at.Statement.{statement}
 use Rattle.matrices.proofs.value_at.Tie as tie

@@ -6,7 +6,7 @@ use lib.ListN.{length}
 use Rattle.bitstream.specs.Reading.{got, field}
 use Rattle.bitstream.proofs.Fields.{read-got, read-refused, field-lt}
 use Rattle.bitstream.proofs.Ends.{on-refusal, stored-at, end-refused}
-use Rattle.modes.specs.Modes.{sentAlphabet}
+use Rattle.mode_schemes.specs.Schemes.{sentAlphabet}
 use Rattle.modes.proofs.Facts.{all-end, all-sent-end, all-each}
 use borrow.Author.Needs.{needs}
 use Rattle.modes.proofs.read_modes.Statement.{statement}

@@ -2,7 +2,7 @@
 use borrow.Author.Needs.{needs}
 use mathlib.Core.Path.{_≡_, sym, _∙_}
 use Rattle.work_memory.specs.Memory.{memory}
-use Rattle.theora.proofs.Lengths.{blocks-few}
+use Rattle.calls.proofs.Lengths.{blocks-few}
 use Rattle.shot.proofs.Calls.{lent-8, lent-1, lent-names, lent-0, long-is}
 use Rattle.shot.proofs.lent_number.Statement.{statement}
 use Rattle.shot.proofs.lent_number.Tie as tie

@@ -5,8 +5,8 @@ use borrow.Rule.Slice.PartMut.{midOf}
 use native.Mathlib.Omega.{arith}
 use lib.ListN.{length}
 use Rattle.buffer_names.specs.Names.{free}
-use Rattle.shot_packets.specs.Play.{bufferOf}
-use Rattle.shot_packets.proofs.Loop.{buffer-long}
+use Rattle.frame_into.specs.Buffers.{bufferOf}
+use Rattle.shot_packets.proofs.Packet.{buffer-long}
 use Rattle.changed_tiles.specs.Call.{mapAfter}
 use Rattle.shot_maps.proofs.Fits.{if-any}
 use mathlib.Core.List.{List, [], _∷_}

@@ -2,7 +2,8 @@
 use Prim.Native.Nat.{ℕ}
 use mathlib.Core.Path.{ap, _∙_}
 use mathlib.Core.List.{List}
-use Rattle.y4m.specs.Stream.{frameLine, frameRows}
+use Rattle.frame_marks.specs.Marks.{frameLine}
+use Rattle.y4m.specs.Stream.{frameRows}
 use Rattle.stream_check.specs.declared.Compared.{Compared}
 use Rattle.stream_check.specs.Compared.{onward}
 use Rattle.stream_check.proofs.Onward.{onward-parts}

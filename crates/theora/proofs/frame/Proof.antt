@@ -9,8 +9,8 @@ use Rattle.ways.specs.Ways.{firstWay}
 use Rattle.reading.specs.Answer.{read}
 use Rattle.decoding.specs.Answer.{state, decoded}
 use Rattle.work_memory.specs.Lengths.{lengthsOf}
-use Rattle.theora.proofs.Lengths.{blocks-few, tests-are, lent-lengths, memory-fits, ranks-fit}
-use Rattle.theora.proofs.Calls.{call-8, call-1, call-decoded}
+use Rattle.calls.proofs.Lengths.{blocks-few, tests-are, lent-lengths, memory-fits, ranks-fit}
+use Rattle.calls.proofs.Calls.{call-8, call-1, call-decoded}
 use Rattle.theora.proofs.frame.Statement.{statement}
 use Rattle.theora.proofs.frame.Tie as tie
 

@@ -5,7 +5,7 @@ use mathlib.Core.Path.{refl, ap, _∙_}
 use mathlib.Core.List.{List}
 use Prim.Native.Nat.{ℕ}
 use Rattle.huffman.specs.Code.{treeOf}
-use Rattle.huffman.specs.Lookup.{entryIn}
+use Rattle.code_walk.specs.Walk.{entryIn}
 use Rattle.token.proofs.Rows.{values-length, value-small}
 use Rattle.token_reader.proofs.Entries.{entry-found, entry-walked}
 use Rattle.token_reader.proofs.entry_in.Statement.{statement}

@@ -11,11 +11,14 @@ use borrow.Rule.Slice.PartMut.{mid-len}
 use Rattle.bitstream.specs.Reading.{Outcome}
 use Rattle.huffman.specs.Tree.{Tree}
 use Rattle.huffman.specs.Code.{treeOf}
-use Rattle.token_visits.specs.Visits.{TokenState, stateOf, pass}
-use Rattle.token_visits.specs.Answer.{room, dueOf}
+use Rattle.block_visits.specs.Visits.{TokenState, stateOf}
+use Rattle.token_visits.specs.Visits.{pass}
+use Rattle.block_positions.specs.Answer.{dueOf}
+use Rattle.token_visits.specs.Answer.{room}
 use Rattle.token_visits.proofs.Goes.{AllBelow, pass-goes, all-below, below-each}
 use Rattle.token_visits.proofs.Due.{below-part, below-due, part-got, part-refused}
-use Rattle.token_visits.proofs.Ways.{visit-done, visit-refused, pass-none, on-refused, on-state}
+use Rattle.block_visits.proofs.Ways.{visit-done, visit-refused, on-refused, on-state}
+use Rattle.token_visits.proofs.Ways.{pass-none}
 use Rattle.token_visits.proofs.pass_blocks.Statement.{statement}
 use Rattle.token_visits.proofs.pass_blocks.Tie as tie
 

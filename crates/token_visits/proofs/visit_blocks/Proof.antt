@@ -8,10 +8,12 @@ use lib.ListN.{length, getD, drop}
 use Rattle.bitstream.specs.Reading.{Outcome}
 use Rattle.huffman.specs.Tree.{Tree}
 use Rattle.huffman.specs.Code.{treeOf}
-use Rattle.token_visits.specs.Visits.{TokenState, stateOf, visit, pass}
+use Rattle.block_visits.specs.Visits.{TokenState, stateOf, visit}
+use Rattle.token_visits.specs.Visits.{pass}
 use Rattle.token_visits.specs.Answer.{room}
 use Rattle.token_visits.proofs.Goes.{visit-goes}
-use Rattle.token_visits.proofs.Ways.{visit-done, visit-refused, pass-none, pass-got, pass-refused, on-refused, on-state}
+use Rattle.block_visits.proofs.Ways.{visit-done, visit-refused, on-refused, on-state}
+use Rattle.token_visits.proofs.Ways.{pass-none, pass-got, pass-refused}
 use Rattle.token_visits.proofs.visit_blocks.Statement.{statement}
 use Rattle.token_visits.proofs.visit_blocks.Tie as tie
 

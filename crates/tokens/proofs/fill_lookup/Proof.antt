@@ -3,7 +3,7 @@ use borrow.Author.Needs.{needs}
 use Prim.Native.Nat.{ℕ}
 use mathlib.Core.Path.{ap, _∙_}
 use lib.ListN.{replicate}
-use Rattle.huffman.specs.Lookup.{lookupOf}
+use Rattle.code_lookup.specs.Lookup.{lookupOf}
 use Rattle.token.proofs.Rows.{values-length, value-small}
 use Rattle.token.proofs.Complete.{complete-length, complete-small}
 use Rattle.token_reader.proofs.Lookups.{lookup-empty, lookup-filled}

@@ -6,10 +6,12 @@ use mathlib.Core.Path.{refl, sym, ap, _∙_}
 use lib.ListN.{take, drop}
 use Rattle.huffman.specs.Tree.{Tree}
 use Rattle.huffman.specs.Code.{treeOf}
-use Rattle.token_visits.specs.Visits.{stateOf, pass}
+use Rattle.block_visits.specs.Visits.{stateOf}
+use Rattle.token_visits.specs.Visits.{pass}
 use Rattle.tokens.specs.Answer.{treeAt}
 use Rattle.tokens.proofs.Tables.{formed-at, tree-at, nodes-long, wide}
-use Rattle.token_visits.proofs.Ways.{pass-none, on-state, on-same}
+use Rattle.block_visits.proofs.Ways.{on-state, on-same}
+use Rattle.token_visits.proofs.Ways.{pass-none}
 use Rattle.tokens.proofs.pass_table.Statement.{statement}
 use Rattle.tokens.proofs.pass_table.Tie as tie
 

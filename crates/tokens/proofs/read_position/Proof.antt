@@ -9,12 +9,14 @@ use lib.Seq.{length-take-le}
 use borrow.Rule.Slice.PartMut.{mid-len}
 use Rattle.bitstream.specs.Reading.{Outcome, got}
 use Rattle.huffman.specs.Tree.{Tree}
-use Rattle.token_visits.specs.Visits.{TokenState, stateOf, pass}
-use Rattle.tokens.specs.Tokens.{choicesOf, table}
+use Rattle.block_visits.specs.Visits.{TokenState, stateOf}
+use Rattle.token_visits.specs.Visits.{pass}
+use Rattle.table_choices.specs.Choices.{choicesOf}
+use Rattle.tokens.specs.Tokens.{table}
 use Rattle.tokens.specs.Answer.{treesOf, treeAt}
 use Rattle.token_visits.proofs.Goes.{pass-goes, all-below}
 use Rattle.tokens.proofs.Positions.{position-refused, position-got, table-is}
-use Rattle.token_visits.proofs.Ways.{on-same, on-refused, visit-done, visit-refused}
+use Rattle.block_visits.proofs.Ways.{on-same, on-refused, visit-done, visit-refused}
 use Rattle.tokens.proofs.read_position.Statement.{statement}
 use Rattle.tokens.proofs.read_position.Tie as tie
 

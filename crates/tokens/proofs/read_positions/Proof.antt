@@ -8,15 +8,17 @@ use mathlib.Core.List.{List}
 use lib.ListN.{length, take, drop}
 use Rattle.bitstream.specs.Reading.{Outcome, got}
 use Rattle.huffman.specs.Tree.{Tree}
-use Rattle.token_visits.specs.Visits.{TokenState, stateOf}
-use Rattle.tokens.specs.Tokens.{Choices, choicesOf, choices, atPosition, positionsFrom, ranks}
+use Rattle.block_visits.specs.Visits.{TokenState, stateOf}
+use Rattle.table_choices.specs.Choices.{Choices, choicesOf, choices}
+use Rattle.tokens.specs.Tokens.{atPosition, positionsFrom, ranks}
 use Rattle.token_visits.specs.Answer.{room}
 use Rattle.tokens.specs.Answer.{treesOf, Current}
 use Rattle.token_visits.proofs.Goes.{room-most}
-use Rattle.tokens.proofs.Positions.{position-goes, chosen-tables, chosen-refused, choices-small, positions-none, positions-choices, positions-refused, positions-got, ranks-below}
+use Rattle.table_choices.proofs.Choices.{chosen-tables, chosen-refused, choices-small}
+use Rattle.tokens.proofs.Positions.{position-goes, positions-none, positions-choices, positions-refused, positions-got, ranks-below}
 use Rattle.tokens.proofs.Groups.{current-start, current-chosen, current-on}
 use Rattle.tokens.proofs.Lists.{Lists, lists-start, luma-below, chroma-below, lists-on, lists-position}
-use Rattle.token_visits.proofs.Ways.{on-state, on-refusal, on-refused, visit-done, visit-refused}
+use Rattle.block_visits.proofs.Ways.{on-state, on-refusal, on-refused, visit-done, visit-refused}
 use Rattle.tokens.proofs.read_positions.Statement.{statement}
 use Rattle.tokens.proofs.read_positions.Tie as tie
 

@@ -9,7 +9,7 @@ use lib.Signed.{mag}
 use mir.Syntax.{w16}
 use mir.Val.{hbits, toZ, ofZ}
 use Rattle.numeric.proofs.Known.{back}
-use Rattle.transform.specs.declared.Line.{Line}
+use Rattle.lines.specs.declared.Line.{Line}
 use Rattle.transform.proofs.Zeros.{zeros}
 use Rattle.transform.proofs.is_zero.Statement.{statement}
 use Rattle.transform.proofs.is_zero.Tie as tie

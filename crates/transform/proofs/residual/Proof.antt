@@ -8,10 +8,12 @@ use lib.IntN.{ℤ}
 use lib.ListN.{replicate}
 use mir.Syntax.{w16}
 use Rattle.numeric.proofs.Known.{back, k-any}
+use Rattle.zig_zag.specs.Values.{values}
+use Rattle.zig_zag.specs.Placing.{turned}
+use Rattle.zig_zag.proofs.Turned.{turned-twice}
+use Rattle.zig_zag.proofs.Placed.{values-length}
 use Rattle.transform.specs.Block.{inverse}
-use Rattle.transform.specs.Residual.{dcOnly, rounded, values, residual}
-use Rattle.transform.proofs.Turned.{turned, turned-twice}
-use Rattle.transform.proofs.Placed.{values-length}
+use Rattle.transform.specs.Residual.{dcOnly, rounded, residual}
 use Rattle.transform.proofs.residual.Statement.{statement}
 use Rattle.transform.proofs.residual.Tie as tie
 

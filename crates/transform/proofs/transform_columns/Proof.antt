@@ -6,7 +6,8 @@ use native.Mathlib.Numerals.{add-one}
 use native.Mathlib.Omega.{arith}
 use lib.ListN.{length}
 use lib.IntN.{ℤ}
-use Rattle.transform.specs.Block.{columns, transformLine}
+use Rattle.transform.specs.Block.{columns}
+use Rattle.lines.specs.Places.{transformLine}
 use Rattle.transform.proofs.transform_columns.Statement.{statement}
 use Rattle.transform.proofs.transform_columns.Tie as tie
 

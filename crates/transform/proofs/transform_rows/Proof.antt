@@ -6,9 +6,10 @@ use Prim.Native.Nat.{ℕ, _≤_, _+_, _*_, _-_}
 use native.Mathlib.Omega.{arith}
 use lib.ListN.{length}
 use lib.IntN.{ℤ}
-use Rattle.transform.specs.Line.{transformedLine}
+use Rattle.lines.specs.Line.{transformedLine}
+use Rattle.zig_zag.specs.Placing.{turned}
 use Rattle.transform.specs.Block.{rows}
-use Rattle.transform.proofs.Turned.{turned, Both, no-row, next-row, all-rows}
+use Rattle.transform.proofs.Rows.{Both, no-row, next-row, all-rows}
 use Rattle.transform.proofs.transform_rows.Statement.{statement}
 use Rattle.transform.proofs.transform_rows.Tie as tie
 

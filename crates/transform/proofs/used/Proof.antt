@@ -4,7 +4,8 @@ use mathlib.Core.Path.{_≡_, refl, sym, _∙_}
 use mathlib.Core.Bool.{Bool, true, false, not}
 use Prim.Native.Nat.{_*_, _-_, _≤_}
 use native.Mathlib.Omega.{arith}
-use Rattle.transform.proofs.Zeros.{ZerosFrom, zeros-before}
+use Rattle.zig_zag.specs.Placing.{ZerosFrom}
+use Rattle.transform.proofs.Zeros.{zeros-before}
 use Rattle.transform.proofs.used.Statement.{statement}
 use Rattle.transform.proofs.used.Tie as tie
 

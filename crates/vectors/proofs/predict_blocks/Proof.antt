@@ -7,7 +7,7 @@ use Rattle.block_record.specs.declared.Prediction.{Prediction}
 use Rattle.block_record.specs.Record.{PredictionInRange}
 use Rattle.block_record.specs.Memory.{AllPacked, recordsOf}
 use Rattle.vectors.specs.Vectors.{predictedAt, predictedFrom}
-use Rattle.vectors.proofs.Motions.{prediction-small}
+use Rattle.motion_reader.proofs.Motions.{prediction-small}
 use Rattle.vectors.proofs.Records.{blocks-done, blocks-on}
 use borrow.Author.Needs.{needs}
 use Rattle.vectors.proofs.predict_blocks.Statement.{statement}

@@ -3,10 +3,10 @@ use Prim.Native.Nat.{_-_}
 use native.Mathlib.Omega.{arith}
 use mathlib.Core.Path.{_≡_, sym, _∙_}
 use Rattle.bitstream.specs.Reading.{got}
-use Rattle.vectors.specs.Motion.{motion}
+use Rattle.motion_reader.specs.Motion.{motion}
 use Rattle.motion.specs.Kept.{MovedInRange}
 use Rattle.vectors.specs.Memory.{stateOf}
-use Rattle.vectors.proofs.Motions.{moved-got, moved-refused, motion-small}
+use Rattle.motion_reader.proofs.Motions.{moved-got, moved-refused, motion-small}
 use Rattle.vectors.proofs.Records.{each-four, moves, macro-end, macro-moved, on-step, on-step-refused}
 use borrow.Author.Needs.{needs}
 use Rattle.vectors.proofs.read_macro_block.Statement.{statement}

@@ -4,7 +4,8 @@ use mathlib.Core.Path.{refl, _∙_}
 use lib.IntN.{pos}
 use lib.ListN.{length}
 use Rattle.buffer.proofs.Laws.{cleared-all}
-use Rattle.work_memory.proofs.Clearing.{nothing-behind, fit-cleared}
+use Rattle.memory_clearing.proofs.Clearing.{nothing-behind}
+use Rattle.work_memory.proofs.Clearing.{fit-cleared}
 use Rattle.work_memory.proofs.clear_memory.Statement.{statement}
 use Rattle.work_memory.proofs.clear_memory.Tie as tie
 

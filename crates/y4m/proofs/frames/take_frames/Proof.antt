@@ -10,7 +10,8 @@ use Rattle.output.specs.Output.{spliced}
 use Rattle.output.proofs.Splices.{part-length}
 use Rattle.y4m.specs.Stream.{frameBytes, rowsOf}
 use Rattle.y4m.specs.Film.{step, planesOf}
-use Rattle.y4m.proofs.FrameLaws.{more-fits, planes-none, planes-more}
+use Rattle.frame_marks.proofs.Laws.{more-fits}
+use Rattle.y4m.proofs.FrameLaws.{planes-none, planes-more}
 use borrow.Author.Needs.{needs}
 use Rattle.y4m.proofs.frames.take_frames.Statement.{statement}
 use Rattle.y4m.proofs.frames.take_frames.Tie as tie

@@ -1,0 +1,2 @@
+-- Facts: a step or a neighbour that is wanted or not. Assumes nothing.
+pub mod Facts

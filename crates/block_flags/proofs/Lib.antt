@@ -1,0 +1,2 @@
+-- Flags: what the functions' proofs need. Assumes nothing.
+pub mod Flags

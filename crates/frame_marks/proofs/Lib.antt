@@ -1,0 +1,2 @@
+-- Laws: frames that begin with their line. Assumes nothing.
+pub mod Laws

@@ -1,0 +1,2 @@
+-- Clearing: a list that becomes zero. Assumes nothing.
+pub mod Clearing

@@ -1,0 +1,2 @@
+-- Facts has what the functions' proofs need. Assumes nothing.
+pub mod Facts
