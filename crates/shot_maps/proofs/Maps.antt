@@ -29,8 +29,8 @@ use Rattle.buffer_names.proofs.Free.{free-is}
 use Rattle.frame_into.specs.Buffers.{bufferOf, index}
 use Rattle.shot_packets.specs.Play.{Shot, shot, stateOf, callOf, after, oneMore, played}
 use Rattle.shot_packets.proofs.Rules.{answer-fields, apart}
-use Rattle.changed_tiles.specs.Call.{mapLengthOf, mapFits, mapAfter, refusedBy, frameFor, tilesCall}
-use Rattle.changed_tiles.proofs.Calls.{map-here}
+use Rattle.tile_calls.specs.Call.{mapLengthOf, mapFits, mapAfter, refusedBy, frameFor, tilesCall}
+use Rattle.tile_calls.proofs.Calls.{map-here}
 use Rattle.shot_maps.specs.Maps.{mapOf, mapsAfter, withPart}
 use Rattle.shot_maps.proofs.Parts.{part-ends}
 

@@ -17,7 +17,7 @@ ghost use Rattle.reading.specs.Answer.{answerNumbers};
 ghost use Rattle.buffer_names.specs.Names.{free};
 ghost use Rattle.frame_into.specs.Buffers.{bufferOf};
 ghost use Rattle.shot_packets.specs.Play.{answerSize};
-ghost use Rattle.changed_tiles.specs.Call.{mapLengthOf, mapAfter};
+ghost use Rattle.tile_calls.specs.Call.{mapLengthOf, mapAfter};
 ghost use Rattle.shot_maps.specs.Maps.{mapsFit, mapsNumber, withPart};
 
 // Whether so many bytes are so many maps of n bytes. Nothing is multiplied.

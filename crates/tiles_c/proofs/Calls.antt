@@ -18,8 +18,8 @@ use Rattle.session_list.specs.List.{Returned, gives, sessionOf, listsNumber, An
 use Rattle.frame_c.specs.Face.{frameGives}
 use Rattle.answer_lists.specs.FrameLists.{verdictReturned}
 use Rattle.session_list.proofs.Lists.{lengths}
-use Rattle.changed_tiles.specs.declared.MapLength.{MapLength}
-use Rattle.changed_tiles.specs.Call.{lengthFor, TilesDone, tilesCall}
+use Rattle.tile_calls.specs.declared.MapLength.{MapLength}
+use Rattle.tile_calls.specs.Call.{lengthFor, TilesDone, tilesCall}
 use Rattle.tiles_c.specs.Face.{tilesNumber, lengthReturned, lengthCall, tilesGives, tilesFrameCall}
 
 -- ---- by what the lists are refused

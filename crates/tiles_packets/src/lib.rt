@@ -17,7 +17,7 @@ ghost use Rattle.packet_list.specs.Packets.{total, packetsIn};
 ghost use Rattle.buffer_names.specs.Names.{Sound};
 ghost use Rattle.shot_packets.specs.Play.{shot, answerSize};
 ghost use Rattle.shot_packets.specs.Inner.{TableLoaded};
-ghost use Rattle.changed_tiles.specs.Call.{mapLengthOf};
+ghost use Rattle.tile_calls.specs.Call.{mapLengthOf};
 ghost use Rattle.tiles_packets.specs.Inner.{PlaysMaps};
 
 // Packets, applied in order. Map i is the map of packet i.

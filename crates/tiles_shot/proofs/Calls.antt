@@ -23,7 +23,7 @@ use Rattle.shot.specs.declared.ShotAnswer.{ShotAnswer}
 use Rattle.shot.specs.declared.ShotVerdict.the-variants.{Played}
 use Rattle.shot.specs.Call.{ShotCall, ShotDone, shotCall, shotDone, reaches, lentNumber, shotNumber, startOf, refusedBy, unchanged, byShot}
 use Rattle.shot.proofs.Calls.{passes, left-by, memory-fits, planes-long, shot-empty, shot-some}
-use Rattle.changed_tiles.specs.Call.{mapLengthOf}
+use Rattle.tile_calls.specs.Call.{mapLengthOf}
 use Rattle.shot_maps.specs.Maps.{mapsNumber, mapsAfter}
 use Rattle.shot_maps.proofs.Fits.{maps-long}
 use Rattle.shot_maps.proofs.Maps.{map-same}

@@ -15,8 +15,8 @@ use Rattle.shot_packets.specs.Play.{played}
 use Rattle.shot.specs.Call.{ShotCall, startOf, ended, unchanged, byShot}
 use Rattle.shot.proofs.Calls.{passes, shot-refused, shot-played}
 use Rattle.shot_claims.proofs.Turns.{accepted-passed}
-use Rattle.changed_tiles.specs.Call.{mapLengthOf}
-use Rattle.changed_tiles.proofs.Said.{quiet-is-zero, repeat-is-zero, first-is-one, map-is-left}
+use Rattle.tile_calls.specs.Call.{mapLengthOf}
+use Rattle.tile_calls.proofs.Said.{quiet-is-zero, repeat-is-zero, first-is-one, map-is-left}
 use Rattle.shot_maps.specs.Maps.{mapsAfter}
 use Rattle.shot_maps.proofs.Fits.{maps-pass, maps-long}
 use Rattle.shot_maps.proofs.Each.{each, maps-cut}

@@ -1,9 +1,9 @@
--- `changed_tiles::map_fits` meets its contract. Assumes nothing.
+-- `tile_calls::map_fits` meets its contract. Assumes nothing.
 use mathlib.Core.Path.{_≡_, sym, ap, _∙_}
-use Rattle.changed_tiles.proofs.Calls.{map-here, map-any}
+use Rattle.tile_calls.proofs.Calls.{map-here, map-any}
 use borrow.Author.Needs.{needs}
-use Rattle.changed_tiles.proofs.map_fits.Statement.{statement}
-use Rattle.changed_tiles.proofs.map_fits.Tie as tie
+use Rattle.tile_calls.proofs.map_fits.Statement.{statement}
+use Rattle.tile_calls.proofs.map_fits.Tie as tie
 
 session-fits-requires : tie.Need-session-fits-requires
 session-fits-requires c κs = search needs

@@ -19,11 +19,11 @@ use Rattle.work_memory.specs.Memory.{Memory}
 use Rattle.work_memory.specs.Lengths.{blocks}
 use Rattle.reading.specs.declared.FrameAnswer.{FrameAnswer}
 use Rattle.reading.specs.Answer.{Asked, read, answerFor}
-use Rattle.decoding.specs.Answer.{State, Done, state, done}
+use Rattle.asked_frame.specs.Answer.{State, Done, state, done}
 use Rattle.calls.specs.Lengths.{buffersFit}
 use Rattle.calls.specs.Call.{Call, call, lengthsHold, outcomeOf, byRules}
-use Rattle.changed_tiles.specs.declared.MapLength.the-variants as length
-use Rattle.changed_tiles.specs.Call.{lengthFor, mapFits, frameFor, tilesDone, tilesCall}
+use Rattle.tile_calls.specs.declared.MapLength.the-variants as length
+use Rattle.tile_calls.specs.Call.{lengthFor, mapFits, frameFor, tilesDone, tilesCall}
 use Rattle.map_update.specs.Map.{mapLengthOf, mapAfter, Lent, IfAccepted}
 
 -- ---- the length of a map

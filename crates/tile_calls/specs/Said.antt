@@ -11,10 +11,10 @@ use Rattle.headers.specs.Sizes.{format}
 use Rattle.settings.specs.declared.Settings.{Settings}
 use Rattle.settings.specs.Settings.{settingsFit}
 use Rattle.reading.specs.Answer.{Asked}
-use Rattle.decoding.specs.Answer.{State, picture}
+use Rattle.asked_frame.specs.Answer.{State, picture}
 use Rattle.calls.specs.Call.{Call, outcomeOf}
 use Rattle.tile_map.specs.Quiet.{IsOne, InTile, InPlane, Differs, Quiet}
-use Rattle.changed_tiles.specs.Call.{mapFits, tilesCall}
+use Rattle.tile_calls.specs.Call.{mapFits, tilesCall}
 use Rattle.map_update.specs.Map.{mapLengthOf}
 
 module _ (set : Settings) (st : State) (c : Call) (map : List ℕ) where

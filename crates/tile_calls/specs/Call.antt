@@ -12,10 +12,10 @@ use Rattle.settings.specs.declared.Settings.{Settings}
 use Rattle.settings.specs.Settings.{settingsFit}
 use Rattle.ways.specs.Ways.{firstWay}
 use Rattle.reading.specs.Answer.{answerFor}
-use Rattle.decoding.specs.Answer.{State, Done, done}
+use Rattle.asked_frame.specs.Answer.{State, Done, done}
 use Rattle.calls.specs.Call.{Call, byRules}
-use Rattle.changed_tiles.specs.declared.MapLength.{MapLength}
-use Rattle.changed_tiles.specs.declared.MapLength.the-variants as answer
+use Rattle.tile_calls.specs.declared.MapLength.{MapLength}
+use Rattle.tile_calls.specs.declared.MapLength.the-variants as answer
 pub use Rattle.map_update.specs.Map.{mapLengthOf, mapAfter, IfAccepted}
 
 -- 20, then the identification part of 8

@@ -18,7 +18,7 @@ use Rattle.settings.specs.declared.Settings.{Settings}
 use Rattle.settings.specs.Settings.{settingsFit}
 use Rattle.ways.specs.Ways.{firstWay}
 use Rattle.reading.specs.Answer.{Asked, answerFor}
-use Rattle.decoding.specs.Answer.{State, Done, picture}
+use Rattle.asked_frame.specs.Answer.{State, Done, picture}
 use Rattle.calls.specs.Call.{Call, outcomeOf, byRules}
 use Rattle.calls.specs.Demand.{Turn, turn, turns, UncodedKept}
 use Rattle.calls.proofs.Demand.{demand3}
@@ -27,9 +27,9 @@ use Rattle.tile_map.specs.Tiles.{mapLength, tileMap, IsTile}
 use Rattle.tile_map.specs.Quiet.{IsOne, Quiet, Kept}
 use Rattle.tile_map.proofs.Said.{map-length, byte-two, differs-1, one-differs}
 use Rattle.tile_map.proofs.Quiet.{quiet-tile, tile-eights}
-use Rattle.changed_tiles.specs.Call.{mapFits, refusedBy, frameFor, tilesDone, tilesCall}
+use Rattle.tile_calls.specs.Call.{mapFits, refusedBy, frameFor, tilesDone, tilesCall}
 use Rattle.map_update.specs.Map.{mapLengthOf, acceptedMap, mapAfter}
-use Rattle.changed_tiles.specs.Said.{AcceptedCall, byteAt, IsTileOf, QuietTile, QuietIsZero, RepeatIsZero, FirstIsOne, SaysChange, ChangeIsSaid, ZeroOrOne, RefusalLeaves, MapIsLeft}
+use Rattle.tile_calls.specs.Said.{AcceptedCall, byteAt, IsTileOf, QuietTile, QuietIsZero, RepeatIsZero, FirstIsOne, SaysChange, ChangeIsSaid, ZeroOrOne, RefusalLeaves, MapIsLeft}
 use Rattle.map_update.proofs.Maps.{settings-tile, settings-plane, accepted-first, accepted-compared}
 
 -- what demand 3 says of the turn of one call

@@ -1,10 +1,10 @@
--- `changed_tiles::map_length` meets its contract. Assumes nothing.
+-- `tile_calls::map_length` meets its contract. Assumes nothing.
 use mathlib.Core.Path.{_≡_, sym, ap, _∙_}
 use borrow.Author.Tests.{not-true, not-false}
-use Rattle.changed_tiles.proofs.Calls.{length-20, length-8, length-is}
+use Rattle.tile_calls.proofs.Calls.{length-20, length-8, length-is}
 use borrow.Author.Needs.{needs}
-use Rattle.changed_tiles.proofs.map_length.Statement.{statement}
-use Rattle.changed_tiles.proofs.map_length.Tie as tie
+use Rattle.tile_calls.proofs.map_length.Statement.{statement}
+use Rattle.tile_calls.proofs.map_length.Tie as tie
 
 settings-fit-requires : tie.Need-settings-fit-requires
 settings-fit-requires c κs = search needs
