@@ -1,11 +1,11 @@
--- `shot::lent_number` meets its contract. Assumes nothing.
+-- `opening::lent_number` meets its contract. Assumes nothing.
 use borrow.Author.Needs.{needs}
 use mathlib.Core.Path.{_≡_, sym, _∙_}
 use Rattle.work_memory.specs.Memory.{memory}
 use Rattle.calls.proofs.Lengths.{blocks-few}
-use Rattle.shot.proofs.Calls.{lent-8, lent-1, lent-names, lent-0, long-is}
-use Rattle.shot.proofs.lent_number.Statement.{statement}
-use Rattle.shot.proofs.lent_number.Tie as tie
+use Rattle.opening.proofs.Calls.{lent-8, lent-1, lent-names, lent-0, long-is}
+use Rattle.opening.proofs.lent_number.Statement.{statement}
+use Rattle.opening.proofs.lent_number.Tie as tie
 
 session-fits-requires : tie.Need-session-fits-requires
 session-fits-requires c κs = search needs

@@ -1,0 +1,2 @@
+-- Calls: the tests of the call.
+pub mod Calls
