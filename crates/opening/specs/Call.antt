@@ -6,8 +6,6 @@ use lib.Dec.{eqb, leb}
 use lib.ListN.{length, getD}
 use Rattle.bitstream.specs.Reading.{choose}
 use Rattle.bitstream.specs.Numbers.{wrongLength, notGenuine, pastPackets}
-use Rattle.bitstream.specs.declared.End.{End}
-use Rattle.bitstream.specs.declared.End.the-variants.{At, Refused}
 use Rattle.headers.specs.declared.Session.{Session}
 use Rattle.headers.specs.Fits.{sessionFits}
 use Rattle.setup.specs.Table.{isTable}
@@ -60,8 +58,3 @@ lentNumber c = choose (sessionFits (c .session)) (choose (shotLengthsFit c) (cho
 -- then the rest of 8; "number 16, found after 1 and 8 and before the first packet". 0 where the call is accepted
 unfoldable pub shotNumber : ShotCall → ℕ
 shotNumber c = choose (eqb (lentNumber c) 0) (choose (isTable (c .table)) (choose (reaches c) 0 pastPackets) notGenuine) (lentNumber c)
-
--- the last two of these, as the program comes to them: by the place behind the setup that table memory holds
-abbrev pub lateNumber : End → (reach : Bool) → ℕ
-lateNumber (Refused k e) reach = notGenuine
-lateNumber (At e) reach = choose reach 0 pastPackets

@@ -3,20 +3,70 @@ use bitstream::End;
 use buffer_names::Names;
 use headers::Session;
 use setup::LoadedSetup;
+use work_memory::WorkLengths;
 ghost use mathlib.Core.Path.{_≡_};
-ghost use Prim.Native.Nat.{_*_};
+ghost use mathlib.Core.List.{List};
+ghost use Prim.Native.Nat.{ℕ, _*_, _≤_, _^_};
 ghost use lib.Dec.{eqb};
+ghost use lib.ListN.{length};
 ghost use Rattle.bitstream.specs.Reading.{choose};
 ghost use Rattle.setup.specs.Table.{heldSetup};
 ghost use Rattle.setup.specs.Loaded.{setupOf};
-ghost use Rattle.work_memory.specs.Memory.{memory};
+ghost use Rattle.work_memory.specs.Memory.{Memory};
 ghost use Rattle.packet_list.specs.Packets.{answerSize};
-ghost use Rattle.opening.specs.Call.{shotCall, lentNumber, shotNumber, lateNumber};
+ghost use Rattle.opening.specs.Call.{shotCall, shotNumber};
+ghost use Rattle.opening.specs.Room.{roomOf, roomForFrames, roomForWork, lentBy, lateNumber};
+
+// How long the slices are that a call may write to: work memory, three buffers and the list for the answers.
+pub struct Room {
+    pub records: usize,
+    pub coded: usize,
+    pub coefs: usize,
+    pub dc: usize,
+    pub lasts: usize,
+    pub flags: usize,
+    pub bits: usize,
+    pub supers: usize,
+    pub modes: usize,
+    pub active: usize,
+    pub first: usize,
+    pub second: usize,
+    pub third: usize,
+    pub answers: usize,
+}
 
 // What the tests come to: 0, or the number of the refusal; and the setup that table memory holds.
 pub struct Opened {
     pub number: u32,
     pub setup: LoadedSetup,
+}
+
+// Whether the buffers for frames of n blocks, and table memory, have their lengths.
+fn buffers_fit(n: u64, room: Room, table: usize) -> bool
+    requires { ⌜ n ≤ 2 ^ 36 ⌝ }
+    ensures { λ r. ⌜ r ≡ roomForFrames n room table ⌝ }
+{
+    let buffer = 64 * n;
+    (room.first as u64 == buffer)
+        & (room.second as u64 == buffer)
+        & (room.third as u64 == buffer)
+        & (table == setup::TABLE_BYTES)
+}
+
+// Whether every slice of work memory has its length.
+fn work_fits(l: WorkLengths, room: Room) -> bool
+    ensures { λ r. ⌜ r ≡ roomForWork l room ⌝ }
+{
+    (room.records as u64 == l.records)
+        & (room.coded as u64 == l.coded)
+        & (room.coefs as u64 == l.coefs)
+        & (room.dc as u64 == l.dc)
+        & (room.lasts as u64 == l.lasts)
+        & (room.flags as u64 == l.flags)
+        & (room.bits as u64 == l.bits)
+        & (room.supers as u64 == l.supers)
+        & (room.modes as u64 == l.modes)
+        & (room.active as u64 == l.active)
 }
 
 // Whether so many numbers are the answers of so many packets. Nothing is multiplied.
@@ -27,48 +77,15 @@ fn answers_fit(numbers: usize, packets: usize) -> bool
 }
 
 // The tests of what is lent, before table memory is looked at: the number of the refusal, or 0.
-fn lent_number(
-    s: Session,
-    names: Names,
-    lengths: &[u64],
-    packets: &[u8],
-    table: &[u8],
-    records: &[u32],
-    coded: &[u64],
-    coefs: &[i16],
-    dc: &[i16],
-    lasts: &[u8],
-    flags: &[u8],
-    bits: &[u8],
-    supers: &[u8],
-    modes: &[u8],
-    active: &[u64],
-    first: &[u8],
-    second: &[u8],
-    third: &[u8],
-    answers: &[u64],
-) -> u32
-    ensures { λ r. ⌜ r ≡ lentNumber (shotCall s names (now (lengths .entry)) (now (packets .entry)) (now (table .entry))
-        (memory (now (records .entry)) (now (coded .entry)) (now (coefs .entry)) (now (dc .entry)) (now (lasts .entry)) (now (flags .entry)) (now (bits .entry)) (now (supers .entry)) (now (modes .entry)) (now (active .entry))) (now (first .entry)) (now (second .entry)) (now (third .entry)) (now (answers .entry))) ⌝ }
+fn lent_number(s: Session, names: Names, packets: usize, table: usize, room: Room) -> u32
+    ensures { λ r. ⌜ r ≡ lentBy s names packets table room ⌝ }
 {
     if headers::session_fits(s) {
         let l = work_memory::lengths_of(s);
-        let buffers = calls::buffers_fit(l.records, first, second, third, table);
-        let slices = work_memory::lengths_fit(
-            l,
-            records,
-            coded,
-            coefs,
-            dc,
-            lasts,
-            flags,
-            bits,
-            supers,
-            modes,
-            active,
-        );
-        let room = answers_fit(answers.len(), lengths.len());
-        if buffers & slices & room {
+        let buffers = buffers_fit(l.records, room, table);
+        let work = work_fits(l, room);
+        let answers = answers_fit(room.answers, packets);
+        if buffers & work & answers {
             if buffer_names::names_fit(s, names) {
                 return 0;
             }
@@ -97,52 +114,20 @@ fn number_of(lent: u32, place: End, reach: bool) -> u32
     }
 }
 
-// All tests of a shot call, and its table memory loaded. Nothing is written to.
+// All tests of a shot call, and its table memory loaded. Of what the call may write to only the lengths are looked at.
 pub fn open(
     s: Session,
     names: Names,
     lengths: &[u64],
     packets: &[u8],
     table: &[u8],
-    records: &[u32],
-    coded: &[u64],
-    coefs: &[i16],
-    dc: &[i16],
-    lasts: &[u8],
-    flags: &[u8],
-    bits: &[u8],
-    supers: &[u8],
-    modes: &[u8],
-    active: &[u64],
-    first: &[u8],
-    second: &[u8],
-    third: &[u8],
-    answers: &[u64],
+    room: Room,
 ) -> Opened
-    ensures { λ r. ⌜ (r .number ≡ shotNumber (shotCall s names (now (lengths .entry)) (now (packets .entry)) (now (table .entry))
-        (memory (now (records .entry)) (now (coded .entry)) (now (coefs .entry)) (now (dc .entry)) (now (lasts .entry)) (now (flags .entry)) (now (bits .entry)) (now (supers .entry)) (now (modes .entry)) (now (active .entry))) (now (first .entry)) (now (second .entry)) (now (third .entry)) (now (answers .entry)))) × (r .setup ≡ setupOf (heldSetup (now (table .entry)))) ⌝ }
+    ensures { λ r. ⌜ ((m : Memory) (first second third answers : List ℕ) → room ≡ roomOf m first second third answers
+        → r .number ≡ shotNumber (shotCall s names (now (lengths .entry)) (now (packets .entry)) (now (table .entry)) m first second third answers)) ⌝ }
+    ensures { λ r. ⌜ r .setup ≡ setupOf (heldSetup (now (table .entry))) ⌝ }
 {
-    let lent = lent_number(
-        s,
-        names,
-        lengths,
-        packets,
-        table,
-        records,
-        coded,
-        coefs,
-        dc,
-        lasts,
-        flags,
-        bits,
-        supers,
-        modes,
-        active,
-        first,
-        second,
-        third,
-        answers,
-    );
+    let lent = lent_number(s, names, lengths.len(), table.len(), room);
     let held = setup::load_table(table);
     let reach = packet_list::lengths_reach(lengths, packets.len() as u64);
     let place = held.place;

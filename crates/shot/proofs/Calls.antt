@@ -2,12 +2,11 @@
 use Prim.Native.Nat.{ℕ, _*_}
 use native.Mathlib.Omega.{arith}
 use mathlib.Core.Path.{_≡_, refl, sym, ap, _∙_}
-use mathlib.Core.Bool.{Bool, true, false, not, _&&_, _||_}
+use mathlib.Core.Bool.{Bool, true, false, _&&_}
 use mathlib.Core.List.{List, [], _∷_}
-use mathlib.Core.Logic.{_⊎_, inl, inr}
 use lib.Dec.{eqb}
 use lib.ListN.{length, getD, take, drop}
-use borrow.Author.Tests.{eqb-true, eqb-false, eq-eqb, ne-eqb}
+use borrow.Author.Tests.{ne-eqb}
 use Rattle.bitstream.specs.Reading.{Outcome, got, refused, choose}
 use Rattle.headers.specs.declared.Session.{Session}
 use Rattle.setup.specs.Header.{Setup, setupHeader}
@@ -31,7 +30,7 @@ use Rattle.shot_packets.proofs.Rules.{any-memory}
 use Rattle.shot_packets.proofs.Packet.{cleared-memory}
 use Rattle.shot_packets.proofs.Loop.{holds}
 use Rattle.shot.specs.declared.ShotAnswer.{ShotAnswer}
-use Rattle.shot.specs.Call.{ShotDone, shotDone, startOf, ended, playedBy, refusedBy, unplayedBy, unchanged, byShot}
+use Rattle.shot.specs.Call.{ShotDone, shotDone, startOf, ended, playedBy, refusedBy, unchanged, byShot}
 
 -- ---- the ways of a call
 module _ (way : Way) (c : ShotCall) where
@@ -52,20 +51,6 @@ opened-table t h {l} e = go (eqb (length t) tableBytes) (setupHeader t 0) h (ap 
     go b (got s d) g w = record { setup = s; end = d; held = w; is = e ∙ ap setupOf w }
     go true (refused j d) g w = let z : _≡_ {A = ℕ} 0 1 = cc in absurd (omega arith)
     go false (refused j d) g w = let z : _≡_ {A = ℕ} 0 1 = cc in absurd (omega arith)
-
--- ---- what is tested before packets are played: an answer y by its number k, or an answer x since there are no packets
-pub plays-not : {k l : ℕ} → (not (eqb k 0) || eqb l 0) ≡ true → {A : Type 0} {x y a : A} → a ≡ choose (eqb k 0) x y → ((k ≡ 0 → ⊥) × (a ≡ y)) ⊎ ((k ≡ 0) × (l ≡ 0) × (a ≡ x))
-plays-not {k} {l} h {A} {x} {y} {a} ea = go (eqb k 0) refl
-  where
-    go : (b : Bool) → eqb k 0 ≡ b → ((k ≡ 0 → ⊥) × (a ≡ y)) ⊎ ((k ≡ 0) × (l ≡ 0) × (a ≡ x))
-    go false e = inl (eqb-false k 0 e, ea ∙ ap (λ (b : Bool). choose b x y) e)
-    go true e = inr (eqb-true k 0 e, eqb-true l 0 (sym (ap (λ (b : Bool). not b || eqb l 0) e) ∙ h), ea ∙ ap (λ (b : Bool). choose b x y) e)
-
-pub by-none : {k : ℕ} → k ≡ 0 → {A : Type 0} {x : A} (y : A) → x ≡ choose (eqb k 0) x y
-by-none {k} e {A} {x} y = sym (ap (λ (b : Bool). choose b x y) (eq-eqb k 0 e))
-
-pub by-number : {k : ℕ} → (k ≡ 0 → ⊥) → {A : Type 0} (x : A) {y : A} → y ≡ choose (eqb k 0) x y
-by-number {k} n {A} x {y} = sym (ap (λ (b : Bool). choose b x y) (ne-eqb k 0 n))
 
 -- ---- packets from cleared memory
 empty : (l : List ℕ) → length l ≡ 0 → l ≡ []
@@ -126,19 +111,3 @@ module _ (s : Session) (n : Names) (lengths joined table : List ℕ) (m : Memory
         ap (λ (l : List ℕ). shotDone (playedBy s′ n′) x′ y′ z′ m′ l) (p .stored)
         ∙ ap ended (p .ended ∙ (λ i. played (byRules firstWay) table (shot s (x ∷ y ∷ z ∷ []) (ek i) (em i) []) (packetsIn lengths joined)) ∙ played-any some)
         ∙ shot-played firstWay c zero
-
-  -- a call that plays nothing leaves all as it was
-  pub left-all : {k : ℕ} → k ≡ shotNumber c → (not (eqb k 0) || eqb (length lengths) 0) ≡ true → {a : ShotAnswer} → a ≡ unplayedBy k s n → shotDone a x y z m answers ≡ byShot firstWay c
-  left-all {k} ek h {a} ea = go (plays-not h ea)
-    where
-      go : ((k ≡ 0 → ⊥) × (a ≡ refusedBy k s n)) ⊎ ((k ≡ 0) × (length lengths ≡ 0) × (a ≡ playedBy s (namesOf s n))) → shotDone a x y z m answers ≡ byShot firstWay c
-      go (inl u) = left-by k a (u .1) (sym ek) (u .0)
-      go (inr u) = ap (λ (a : ShotAnswer). shotDone a x y z m answers) (u .2) ∙ shot-empty (sym ek ∙ u .0) (u .1) (namesOf s n) refl
-
-  -- a call that plays
-  pub begins : {k : ℕ} → k ≡ shotNumber c → (not (eqb k 0) || eqb (length lengths) 0) ≡ false → (shotNumber c ≡ 0) × (length lengths ≡ 0 → ⊥)
-  begins {k} ek h = go (eqb k 0) refl
-    where
-      go : (b : Bool) → eqb k 0 ≡ b → (shotNumber c ≡ 0) × (length lengths ≡ 0 → ⊥)
-      go true e = (sym ek ∙ eqb-true k 0 e, eqb-false (length lengths) 0 (sym (ap (λ (b : Bool). not b || eqb (length lengths) 0) e) ∙ h))
-      go false e = let w = sym (ap (λ (b : Bool). not b || eqb (length lengths) 0) e) ∙ h in let z : _≡_ {A = ℕ} 0 1 = cc in absurd (omega arith)

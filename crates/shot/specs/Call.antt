@@ -46,10 +46,6 @@ ended h = record {
 abbrev pub refusedBy : ℕ → Session → Names → ShotAnswer
 refusedBy k s n = record { verdict = Refused k; session = s; names = n }
 
--- a call that plays nothing: refused, or of no packets
-abbrev pub unplayedBy : ℕ → Session → Names → ShotAnswer
-unplayedBy k s n = choose (eqb k 0) (playedBy s (namesOf s n)) (refusedBy k s n)
-
 -- "1, 8 and 16 of this call change nothing, work memory included"
 abbrev pub unchanged : ℕ → ShotCall → ShotDone
 unchanged k c = record { answer = refusedBy k (c .session) (c .names); planes = c .planes; memory = c .memory; answers = c .answers }

@@ -1,10 +1,11 @@
 // A whole shot in one call: packets joined together, applied in order, with three buffers that are named.
 use buffer_names::Names;
 use headers::Session;
+use opening::Room;
 ghost use mathlib.Core.Path.{_≡_};
 ghost use Rattle.work_memory.specs.Memory.{memory};
 ghost use Rattle.opening.specs.Call.{shotCall};
-ghost use Rattle.shot.specs.Call.{shotDone, refusedBy, unplayedBy, ShotPromise};
+ghost use Rattle.shot.specs.Call.{shotDone, refusedBy, ShotPromise};
 
 // The packets were played, each with its own answer; or the number of the call's refusal.
 pub enum ShotVerdict {
@@ -27,21 +28,6 @@ pub fn refused(k: u32, s: Session, names: Names) -> ShotAnswer
         verdict: ShotVerdict::Refused(k),
         session: s,
         names,
-    }
-}
-
-// A call that plays nothing: refused by its number, or without one, since there are no packets.
-pub fn unplayed(number: u32, s: Session, names: Names) -> ShotAnswer
-    ensures { λ r. ⌜ r ≡ unplayedBy number s names ⌝ }
-{
-    if number != 0 {
-        return refused(number, s, names);
-    }
-    let both = buffer_names::names_of(s, names);
-    ShotAnswer {
-        verdict: ShotVerdict::Played,
-        session: s,
-        names: both,
     }
 }
 
@@ -72,32 +58,35 @@ pub fn shot(
         (memory (now (records .entry)) (now (coded .entry)) (now (coefs .entry)) (now (dc .entry)) (now (lasts .entry)) (now (flags .entry)) (now (bits .entry)) (now (supers .entry)) (now (modes .entry)) (now (active .entry))) (now (first .entry)) (now (second .entry)) (now (third .entry)) (now (answers .entry)))
         (shotDone r (now (first .exit)) (now (second .exit)) (now (third .exit)) (memory (now (records .exit)) (now (coded .exit)) (now (coefs .exit)) (now (dc .exit)) (now (lasts .exit)) (now (flags .exit)) (now (bits .exit)) (now (supers .exit)) (now (modes .exit)) (now (active .exit))) (now (answers .exit))) ⌝ }
 {
-    let opened = opening::open(
-        s,
-        names,
-        lengths,
-        packets,
-        table,
-        records,
-        coded,
-        coefs,
-        dc,
-        lasts,
-        flags,
-        bits,
-        supers,
-        modes,
-        active,
-        first,
-        second,
-        third,
-        answers,
-    );
+    let room = Room {
+        records: records.len(),
+        coded: coded.len(),
+        coefs: coefs.len(),
+        dc: dc.len(),
+        lasts: lasts.len(),
+        flags: flags.len(),
+        bits: bits.len(),
+        supers: supers.len(),
+        modes: modes.len(),
+        active: active.len(),
+        first: first.len(),
+        second: second.len(),
+        third: third.len(),
+        answers: answers.len(),
+    };
+    let opened = opening::open(s, names, lengths, packets, table, room);
     let number = opened.number;
-    if (number != 0) | (lengths.len() == 0) {
-        return unplayed(number, s, names);
+    if number != 0 {
+        return refused(number, s, names);
     }
     let both = buffer_names::names_of(s, names);
+    if lengths.len() == 0 {
+        return ShotAnswer {
+            verdict: ShotVerdict::Played,
+            session: s,
+            names: both,
+        };
+    }
     work_memory::clear_memory(
         records,
         coded,

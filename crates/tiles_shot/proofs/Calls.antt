@@ -2,10 +2,7 @@
 use Prim.Native.Nat.{ℕ, _*_}
 use native.Mathlib.Omega.{arith}
 use mathlib.Core.Path.{_≡_, refl, sym, ap, _∙_}
-use mathlib.Core.Bool.{true, not, _||_}
 use mathlib.Core.List.{List, [], _∷_, _++_}
-use mathlib.Core.Logic.{_⊎_, inl, inr}
-use lib.Dec.{eqb}
 use borrow.Author.Tests.{ne-eqb}
 use lib.ListN.{length, getD, take, drop}
 use Rattle.headers.specs.declared.Session.{Session}
@@ -22,9 +19,9 @@ use Rattle.shot_packets.proofs.Packet.{cleared-memory}
 use Rattle.shot_packets.proofs.Loop.{holds}
 use Rattle.shot.specs.declared.ShotAnswer.{ShotAnswer}
 use Rattle.opening.specs.Call.{ShotCall, shotCall, lentNumber, shotNumber}
-use Rattle.shot.specs.Call.{ShotDone, shotDone, startOf, playedBy, refusedBy, unplayedBy, unchanged, byShot}
+use Rattle.shot.specs.Call.{ShotDone, shotDone, startOf, playedBy, refusedBy, unchanged, byShot}
 use Rattle.opening.proofs.Calls.{passes, accepted, memory-fits, planes-long}
-use Rattle.shot.proofs.Calls.{plays-not, left-by, shot-empty, shot-some}
+use Rattle.shot.proofs.Calls.{left-by, shot-empty, shot-some}
 use Rattle.changed_tiles.specs.Call.{mapLengthOf}
 use Rattle.shot_maps.specs.Maps.{mapsNumber, mapsAfter}
 use Rattle.shot_maps.proofs.Fits.{maps-long}
@@ -115,11 +112,3 @@ module _ (st : Settings) (s : Session) (n : Names) (lengths joined table : List 
       call-some some ek em {left = left} p =
           call-made st c maps pass _ left (shot-some s n lengths joined table m x y z answers zero some ek em (p .plays))
           (p .maps-are ∙ (λ i. mapsAfter st table (shot s (x ∷ y ∷ z ∷ []) (ek i) (em i) []) (packetsIn lengths joined) maps) ∙ maps-any some)
-
-    -- a call that plays nothing
-    pub left-all : {k : ℕ} → k ≡ shotNumber c → (not (eqb k 0) || eqb (length lengths) 0) ≡ true → {a : ShotAnswer} → a ≡ unplayedBy k s n → tilesShotDone (shotDone a x y z m answers) maps ≡ tilesShot st c maps
-    left-all {k} ek h {a} ea = go (plays-not h ea)
-      where
-        go : ((k ≡ 0 → ⊥) × (a ≡ refusedBy k s n)) ⊎ ((k ≡ 0) × (length lengths ≡ 0) × (a ≡ playedBy s (namesOf s n))) → tilesShotDone (shotDone a x y z m answers) maps ≡ tilesShot st c maps
-        go (inl u) = left-late k a (u .1) (sym ek) (u .0)
-        go (inr u) = ap (λ (a : ShotAnswer). tilesShotDone (shotDone a x y z m answers) maps) (u .2) ∙ call-empty (sym ek ∙ u .0) (u .1) (namesOf s n) refl

@@ -1,6 +1,7 @@
 // A whole shot in one call, and for each packet the map of the tiles that it changed.
 use buffer_names::Names;
 use headers::Session;
+use opening::Room;
 use settings::Settings;
 use shot::ShotAnswer;
 use shot::ShotVerdict;
@@ -42,32 +43,35 @@ pub fn shot(
     if fault != 0 {
         return shot::refused(fault, s, names);
     }
-    let opened = opening::open(
-        s,
-        names,
-        lengths,
-        packets,
-        table,
-        records,
-        coded,
-        coefs,
-        dc,
-        lasts,
-        flags,
-        bits,
-        supers,
-        modes,
-        active,
-        first,
-        second,
-        third,
-        answers,
-    );
+    let room = Room {
+        records: records.len(),
+        coded: coded.len(),
+        coefs: coefs.len(),
+        dc: dc.len(),
+        lasts: lasts.len(),
+        flags: flags.len(),
+        bits: bits.len(),
+        supers: supers.len(),
+        modes: modes.len(),
+        active: active.len(),
+        first: first.len(),
+        second: second.len(),
+        third: third.len(),
+        answers: answers.len(),
+    };
+    let opened = opening::open(s, names, lengths, packets, table, room);
     let number = opened.number;
-    if (number != 0) | (lengths.len() == 0) {
-        return shot::unplayed(number, s, names);
+    if number != 0 {
+        return shot::refused(number, s, names);
     }
     let both = buffer_names::names_of(s, names);
+    if lengths.len() == 0 {
+        return ShotAnswer {
+            verdict: ShotVerdict::Played,
+            session: s,
+            names: both,
+        };
+    }
     work_memory::clear_memory(
         records,
         coded,

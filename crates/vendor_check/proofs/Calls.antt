@@ -2,9 +2,8 @@
 use Prim.Native.Nat.{ℕ}
 use native.Mathlib.Omega.{arith}
 use mathlib.Core.Path.{_≡_, refl, sym, ap, _∙_}
-use mathlib.Core.Bool.{Bool, true, not, _||_}
+use mathlib.Core.Bool.{Bool}
 use mathlib.Core.List.{List, [], _∷_, map}
-use mathlib.Core.Logic.{_⊎_, inl, inr}
 use lib.Dec.{eqb}
 use lib.ListN.{length, getD, take, drop}
 use borrow.Author.Tests.{ne-eqb}
@@ -35,13 +34,13 @@ use Rattle.opening.specs.Call.{ShotCall, shotCall, lentNumber, shotNumber}
 use Rattle.shot.specs.Call.{ShotDone, shotDone, startOf, playedBy, unchanged, byShot}
 use Rattle.shot_claims.specs.Claims.{answerOf}
 use Rattle.opening.proofs.Calls.{passes, accepted, memory-fits, planes-long}
-use Rattle.shot.proofs.Calls.{plays-not, shot-refused, shot-empty, shot-some}
+use Rattle.shot.proofs.Calls.{shot-refused, shot-empty, shot-some}
 use Rattle.film.specs.Film.{filmOf}
 use Rattle.checked_packets.specs.declared.Watched.{Watched}
 use Rattle.checked_packets.specs.Watch.{watched, watchedAll, ChecksAll}
 use Rattle.check_answer.specs.declared.CheckAnswer.{CheckAnswer}
 use Rattle.check_answer.specs.declared.CheckAnswer.the-variants.{Refused}
-use Rattle.vendor_check.specs.Check.{compared, firstRefused, turnsOf, checkedShot, CheckDone, checkDone, checkOf, Lent, fresh, CheckLeft, unplayed, bySetup, bySession, checked, begunBy, unplayedAnswer}
+use Rattle.vendor_check.specs.Check.{compared, firstRefused, turnsOf, checkedShot, CheckDone, checkDone, checkOf, Lent, fresh, CheckLeft, unplayed, bySetup, bySession, checked, begunBy}
 use Rattle.check_answer.specs.Said.{saidBy}
 use Rattle.vendor_check.proofs.Films.{film-said}
 
@@ -69,7 +68,7 @@ module _ (s : Session) (n : Names) (lengths joined table : List ℕ) (m : Memory
   abbrev c : ShotCall
   c = shotCall s n lengths joined table m x y z answers
 
-  check-refused : (k : ℕ) → shotNumber c ≡ k → (k ≡ 0 → ⊥) → checkDone (Refused k 0) x y z m answers ≡ checkOf c file
+  pub check-refused : (k : ℕ) → shotNumber c ≡ k → (k ≡ 0 → ⊥) → checkDone (Refused k 0) x y z m answers ≡ checkOf c file
   check-refused k e some = as-shot c file (unchanged k c) (shot-refused firstWay c k e some) (Refused k 0) (answer-refused c file k e some)
 
   module _ (zero : shotNumber c ≡ 0) where
@@ -125,14 +124,6 @@ module _ (s : Session) (n : Names) (lengths joined table : List ℕ) (m : Memory
         (er ∙ ap (λ (v : Watched). saidBy v file)
         (p .sees ∙ (λ i. watchedAll (byRules firstWay) (numbersOf s) file table (ew i) (shot s (x ∷ y ∷ z ∷ []) (ek i) (em i) []) (packetsIn lengths joined)) ∙ from-any (begunBy s file) some)
         ∙ said-played)
-
-  -- a check that plays nothing
-  pub check-none : {k : ℕ} → k ≡ shotNumber c → (not (eqb k 0) || eqb (length lengths) 0) ≡ true → {r : CheckAnswer} → r ≡ unplayedAnswer k s file → checkDone r x y z m answers ≡ checkOf c file
-  check-none {k} ek h {r} er = go (plays-not h er)
-    where
-      go : ((k ≡ 0 → ⊥) × (r ≡ Refused k 0)) ⊎ ((k ≡ 0) × (length lengths ≡ 0) × (r ≡ saidBy (begunBy s file) file)) → checkDone r x y z m answers ≡ checkOf c file
-      go (inl u) = ap (λ (r : CheckAnswer). checkDone r x y z m answers) (u .1) ∙ check-refused k (sym ek) (u .0)
-      go (inr u) = check-empty (sym ek ∙ u .0) (u .1) refl (u .2)
 
 -- ---- the two headers
 module _ (header setup file : List ℕ) (l : Lent) {a : IdentificationAnswer} (ea : a ≡ asIdentification (identification header 0)) where

@@ -31,7 +31,6 @@ use Rattle.stream_check.specs.Compared.{difference, onward, beginning}
 use Rattle.checked_packets.specs.declared.Watched.{Watched}
 use Rattle.check_answer.specs.declared.CheckAnswer.{CheckAnswer}
 use Rattle.check_answer.specs.declared.CheckAnswer.the-variants.{Passes, Differs, Refused}
-use Rattle.check_answer.specs.Said.{saidBy}
 
 -- ---- the answer
 -- "It passes the file exactly if .. the file is what Ask 1 would write .. Otherwise it names the first differing byte"
@@ -123,7 +122,3 @@ checked header setup file l = bySession (identification header 0) setup file l
 -- the header's line is compared
 abbrev pub begunBy : Session → (file : List ℕ) → Watched
 begunBy s file = record { compared = onward beginning (headerText (numbersOf s)) file; refused = false; number = 0; bit = 0 }
-
--- a check that plays nothing: refused, or of no packets
-abbrev pub unplayedAnswer : ℕ → Session → (file : List ℕ) → CheckAnswer
-unplayedAnswer k s file = choose (eqb k 0) (saidBy (begunBy s file) file) (Refused k 0)

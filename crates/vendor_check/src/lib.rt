@@ -4,6 +4,7 @@ use check_answer::CheckAnswer;
 use checked_packets::Watched;
 use headers::IdentificationAnswer;
 use headers::Session;
+use opening::Room;
 use setup::SetupAnswer;
 ghost use mathlib.Core.Path.{_≡_};
 ghost use mathlib.Core.Bool.{true};
@@ -12,7 +13,7 @@ ghost use lib.ListN.{length};
 ghost use Rattle.headers.specs.Fits.{sessionFits};
 ghost use Rattle.work_memory.specs.Memory.{memory};
 ghost use Rattle.opening.specs.Call.{shotCall};
-ghost use Rattle.vendor_check.specs.Check.{begunBy, unplayedAnswer, lent, checkDone, ShotChecked, checkLeft, checked};
+ghost use Rattle.vendor_check.specs.Check.{begunBy, lent, checkDone, ShotChecked, checkLeft, checked};
 
 // The header of a session's stream compared, before the first packet.
 fn begin(s: Session, file: &[u8]) -> Watched
@@ -26,18 +27,6 @@ fn begin(s: Session, file: &[u8]) -> Watched
         number: 0,
         bit: 0,
     }
-}
-
-// A check that plays nothing: request 6's refusal by its number, or without one, since there are no packets, the header alone.
-fn unplayed_answer(number: u32, s: Session, file: &[u8]) -> CheckAnswer
-    requires { ⌜ number ≡ 0 → sessionFits s ≡ true ⌝ }
-    ensures { λ r. ⌜ r ≡ unplayedAnswer number s (now (file .entry)) ⌝ }
-{
-    if number != 0 {
-        return CheckAnswer::Refused(number, 0);
-    }
-    let begun = begin(s, file);
-    check_answer::conclude(begun, file)
 }
 
 // A check from a session on: request 6's call, and the file compared.
@@ -67,32 +56,31 @@ fn check_shot(
         (memory (now (records .entry)) (now (coded .entry)) (now (coefs .entry)) (now (dc .entry)) (now (lasts .entry)) (now (flags .entry)) (now (bits .entry)) (now (supers .entry)) (now (modes .entry)) (now (active .entry))) (now (first .entry)) (now (second .entry)) (now (third .entry)) (now (answers .entry))) (now (file .entry))
         (checkDone r (now (first .exit)) (now (second .exit)) (now (third .exit)) (memory (now (records .exit)) (now (coded .exit)) (now (coefs .exit)) (now (dc .exit)) (now (lasts .exit)) (now (flags .exit)) (now (bits .exit)) (now (supers .exit)) (now (modes .exit)) (now (active .exit))) (now (answers .exit))) ⌝ }
 {
-    let opened = opening::open(
-        s,
-        names,
-        lengths,
-        packets,
-        table,
-        records,
-        coded,
-        coefs,
-        dc,
-        lasts,
-        flags,
-        bits,
-        supers,
-        modes,
-        active,
-        first,
-        second,
-        third,
-        answers,
-    );
+    let room = Room {
+        records: records.len(),
+        coded: coded.len(),
+        coefs: coefs.len(),
+        dc: dc.len(),
+        lasts: lasts.len(),
+        flags: flags.len(),
+        bits: bits.len(),
+        supers: supers.len(),
+        modes: modes.len(),
+        active: active.len(),
+        first: first.len(),
+        second: second.len(),
+        third: third.len(),
+        answers: answers.len(),
+    };
+    let opened = opening::open(s, names, lengths, packets, table, room);
     let number = opened.number;
-    if (number != 0) | (lengths.len() == 0) {
-        return unplayed_answer(number, s, file);
+    if number != 0 {
+        return CheckAnswer::Refused(number, 0);
     }
     let begun = begin(s, file);
+    if lengths.len() == 0 {
+        return check_answer::conclude(begun, file);
+    }
     let both = buffer_names::names_of(s, names);
     work_memory::clear_memory(
         records,

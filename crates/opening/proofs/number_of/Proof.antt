@@ -2,8 +2,8 @@
 use borrow.Author.Needs.{needs}
 use mathlib.Core.Path.{_≡_, ap}
 use Rattle.bitstream.specs.declared.End.{End}
-use Rattle.opening.specs.Call.{lateNumber}
-use Rattle.opening.proofs.Calls.{of-lent, of-late}
+use Rattle.opening.specs.Room.{lateNumber}
+use Rattle.opening.proofs.Rooms.{of-lent, of-late}
 use Rattle.opening.proofs.number_of.Statement.{statement}
 use Rattle.opening.proofs.number_of.Tie as tie
 

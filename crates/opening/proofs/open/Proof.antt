@@ -1,9 +1,8 @@
 -- `opening::open` meets its contract. Assumes nothing.
-use mathlib.Core.Path.{_≡_, ap}
+use mathlib.Core.Path.{ap}
 use Rattle.setup.specs.declared.SetupRead.{SetupRead}
-use Rattle.work_memory.specs.Memory.{memory}
 use Rattle.opening.specs.Call.{shotCall}
-use Rattle.opening.proofs.Calls.{number-is}
+use Rattle.opening.proofs.Rooms.{lent-is, number-is}
 use Rattle.opening.proofs.open.Statement.{statement}
 use Rattle.opening.proofs.open.Tie as tie
 
@@ -21,8 +20,12 @@ number-of-requires c κs = tt
 
 returns : tie.Need-returns
 returns c =
-    let a = c .before .before .before .before .before .before .before .before .before .before .before .before .before .before .before .before .before .before .before .before .args in
-    (number-is (shotCall (a .s) (a .names) (a .lengths .now) (a .packets .now) (a .table .now) (memory (a .records .now) (a .coded .now) (a .coefs .now) (a .dc .now) (a .lasts .now) (a .flags .now) (a .bits .now) (a .supers .now) (a .modes .now) (a .active .now)) (a .first .now) (a .second .now) (a .third .now) (a .answers .now)) (c .before .before .before .before .lent-number .ensures) (c .before .before .before .load-table .ensures) (c .before .before .lengths-reach .ensures) (c .before .number-of .ensures), ap (λ (x : SetupRead). x .setup) (c .before .before .before .load-table .ensures))
+    let a = c .before .before .before .before .before .before .before .before .args in (
+      λ m x y z w e.
+          number-is (shotCall (a .s) (a .names) (a .lengths .now) (a .packets .now) (a .table .now) m x y z w) (lent-is (a .s) (a .names) (a .lengths .now) (a .packets .now) (a .table .now) m x y z w e (c .before .before .before .before .lent-number .ensures))
+          (c .before .before .before .load-table .ensures) (c .before .before .lengths-reach .ensures) (c .before .number-of .ensures),
+      ap (λ (r : SetupRead). r .setup) (c .before .before .before .load-table .ensures),
+    )
 
 pub open-spec : {M : Type 1} → statement M
 open-spec =
