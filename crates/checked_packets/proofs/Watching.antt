@@ -13,7 +13,7 @@ use Rattle.work_memory.specs.Lengths.{blocks, lengthsOf, cleared}
 use Rattle.reading.specs.declared.FrameAnswer.{FrameAnswer}
 use Rattle.decoding.specs.Answer.{Done}
 use Rattle.calls.specs.Call.{byRules}
-use Rattle.packet_list.specs.Packets.{packetsIn, total}
+use Rattle.packet_list.specs.Packets.{packetsIn, total, answerSize}
 use Rattle.packet_list.proofs.Walk.{packets-left, packets-none}
 use Rattle.buffer_names.specs.declared.Names.{Names}
 use Rattle.buffer_names.specs.Names.{Sound}
@@ -22,7 +22,7 @@ use Rattle.stream_numbers.specs.Numbers.{numbersOf}
 use Rattle.y4m.specs.Stream.{frameBytes}
 use Rattle.y4m.proofs.Streams.{session-bytes}
 use Rattle.frame_into.specs.Buffers.{bufferOf}
-use Rattle.shot_packets.specs.Play.{Shot, shot, stateOf, callOf, after, oneMore, answerSize, numbersOf as answerNumbersOf}
+use Rattle.shot_packets.specs.Play.{Shot, shot, stateOf, callOf, after, oneMore, numbersOf as answerNumbersOf}
 use Rattle.shot_packets.proofs.Loop.{Going, going-first, going-last, going-on, first-same, second-same, third-same}
 use Rattle.checked_packets.specs.declared.Watched.{Watched}
 use Rattle.checked_packets.specs.Watch.{watched, watchedAll, ChecksAll}

@@ -12,12 +12,12 @@ ghost use lib.ListN.{length};
 ghost use Rattle.headers.specs.Fits.{sessionFits};
 ghost use Rattle.work_memory.specs.Memory.{memory};
 ghost use Rattle.work_memory.specs.Lengths.{blocks, lengthsOf, cleared};
-ghost use Rattle.packet_list.specs.Packets.{total, packetsIn};
+ghost use Rattle.packet_list.specs.Packets.{total, packetsIn, answerSize};
 ghost use Rattle.buffer_names.specs.Names.{Sound};
 ghost use Rattle.stream_numbers.specs.Numbers.{numbersOf};
 ghost use Rattle.y4m.specs.Stream.{frameBytes};
 ghost use Rattle.frame_into.specs.Buffers.{bufferOf};
-ghost use Rattle.shot_packets.specs.Play.{shot, answerSize};
+ghost use Rattle.shot_packets.specs.Play.{shot};
 ghost use Rattle.shot_packets.specs.Inner.{TableLoaded};
 ghost use Rattle.checked_packets.specs.Watch.{watched, ChecksAll};
 

@@ -15,9 +15,9 @@ use Rattle.packet_list.specs.Packets.{packetsIn, total}
 use Rattle.packet_list.proofs.Cut.{packets-cut}
 use Rattle.shot_packets.specs.Play.{Shot, stateOf, callOf, after, oneMore, played}
 use Rattle.shot_packets.proofs.Cut.{shot-none, shot-one, shot-cut}
-use Rattle.shot.specs.Call.{ShotCall, reaches, lentNumber, shotNumber}
+use Rattle.opening.specs.Call.{ShotCall, reaches, lentNumber, shotNumber}
 use Rattle.shot_claims.specs.Claims.{Cuts, SixteenExactly, paddedBy, AllSettled, ShotsPadded}
-use Rattle.shot.proofs.Calls.{lent-few, number-lent, number-table, number-16, number-0}
+use Rattle.opening.proofs.Calls.{lent-few, number-lent, number-table, number-16, number-0}
 
 pub cuts : (does : State → Call → Done) (table : List ℕ) (h : Shot) → Cuts does table h
 cuts does table h = record {

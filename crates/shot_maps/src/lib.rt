@@ -16,7 +16,7 @@ ghost use Rattle.work_memory.specs.Lengths.{blocks};
 ghost use Rattle.reading.specs.Answer.{answerNumbers};
 ghost use Rattle.buffer_names.specs.Names.{free};
 ghost use Rattle.frame_into.specs.Buffers.{bufferOf};
-ghost use Rattle.shot_packets.specs.Play.{answerSize};
+ghost use Rattle.packet_list.specs.Packets.{answerSize};
 ghost use Rattle.tile_calls.specs.Call.{mapLengthOf, mapAfter};
 ghost use Rattle.shot_maps.specs.Maps.{mapsFit, mapsNumber, withPart};
 

@@ -16,12 +16,12 @@ use Rattle.reading.specs.declared.FrameAnswer.{FrameAnswer}
 use Rattle.decoding.specs.Answer.{Done}
 use Rattle.calls.specs.Call.{outcomeOf, lengthsHold, byRules}
 use Rattle.calls.proofs.Tokens.{outcome-got}
-use Rattle.packet_list.specs.Packets.{packetsIn, total}
+use Rattle.packet_list.specs.Packets.{packetsIn, total, answerSize}
 use Rattle.packet_list.proofs.Walk.{total-drop, packets-left, packets-none}
 use Rattle.buffer_names.specs.declared.Names.{Names}
 use Rattle.buffer_names.specs.Names.{free, Sound}
 use Rattle.buffer_names.proofs.Free.{free-is}
-use Rattle.shot_packets.specs.Play.{Shot, shot, stateOf, callOf, oneMore, played, answerSize, numbersOf, allNumbers}
+use Rattle.shot_packets.specs.Play.{Shot, shot, stateOf, callOf, oneMore, played, numbersOf, allNumbers}
 use Rattle.shot_packets.specs.Inner.{PlaysAll}
 use Rattle.shot_packets.proofs.Cut.{numbers-more, numbers-first}
 use Rattle.shot_packets.proofs.Rules.{sound-after, session-kept, by-decoded}

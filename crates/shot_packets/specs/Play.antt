@@ -45,10 +45,6 @@ unfoldable pub played : (State → Call → Done) → (table : List ℕ) → Sho
 played does table h [] = h
 played does table h (p ∷ ps) = played does table (oneMore does table h p) ps
 
--- "Packet answers go to a lent list": 8 numbers for each packet, those of the frame call
-abbrev pub answerSize : ℕ
-answerSize = 8
-
 abbrev pub numbersOf : FrameAnswer → List ℕ
 numbersOf a = answerNumbers (a .verdict) (a .header)
 

@@ -16,9 +16,9 @@ ghost use Rattle.work_memory.specs.Memory.{memory};
 ghost use Rattle.work_memory.specs.Lengths.{blocks, lengthsOf, cleared};
 ghost use Rattle.reading.specs.declared.FrameAnswer.{FrameAnswer};
 ghost use Rattle.calls.specs.Call.{byRules};
-ghost use Rattle.packet_list.specs.Packets.{total, packetsIn};
+ghost use Rattle.packet_list.specs.Packets.{total, packetsIn, answerSize};
 ghost use Rattle.buffer_names.specs.Names.{namesAfter, Sound};
-ghost use Rattle.shot_packets.specs.Play.{shot, oneMore, answerSize};
+ghost use Rattle.shot_packets.specs.Play.{shot, oneMore};
 ghost use Rattle.shot_packets.specs.Inner.{TableLoaded, PlaysAll};
 
 // What one packet answers, the names after it, and the matrices that are kept.

@@ -14,7 +14,8 @@ use Rattle.decoding.specs.Answer.{State}
 use Rattle.calls.specs.Call.{Call, outcomeOf, byRules}
 use Rattle.packet_list.specs.Packets.{packetsIn, total}
 use Rattle.shot_packets.specs.Play.{Shot, stateOf, callOf, played}
-use Rattle.shot.specs.Call.{ShotCall, shotNumber, startOf, unchanged, byShot}
+use Rattle.opening.specs.Call.{ShotCall, shotNumber}
+use Rattle.shot.specs.Call.{startOf, unchanged, byShot}
 use Rattle.tile_calls.specs.Call.{mapLengthOf, tilesCall}
 use Rattle.tile_calls.specs.Said.{AcceptedCall, IsTileOf, QuietTile}
 use Rattle.shot_maps.specs.Maps.{mapsNumber, mapsAfter}
