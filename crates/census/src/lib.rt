@@ -46,8 +46,7 @@ fn count_packets(
     let mut at = start;
     let mut i: usize = 3;
     while i < lengths.len() {
-        let n = lengths[i] as usize;
-        let end = at + n;
+        let end = packet_list::packet_end(lengths, i, at);
         let packet = bitstream::readable(&packets[at..end]);
         let counted = tally::count_packet(
             session,

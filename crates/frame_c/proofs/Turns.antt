@@ -17,7 +17,7 @@ use Rattle.calls.specs.Demand.{turn, turns}
 use Rattle.calls.proofs.KeyFrames.{after-session}
 use Rattle.session_list.specs.List.{sessionOf, listsNumber}
 use Rattle.frame_c.specs.Face.{FrameReturned, stateOf, doneReturned, frameCall}
-use Rattle.answer_lists.specs.FrameLists.{referenceNumber, verdictReturned}
+use Rattle.frame_lists.specs.FrameLists.{referenceNumber, verdictReturned}
 use Rattle.frame_c.specs.Turns.{FaceCall, AnswersFit, SameTurns, FaceTurns}
 use Rattle.frame_c.proofs.Calls.{session-handed}
 

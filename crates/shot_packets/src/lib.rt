@@ -98,10 +98,7 @@ pub fn play_packet(
         s.fields.fmbh,
     );
     let answer = ready.answer;
-    let verdict = answer.verdict;
-    let header = answer.header;
-    let kind = header.kind;
-    let after = buffer_names::names_after(names, free, verdict, kind);
+    let after = buffer_names::after_packet(names, answer);
     Played {
         answer,
         names: after,
@@ -151,8 +148,7 @@ pub fn play_packets(
     let mut at: usize = 0;
     let mut i: usize = 0;
     while i < lengths.len() {
-        let n = lengths[i] as usize;
-        let end = at + n;
+        let end = packet_list::packet_end(lengths, i, at);
         let played = play_packet(
             session,
             both,

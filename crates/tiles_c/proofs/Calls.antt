@@ -16,7 +16,7 @@ use Rattle.decoding.specs.Answer.{Done, state}
 use Rattle.calls.specs.Call.{Call}
 use Rattle.session_list.specs.List.{Returned, gives, sessionOf, listsNumber, Answered, answers}
 use Rattle.frame_c.specs.Face.{frameGives}
-use Rattle.answer_lists.specs.FrameLists.{verdictReturned}
+use Rattle.frame_lists.specs.FrameLists.{verdictReturned}
 use Rattle.session_list.proofs.Lists.{lengths}
 use Rattle.tile_calls.specs.declared.MapLength.{MapLength}
 use Rattle.tile_calls.specs.Call.{lengthFor, TilesDone, tilesCall}

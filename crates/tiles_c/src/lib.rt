@@ -106,7 +106,7 @@ pub extern "C" fn wedgepetal_tiles_frame(
             new,
             map,
         );
-        return answer_lists::return_frame(done, session, answer);
+        return frame_lists::return_frame(done, session, answer);
     }
     k
 }

@@ -58,8 +58,7 @@ pub fn play_packets(
     let mut at: usize = 0;
     let mut i: usize = 0;
     while i < lengths.len() {
-        let n = lengths[i] as usize;
-        let end = at + n;
+        let end = packet_list::packet_end(lengths, i, at);
         let played = shot_packets::play_packet(
             session,
             both,

@@ -1,10 +1,10 @@
--- `answer_lists::return_frame` meets its contract. Assumes nothing.
+-- `frame_lists::return_frame` meets its contract. Assumes nothing.
 use borrow.Author.Needs.{needs}
 use native.Mathlib.Omega.{arith}
 use lib.ListN.{length-set}
-use Rattle.answer_lists.proofs.FrameLists.{frame-accepted, frame-refused}
-use Rattle.answer_lists.proofs.return_frame.Statement.{statement}
-use Rattle.answer_lists.proofs.return_frame.Tie as tie
+use Rattle.frame_lists.proofs.FrameLists.{frame-accepted, frame-refused}
+use Rattle.frame_lists.proofs.return_frame.Statement.{statement}
+use Rattle.frame_lists.proofs.return_frame.Tie as tie
 
 store-answer-requires : tie.Need-store-answer-requires
 store-answer-requires c κs = search needs

@@ -1,9 +1,9 @@
--- `checked_packets::watch` meets its contract. Assumes nothing.
+-- `watching::watch` meets its contract. Assumes nothing.
 use Rattle.stream_numbers.specs.Numbers.{numbersOf}
-use Rattle.checked_packets.proofs.Steps.{watched-stays, watched-refused, watched-accepted}
+use Rattle.watching.proofs.Steps.{watched-stays, watched-refused, watched-accepted}
 use borrow.Author.Needs.{needs}
-use Rattle.checked_packets.proofs.watch.Statement.{statement}
-use Rattle.checked_packets.proofs.watch.Tie as tie
+use Rattle.watching.proofs.watch.Statement.{statement}
+use Rattle.watching.proofs.watch.Tie as tie
 
 returns : tie.Need-returns
 returns c = let a = c .before .before .before .args in (watched-stays (numbersOf (a .s)) (a .file .now) (a .w) (a .verdict) (a .frame .now) (c .if1 .taken), c .before .before .before .pre .2)

@@ -8,7 +8,7 @@ use Rattle.frame_header.specs.declared.Header.{Header}
 use Rattle.reading.specs.declared.Verdict.{Verdict}
 use Rattle.reading.specs.Answer.{answerNumbers}
 use Rattle.session_list.specs.List.{answers}
-use Rattle.answer_lists.specs.FrameLists.{referenceNumber, verdictReturned}
+use Rattle.frame_lists.specs.FrameLists.{referenceNumber, verdictReturned}
 
 -- the lists after a frame, from what `reading::store_answer` and `reference_number` leave and answer
 module _ (session : List ℕ) (h : Header) (next : Session) {v : Verdict} {l : List ℕ} (s : l ≡ answerNumbers v h) where
