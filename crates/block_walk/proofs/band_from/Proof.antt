@@ -2,7 +2,6 @@
 -- Assumes nothing.
 use Prim.Native.Nat.{_≤_}
 use native.Mathlib.Omega.{arith}
-use Rattle.geometry.specs.declared.Plane.{Plane}
 use Rattle.geometry.specs.Frame.{InFrame}
 use Rattle.geometry.proofs.SizeLaws.{PlaneSmall, sizes-small, plane-of-small}
 use Rattle.block_walk.proofs.Bands.{in-frame, column-below, in-four, in-plane, from-row}
