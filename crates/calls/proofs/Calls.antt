@@ -25,14 +25,6 @@ module _ (s : Session) (golden previous packet table new : List ℕ) (m : Memory
   c = call packet table m new
 
   -- ---- the tests of what is lent
-  pub lent-8 : sessionFits s ≡ false → lentNumber st c ≡ 8
-  unfolding lentNumber
-  lent-8 h = rw h
-
-  pub lent-is : sessionFits s ≡ true → {v : Bool} → lengthsHold st c ≡ v → lentNumber st c ≡ choose v 0 1
-  unfolding lentNumber
-  lent-is h l = rw (h, l)
-
   -- what passes both
   pub passes : lentNumber st c ≡ 0 → (sessionFits s ≡ true) × (lengthsHold st c ≡ true)
   unfolding lentNumber

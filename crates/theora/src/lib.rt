@@ -1,4 +1,5 @@
 // The public face of the decoder: the two headers, the sizes, and the frame call. No call asks anything of what is handed in.
+use calls::Room;
 use headers::IdentificationAnswer;
 use headers::Session;
 use headers::SizesAnswer;
@@ -77,23 +78,22 @@ pub fn frame(
         (call (now (packet .entry)) (now (table .entry)) (memory (now (records .entry)) (now (coded .entry)) (now (coefs .entry)) (now (dc .entry)) (now (lasts .entry)) (now (flags .entry)) (now (bits .entry)) (now (supers .entry)) (now (modes .entry)) (now (active .entry))) (now (new .entry)))
         (done r (now (new .exit)) (memory (now (records .exit)) (now (coded .exit)) (now (coefs .exit)) (now (dc .exit)) (now (lasts .exit)) (now (flags .exit)) (now (bits .exit)) (now (supers .exit)) (now (modes .exit)) (now (active .exit)))) ⌝ }
 {
-    let k = calls::lent_number(
-        s,
-        table,
-        records,
-        coded,
-        coefs,
-        dc,
-        lasts,
-        flags,
-        bits,
-        supers,
-        modes,
-        active,
-        golden,
-        previous,
-        new,
-    );
+    let room = Room {
+        records: records.len(),
+        coded: coded.len(),
+        coefs: coefs.len(),
+        dc: dc.len(),
+        lasts: lasts.len(),
+        flags: flags.len(),
+        bits: bits.len(),
+        supers: supers.len(),
+        modes: modes.len(),
+        active: active.len(),
+        first: golden.len(),
+        second: previous.len(),
+        third: new.len(),
+    };
+    let k = calls::lent_number(s, table.len(), room);
     if k != 0 {
         return reading::refusal(k, 0, s);
     }
