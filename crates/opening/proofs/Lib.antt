@@ -1,3 +1,3 @@
--- Calls: the tests of the call. Rooms: the same, as the program comes to them.
+-- Calls: the tests of the call. Tests: the same, as the program comes to them.
 pub mod Calls
-pub mod Rooms
+pub mod Tests

@@ -1,3 +1,3 @@
--- Call: the shot call, and when it is refused. Room: the same by the lengths of what is lent.
+-- Call: the shot call, and when it is refused. Tests: the same by the lengths of what is lent.
 pub mod Call
-pub mod Room
+pub mod Tests

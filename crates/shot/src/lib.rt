@@ -1,7 +1,7 @@
 // A whole shot in one call: packets joined together, applied in order, with three buffers that are named.
 use buffer_names::Names;
 use headers::Session;
-use opening::Room;
+use calls::Room;
 ghost use mathlib.Core.Path.{_≡_};
 ghost use Rattle.work_memory.specs.Memory.{memory};
 ghost use Rattle.opening.specs.Call.{shotCall};
@@ -72,9 +72,8 @@ pub fn shot(
         first: first.len(),
         second: second.len(),
         third: third.len(),
-        answers: answers.len(),
     };
-    let opened = opening::open(s, names, lengths, packets, table, room);
+    let opened = opening::open(s, names, lengths, packets, table, room, answers.len());
     let number = opened.number;
     if number != 0 {
         return refused(number, s, names);

@@ -1,7 +1,7 @@
 // A whole shot in one call, and for each packet the map of the tiles that it changed.
 use buffer_names::Names;
 use headers::Session;
-use opening::Room;
+use calls::Room;
 use settings::Settings;
 use shot::ShotAnswer;
 use shot::ShotVerdict;
@@ -57,9 +57,8 @@ pub fn shot(
         first: first.len(),
         second: second.len(),
         third: third.len(),
-        answers: answers.len(),
     };
-    let opened = opening::open(s, names, lengths, packets, table, room);
+    let opened = opening::open(s, names, lengths, packets, table, room, answers.len());
     let number = opened.number;
     if number != 0 {
         return shot::refused(number, s, names);

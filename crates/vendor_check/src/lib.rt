@@ -4,7 +4,7 @@ use check_answer::CheckAnswer;
 use checked_packets::Watched;
 use headers::IdentificationAnswer;
 use headers::Session;
-use opening::Room;
+use calls::Room;
 use setup::SetupAnswer;
 ghost use mathlib.Core.Path.{_≡_};
 ghost use mathlib.Core.Bool.{true};
@@ -70,9 +70,8 @@ fn check_shot(
         first: first.len(),
         second: second.len(),
         third: third.len(),
-        answers: answers.len(),
     };
-    let opened = opening::open(s, names, lengths, packets, table, room);
+    let opened = opening::open(s, names, lengths, packets, table, room, answers.len());
     let number = opened.number;
     if number != 0 {
         return CheckAnswer::Refused(number, 0);

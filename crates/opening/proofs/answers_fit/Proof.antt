@@ -1,5 +1,5 @@
 -- `opening::answers_fit` meets its contract. Assumes nothing.
-use Rattle.opening.proofs.Rooms.{answers-few}
+use Rattle.opening.proofs.Tests.{answers-few}
 use Rattle.opening.proofs.answers_fit.Statement.{statement}
 use Rattle.opening.proofs.answers_fit.Tie as tie
 

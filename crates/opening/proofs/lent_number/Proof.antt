@@ -1,21 +1,16 @@
 -- `opening::lent_number` meets its contract. Assumes nothing.
-use mathlib.Core.Path.{sym, _∙_}
-use Rattle.calls.proofs.Lengths.{blocks-few}
-use Rattle.opening.proofs.Rooms.{lent-8, lent-1, lent-names, lent-0}
+use mathlib.Core.Path.{refl, sym, _∙_}
+use Rattle.opening.proofs.Tests.{lent-first, lent-then}
 use Rattle.opening.proofs.lent_number.Statement.{statement}
 use Rattle.opening.proofs.lent_number.Tie as tie
 
-session-fits-requires : tie.Need-session-fits-requires
-session-fits-requires c κs = tt
+lent-number-requires : tie.Need-lent-number-requires
+lent-number-requires c κs = tt
 
-lengths-of-requires : tie.Need-lengths-of-requires
-lengths-of-requires c κs = sym (c .before .session-fits .ensures) ∙ c .if1 .taken
-
-buffers-fit-requires : tie.Need-buffers-fit-requires
-buffers-fit-requires c κs = blocks-few (c .before .before .before .args .s) (sym (c .before .before .session-fits .ensures) ∙ c .before .if1 .taken) (c .lengths-of .ensures)
-
-work-fits-requires : tie.Need-work-fits-requires
-work-fits-requires c κs = tt
+returns : tie.Need-returns
+returns c =
+    let a = c .before .before .args in
+    lent-first (a .s) (a .names) (a .packets) (a .table) (a .room) (a .answers) (c .before .lent-number .ensures) (c .if1 .taken)
 
 answers-fit-requires : tie.Need-answers-fit-requires
 answers-fit-requires c κs = tt
@@ -23,37 +18,22 @@ answers-fit-requires c κs = tt
 names-fit-requires : tie.Need-names-fit-requires
 names-fit-requires c κs = tt
 
-returns : tie.Need-returns
-returns c =
-    let a = c .before .before .before .before .before .before .before .before .before .args in
-    lent-0 (a .s) (a .names) (a .packets) (a .table) (a .room) (sym (c .before .before .before .before .before .before .before .before .session-fits .ensures) ∙ c .before .before .before .before .before .before .before .if1 .taken) (c .before .before .before .before .before .before .lengths-of .ensures) (c .before .before .before .before .before .buffers-fit .ensures) (c .before .before .before .before .work-fits .ensures) (c .before .before .before .answers-fit .ensures) (c .before .before .if2 .taken) (sym (c .before .names-fit .ensures) ∙ c .if3 .taken)
-
 returns-2 : tie.Need-returns-2
 returns-2 c =
-    let a = c .before .before .before .before .before .before .before .before .before .args in
-    lent-names (a .s) (a .names) (a .packets) (a .table) (a .room) (sym (c .before .before .before .before .before .before .before .before .session-fits .ensures) ∙ c .before .before .before .before .before .before .before .if1 .taken) (c .before .before .before .before .before .before .lengths-of .ensures) (c .before .before .before .before .before .buffers-fit .ensures) (c .before .before .before .before .work-fits .ensures) (c .before .before .before .answers-fit .ensures) (c .before .before .if2 .taken) (sym (c .before .names-fit .ensures) ∙ c .if3 .left)
+    let a = c .before .before .before .before .before .before .args in
+    lent-then (a .s) (a .names) (a .packets) (a .table) (a .room) (a .answers) (c .before .before .before .before .before .lent-number .ensures) (c .before .before .before .before .if1 .left) (c .before .before .before .answers-fit .ensures) (c .before .before .if2 .taken) (sym (c .before .names-fit .ensures) ∙ c .if3 .taken)
 
 returns-3 : tie.Need-returns-3
 returns-3 c =
-    let a = c .before .before .before .before .before .before .before .args in
-    lent-1 (a .s) (a .names) (a .packets) (a .table) (a .room) (sym (c .before .before .before .before .before .before .session-fits .ensures) ∙ c .before .before .before .before .before .if1 .taken) (c .before .before .before .before .lengths-of .ensures) (c .before .before .before .buffers-fit .ensures) (c .before .before .work-fits .ensures) (c .before .answers-fit .ensures) (c .if2 .left)
+    let a = c .before .before .before .before .before .before .args in
+    lent-then (a .s) (a .names) (a .packets) (a .table) (a .room) (a .answers) (c .before .before .before .before .before .lent-number .ensures) (c .before .before .before .before .if1 .left) (c .before .before .before .answers-fit .ensures) (c .before .before .if2 .taken) (sym (c .before .names-fit .ensures) ∙ c .if3 .left)
 
 returns-4 : tie.Need-returns-4
 returns-4 c =
-    let a = c .before .before .args in
-    lent-8 (a .s) (a .names) (a .packets) (a .table) (a .room) (sym (c .before .session-fits .ensures) ∙ c .if1 .left)
+    let a = c .before .before .before .before .args in
+    lent-then (a .s) (a .names) (a .packets) (a .table) (a .room) (a .answers) (c .before .before .before .lent-number .ensures) (c .before .before .if1 .left) (c .before .answers-fit .ensures) (c .if2 .left) refl
 
 pub lent-number-spec : {M : Type 1} → statement M
 lent-number-spec =
     tie.close
-    (tie.spec
-    session-fits-requires
-    lengths-of-requires
-    buffers-fit-requires
-    work-fits-requires
-    answers-fit-requires
-    names-fit-requires
-    returns
-    returns-2
-    returns-3
-    returns-4)
+    (tie.spec lent-number-requires returns answers-fit-requires names-fit-requires returns-2 returns-3 returns-4)

@@ -2,7 +2,7 @@
 use mathlib.Core.Path.{ap}
 use Rattle.setup.specs.declared.SetupRead.{SetupRead}
 use Rattle.opening.specs.Call.{shotCall}
-use Rattle.opening.proofs.Rooms.{lent-is, number-is}
+use Rattle.opening.proofs.Tests.{shot-lent, number-is}
 use Rattle.opening.proofs.open.Statement.{statement}
 use Rattle.opening.proofs.open.Tie as tie
 
@@ -21,8 +21,8 @@ number-of-requires c κs = tt
 returns : tie.Need-returns
 returns c =
     let a = c .before .before .before .before .before .before .before .before .args in (
-      λ m x y z w e.
-          number-is (shotCall (a .s) (a .names) (a .lengths .now) (a .packets .now) (a .table .now) m x y z w) (lent-is (a .s) (a .names) (a .lengths .now) (a .packets .now) (a .table .now) m x y z w e (c .before .before .before .before .lent-number .ensures))
+      λ m x y z w e l.
+          number-is (shotCall (a .s) (a .names) (a .lengths .now) (a .packets .now) (a .table .now) m x y z w) (shot-lent (a .s) (a .names) (a .lengths .now) (a .packets .now) (a .table .now) m x y z w e l (c .before .before .before .before .lent-number .ensures))
           (c .before .before .before .load-table .ensures) (c .before .before .lengths-reach .ensures) (c .before .number-of .ensures),
       ap (λ (r : SetupRead). r .setup) (c .before .before .before .load-table .ensures),
     )

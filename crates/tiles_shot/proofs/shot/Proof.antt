@@ -34,7 +34,7 @@ refused-requires-2 c κs = tt
 returns-2 : tie.Need-returns-2
 returns-2 c =
     let a = c .before .before .before .before .before .before .before .before .before .before .before .before .before .before .before .before .before .before .before .before .before .args in
-    left-late (a .set) (a .s) (a .names) (a .lengths .now) (a .packets .now) (a .table .now) (memory (a .records .now) (a .coded .now) (a .coefs .now) (a .dc .now) (a .lasts .now) (a .flags .now) (a .bits .now) (a .supers .now) (a .modes .now) (a .active .now)) (a .first .now) (a .second .now) (a .third .now) (a .answers .now) (a .maps .now) (sym (c .before .before .before .before .maps-number .ensures) ∙ c .before .before .before .if1 .left) (c .before .before .«open» .result .number) (c .refused2 .result) (c .refused2 .ensures) (sym (c .before .before .«open» .ensures .0 (memory (a .records .now) (a .coded .now) (a .coefs .now) (a .dc .now) (a .lasts .now) (a .flags .now) (a .bits .now) (a .supers .now) (a .modes .now) (a .active .now)) (a .first .now) (a .second .now) (a .third .now) (a .answers .now) refl)) (c .before .if2 .taken)
+    left-late (a .set) (a .s) (a .names) (a .lengths .now) (a .packets .now) (a .table .now) (memory (a .records .now) (a .coded .now) (a .coefs .now) (a .dc .now) (a .lasts .now) (a .flags .now) (a .bits .now) (a .supers .now) (a .modes .now) (a .active .now)) (a .first .now) (a .second .now) (a .third .now) (a .answers .now) (a .maps .now) (sym (c .before .before .before .before .maps-number .ensures) ∙ c .before .before .before .if1 .left) (c .before .before .«open» .result .number) (c .refused2 .result) (c .refused2 .ensures) (sym (c .before .before .«open» .ensures .0 (memory (a .records .now) (a .coded .now) (a .coefs .now) (a .dc .now) (a .lasts .now) (a .flags .now) (a .bits .now) (a .supers .now) (a .modes .now) (a .active .now)) (a .first .now) (a .second .now) (a .third .now) (a .answers .now) refl refl)) (c .before .if2 .taken)
 
 names-of-requires : tie.Need-names-of-requires
 names-of-requires c κs = tt
@@ -42,18 +42,18 @@ names-of-requires c κs = tt
 returns-3 : tie.Need-returns-3
 returns-3 c =
     let a = c .before .before .before .before .before .before .before .before .before .before .before .before .before .before .before .before .before .before .before .before .before .before .args in
-    call-empty (a .set) (a .s) (a .names) (a .lengths .now) (a .packets .now) (a .table .now) (memory (a .records .now) (a .coded .now) (a .coefs .now) (a .dc .now) (a .lasts .now) (a .flags .now) (a .bits .now) (a .supers .now) (a .modes .now) (a .active .now)) (a .first .now) (a .second .now) (a .third .now) (a .answers .now) (a .maps .now) (sym (c .before .before .before .before .before .maps-number .ensures) ∙ c .before .before .before .before .if1 .left) (sym (c .before .before .before .«open» .ensures .0 (memory (a .records .now) (a .coded .now) (a .coefs .now) (a .dc .now) (a .lasts .now) (a .flags .now) (a .bits .now) (a .supers .now) (a .modes .now) (a .active .now)) (a .first .now) (a .second .now) (a .third .now) (a .answers .now) refl) ∙ c .before .before .if2 .left) (c .if3 .taken) (c .before .names-of .result) (c .before .names-of .ensures)
+    call-empty (a .set) (a .s) (a .names) (a .lengths .now) (a .packets .now) (a .table .now) (memory (a .records .now) (a .coded .now) (a .coefs .now) (a .dc .now) (a .lasts .now) (a .flags .now) (a .bits .now) (a .supers .now) (a .modes .now) (a .active .now)) (a .first .now) (a .second .now) (a .third .now) (a .answers .now) (a .maps .now) (sym (c .before .before .before .before .before .maps-number .ensures) ∙ c .before .before .before .before .if1 .left) (sym (c .before .before .before .«open» .ensures .0 (memory (a .records .now) (a .coded .now) (a .coefs .now) (a .dc .now) (a .lasts .now) (a .flags .now) (a .bits .now) (a .supers .now) (a .modes .now) (a .active .now)) (a .first .now) (a .second .now) (a .third .now) (a .answers .now) refl refl) ∙ c .before .before .if2 .left) (c .if3 .taken) (c .before .names-of .result) (c .before .names-of .ensures)
 
 clear-memory-requires : tie.Need-clear-memory-requires
 clear-memory-requires c κs =
     let a = c .before .before .before .before .before .before .before .before .before .before .before .before .before .before .before .before .before .before .before .before .before .before .before .before .before .before .before .before .before .before .before .before .args in
-    ranks-fit (a .s) (a .names) (a .lengths .now) (a .packets .now) (a .table .now) (memory (a .records .now) (a .coded .now) (a .coefs .now) (a .dc .now) (a .lasts .now) (a .flags .now) (a .bits .now) (a .supers .now) (a .modes .now) (a .active .now)) (a .first .now) (a .second .now) (a .third .now) (a .answers .now) (accepted (shotCall (a .s) (a .names) (a .lengths .now) (a .packets .now) (a .table .now) (memory (a .records .now) (a .coded .now) (a .coefs .now) (a .dc .now) (a .lasts .now) (a .flags .now) (a .bits .now) (a .supers .now) (a .modes .now) (a .active .now)) (a .first .now) (a .second .now) (a .third .now) (a .answers .now)) (sym (c .before .before .before .before .before .before .before .before .before .before .before .before .before .«open» .ensures .0 (memory (a .records .now) (a .coded .now) (a .coefs .now) (a .dc .now) (a .lasts .now) (a .flags .now) (a .bits .now) (a .supers .now) (a .modes .now) (a .active .now)) (a .first .now) (a .second .now) (a .third .now) (a .answers .now) refl) ∙ c .before .before .before .before .before .before .before .before .before .before .before .before .if2 .left) .0)
+    ranks-fit (a .s) (a .names) (a .lengths .now) (a .packets .now) (a .table .now) (memory (a .records .now) (a .coded .now) (a .coefs .now) (a .dc .now) (a .lasts .now) (a .flags .now) (a .bits .now) (a .supers .now) (a .modes .now) (a .active .now)) (a .first .now) (a .second .now) (a .third .now) (a .answers .now) (accepted (shotCall (a .s) (a .names) (a .lengths .now) (a .packets .now) (a .table .now) (memory (a .records .now) (a .coded .now) (a .coefs .now) (a .dc .now) (a .lasts .now) (a .flags .now) (a .bits .now) (a .supers .now) (a .modes .now) (a .active .now)) (a .first .now) (a .second .now) (a .third .now) (a .answers .now)) (sym (c .before .before .before .before .before .before .before .before .before .before .before .before .before .«open» .ensures .0 (memory (a .records .now) (a .coded .now) (a .coefs .now) (a .dc .now) (a .lasts .now) (a .flags .now) (a .bits .now) (a .supers .now) (a .modes .now) (a .active .now)) (a .first .now) (a .second .now) (a .third .now) (a .answers .now) refl refl) ∙ c .before .before .before .before .before .before .before .before .before .before .before .before .if2 .left) .0)
 
 play-packets-requires : tie.Need-play-packets-requires
 play-packets-requires c κs =
     let a = c .before .before .before .before .before .before .before .before .before .before .before .before .before .before .before .before .before .before .before .before .before .before .before .before .before .before .before .before .before .before .before .before .before .before .before .before .before .before .before .before .before .before .before .before .before .before .before .before .before .before .before .before .before .before .before .before .before .before .before .before .before .before .before .before .before .before .args in
     let m = sym (c .before .before .before .before .before .before .before .before .before .before .before .before .before .before .before .before .before .before .before .before .before .before .before .before .before .before .before .before .before .before .before .before .before .before .before .before .before .before .before .before .before .before .before .before .before .before .before .before .before .maps-number .ensures) ∙ c .before .before .before .before .before .before .before .before .before .before .before .before .before .before .before .before .before .before .before .before .before .before .before .before .before .before .before .before .before .before .before .before .before .before .before .before .before .before .before .before .before .before .before .before .before .before .before .before .if1 .left in
-    let z = (sym (c .before .before .before .before .before .before .before .before .before .before .before .before .before .before .before .before .before .before .before .before .before .before .before .before .before .before .before .before .before .before .before .before .before .before .before .before .before .before .before .before .before .before .before .before .before .before .before .«open» .ensures .0 (memory (a .records .now) (a .coded .now) (a .coefs .now) (a .dc .now) (a .lasts .now) (a .flags .now) (a .bits .now) (a .supers .now) (a .modes .now) (a .active .now)) (a .first .now) (a .second .now) (a .third .now) (a .answers .now) refl) ∙ c .before .before .before .before .before .before .before .before .before .before .before .before .before .before .before .before .before .before .before .before .before .before .before .before .before .before .before .before .before .before .before .before .before .before .before .before .before .before .before .before .before .before .before .before .before .before .if2 .left) in
+    let z = (sym (c .before .before .before .before .before .before .before .before .before .before .before .before .before .before .before .before .before .before .before .before .before .before .before .before .before .before .before .before .before .before .before .before .before .before .before .before .before .before .before .before .before .before .before .before .before .before .before .«open» .ensures .0 (memory (a .records .now) (a .coded .now) (a .coefs .now) (a .dc .now) (a .lasts .now) (a .flags .now) (a .bits .now) (a .supers .now) (a .modes .now) (a .active .now)) (a .first .now) (a .second .now) (a .third .now) (a .answers .now) refl refl) ∙ c .before .before .before .before .before .before .before .before .before .before .before .before .before .before .before .before .before .before .before .before .before .before .before .before .before .before .before .before .before .before .before .before .before .before .before .before .before .before .before .before .before .before .before .before .before .before .if2 .left) in
     let w = accepted (shotCall (a .s) (a .names) (a .lengths .now) (a .packets .now) (a .table .now) (memory (a .records .now) (a .coded .now) (a .coefs .now) (a .dc .now) (a .lasts .now) (a .flags .now) (a .bits .now) (a .supers .now) (a .modes .now) (a .active .now)) (a .first .now) (a .second .now) (a .third .now) (a .answers .now)) z in
     let p = w .0 in
     let t = passes _ p in
@@ -110,7 +110,7 @@ same-length-15 c = c .before .before .before .maps .given
 returns-4 : tie.Need-returns-4
 returns-4 c =
     let a = c .before .before .before .before .before .before .before .before .before .before .before .before .before .before .before .before .before .before .before .before .before .before .before .before .before .before .before .before .before .before .before .before .before .before .before .before .before .before .before .before .before .before .before .before .before .before .before .before .before .before .before .before .before .before .before .before .before .before .before .before .before .before .before .before .before .before .before .before .before .before .before .before .before .before .before .before .before .before .before .before .before .before .before .before .before .before .before .before .before .before .before .before .before .before .before .before .before .args in
-    let z = (sym (c .before .before .before .before .before .before .before .before .before .before .before .before .before .before .before .before .before .before .before .before .before .before .before .before .before .before .before .before .before .before .before .before .before .before .before .before .before .before .before .before .before .before .before .before .before .before .before .before .before .before .before .before .before .before .before .before .before .before .before .before .before .before .before .before .before .before .before .before .before .before .before .before .before .before .before .before .before .before .«open» .ensures .0 (memory (a .records .now) (a .coded .now) (a .coefs .now) (a .dc .now) (a .lasts .now) (a .flags .now) (a .bits .now) (a .supers .now) (a .modes .now) (a .active .now)) (a .first .now) (a .second .now) (a .third .now) (a .answers .now) refl) ∙ c .before .before .before .before .before .before .before .before .before .before .before .before .before .before .before .before .before .before .before .before .before .before .before .before .before .before .before .before .before .before .before .before .before .before .before .before .before .before .before .before .before .before .before .before .before .before .before .before .before .before .before .before .before .before .before .before .before .before .before .before .before .before .before .before .before .before .before .before .before .before .before .before .before .before .before .before .before .if2 .left) in
+    let z = (sym (c .before .before .before .before .before .before .before .before .before .before .before .before .before .before .before .before .before .before .before .before .before .before .before .before .before .before .before .before .before .before .before .before .before .before .before .before .before .before .before .before .before .before .before .before .before .before .before .before .before .before .before .before .before .before .before .before .before .before .before .before .before .before .before .before .before .before .before .before .before .before .before .before .before .before .before .before .before .before .«open» .ensures .0 (memory (a .records .now) (a .coded .now) (a .coefs .now) (a .dc .now) (a .lasts .now) (a .flags .now) (a .bits .now) (a .supers .now) (a .modes .now) (a .active .now)) (a .first .now) (a .second .now) (a .third .now) (a .answers .now) refl refl) ∙ c .before .before .before .before .before .before .before .before .before .before .before .before .before .before .before .before .before .before .before .before .before .before .before .before .before .before .before .before .before .before .before .before .before .before .before .before .before .before .before .before .before .before .before .before .before .before .before .before .before .before .before .before .before .before .before .before .before .before .before .before .before .before .before .before .before .before .before .before .before .before .before .before .before .before .before .before .before .if2 .left) in
     call-some (a .set) (a .s) (a .names) (a .lengths .now) (a .packets .now) (a .table .now) (memory (a .records .now) (a .coded .now) (a .coefs .now) (a .dc .now) (a .lasts .now) (a .flags .now) (a .bits .now) (a .supers .now) (a .modes .now) (a .active .now)) (a .first .now) (a .second .now) (a .third .now) (a .answers .now) (a .maps .now) (sym (c .before .before .before .before .before .before .before .before .before .before .before .before .before .before .before .before .before .before .before .before .before .before .before .before .before .before .before .before .before .before .before .before .before .before .before .before .before .before .before .before .before .before .before .before .before .before .before .before .before .before .before .before .before .before .before .before .before .before .before .before .before .before .before .before .before .before .before .before .before .before .before .before .before .before .before .before .before .before .before .before .maps-number .ensures) ∙ c .before .before .before .before .before .before .before .before .before .before .before .before .before .before .before .before .before .before .before .before .before .before .before .before .before .before .before .before .before .before .before .before .before .before .before .before .before .before .before .before .before .before .before .before .before .before .before .before .before .before .before .before .before .before .before .before .before .before .before .before .before .before .before .before .before .before .before .before .before .before .before .before .before .before .before .before .before .before .before .if1 .left) z (c .before .before .before .before .before .before .before .before .before .before .before .before .before .before .before .before .before .before .before .before .before .before .before .before .before .before .before .before .before .before .before .before .before .before .before .before .before .before .before .before .before .before .before .before .before .before .before .before .before .before .before .before .before .before .before .before .before .before .before .before .before .before .before .before .before .before .before .before .before .before .before .before .before .before .before .if3 .left) (c .before .before .before .before .before .before .before .before .before .before .before .before .before .before .before .before .before .before .before .before .before .before .before .before .before .before .before .before .before .before .before .before .before .before .before .before .before .before .before .before .before .before .before .before .before .before .before .before .before .before .before .before .before .before .before .before .before .before .before .before .before .before .before .before .before .before .before .before .before .before .before .before .before .before .before .before .names-of .ensures) (c .before .before .before .before .before .before .before .before .before .before .before .before .before .before .before .before .before .before .before .before .before .before .before .before .before .before .before .before .before .before .before .before .before .before .before .before .before .before .before .before .before .before .before .before .before .before .before .before .before .before .before .before .before .before .before .before .before .before .before .before .before .before .before .before .clear-memory .ensures (lengthsOf (a .s)) (memory-fits (a .s) (a .names) (a .lengths .now) (a .packets .now) (a .table .now) (memory (a .records .now) (a .coded .now) (a .coefs .now) (a .dc .now) (a .lasts .now) (a .flags .now) (a .bits .now) (a .supers .now) (a .modes .now) (a .active .now)) (a .first .now) (a .second .now) (a .third .now) (a .answers .now) (accepted (shotCall (a .s) (a .names) (a .lengths .now) (a .packets .now) (a .table .now) (memory (a .records .now) (a .coded .now) (a .coefs .now) (a .dc .now) (a .lasts .now) (a .flags .now) (a .bits .now) (a .supers .now) (a .modes .now) (a .active .now)) (a .first .now) (a .second .now) (a .third .now) (a .answers .now)) z .0))) (c .before .before .before .before .before .before .before .before .before .before .before .before .before .before .before .before .before .before .before .before .before .before .before .before .before .before .before .before .before .before .play-packets .ensures)
 
 pub shot-spec : {M : Type 1} → statement M

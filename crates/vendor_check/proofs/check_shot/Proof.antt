@@ -18,12 +18,12 @@ open-requires c κs = tt
 returns : tie.Need-returns
 returns c =
     let a = c .before .before .before .before .before .before .before .before .before .before .before .before .before .before .before .before .before .before .args in
-    check-refused (a .s) (a .names) (a .lengths .now) (a .packets .now) (a .table .now) (memory (a .records .now) (a .coded .now) (a .coefs .now) (a .dc .now) (a .lasts .now) (a .flags .now) (a .bits .now) (a .supers .now) (a .modes .now) (a .active .now)) (a .first .now) (a .second .now) (a .third .now) (a .answers .now) (a .file .now) (c .before .«open» .result .number) (sym (c .before .«open» .ensures .0 (memory (a .records .now) (a .coded .now) (a .coefs .now) (a .dc .now) (a .lasts .now) (a .flags .now) (a .bits .now) (a .supers .now) (a .modes .now) (a .active .now)) (a .first .now) (a .second .now) (a .third .now) (a .answers .now) refl)) (c .if1 .taken)
+    check-refused (a .s) (a .names) (a .lengths .now) (a .packets .now) (a .table .now) (memory (a .records .now) (a .coded .now) (a .coefs .now) (a .dc .now) (a .lasts .now) (a .flags .now) (a .bits .now) (a .supers .now) (a .modes .now) (a .active .now)) (a .first .now) (a .second .now) (a .third .now) (a .answers .now) (a .file .now) (c .before .«open» .result .number) (sym (c .before .«open» .ensures .0 (memory (a .records .now) (a .coded .now) (a .coefs .now) (a .dc .now) (a .lasts .now) (a .flags .now) (a .bits .now) (a .supers .now) (a .modes .now) (a .active .now)) (a .first .now) (a .second .now) (a .third .now) (a .answers .now) refl refl)) (c .if1 .taken)
 
 begin-requires : tie.Need-begin-requires
 begin-requires c κs =
     let a = c .before .before .before .before .before .before .before .before .before .before .before .before .before .before .before .before .before .before .args in
-    passes _ (accepted (shotCall (a .s) (a .names) (a .lengths .now) (a .packets .now) (a .table .now) (memory (a .records .now) (a .coded .now) (a .coefs .now) (a .dc .now) (a .lasts .now) (a .flags .now) (a .bits .now) (a .supers .now) (a .modes .now) (a .active .now)) (a .first .now) (a .second .now) (a .third .now) (a .answers .now)) (sym (c .before .«open» .ensures .0 (memory (a .records .now) (a .coded .now) (a .coefs .now) (a .dc .now) (a .lasts .now) (a .flags .now) (a .bits .now) (a .supers .now) (a .modes .now) (a .active .now)) (a .first .now) (a .second .now) (a .third .now) (a .answers .now) refl) ∙ c .if1 .left) .0) .0
+    passes _ (accepted (shotCall (a .s) (a .names) (a .lengths .now) (a .packets .now) (a .table .now) (memory (a .records .now) (a .coded .now) (a .coefs .now) (a .dc .now) (a .lasts .now) (a .flags .now) (a .bits .now) (a .supers .now) (a .modes .now) (a .active .now)) (a .first .now) (a .second .now) (a .third .now) (a .answers .now)) (sym (c .before .«open» .ensures .0 (memory (a .records .now) (a .coded .now) (a .coefs .now) (a .dc .now) (a .lasts .now) (a .flags .now) (a .bits .now) (a .supers .now) (a .modes .now) (a .active .now)) (a .first .now) (a .second .now) (a .third .now) (a .answers .now) refl refl) ∙ c .if1 .left) .0) .0
 
 conclude-requires : tie.Need-conclude-requires
 conclude-requires c κs = tt
@@ -31,7 +31,7 @@ conclude-requires c κs = tt
 returns-2 : tie.Need-returns-2
 returns-2 c =
     let a = c .before .before .before .before .before .before .before .before .before .before .before .before .before .before .before .before .before .before .before .before .before .args in
-    check-empty (a .s) (a .names) (a .lengths .now) (a .packets .now) (a .table .now) (memory (a .records .now) (a .coded .now) (a .coefs .now) (a .dc .now) (a .lasts .now) (a .flags .now) (a .bits .now) (a .supers .now) (a .modes .now) (a .active .now)) (a .first .now) (a .second .now) (a .third .now) (a .answers .now) (a .file .now) (sym (c .before .before .before .before .«open» .ensures .0 (memory (a .records .now) (a .coded .now) (a .coefs .now) (a .dc .now) (a .lasts .now) (a .flags .now) (a .bits .now) (a .supers .now) (a .modes .now) (a .active .now)) (a .first .now) (a .second .now) (a .third .now) (a .answers .now) refl) ∙ c .before .before .before .if1 .left) (c .before .if2 .taken) (c .before .before .begin .ensures .0) (c .conclude .ensures)
+    check-empty (a .s) (a .names) (a .lengths .now) (a .packets .now) (a .table .now) (memory (a .records .now) (a .coded .now) (a .coefs .now) (a .dc .now) (a .lasts .now) (a .flags .now) (a .bits .now) (a .supers .now) (a .modes .now) (a .active .now)) (a .first .now) (a .second .now) (a .third .now) (a .answers .now) (a .file .now) (sym (c .before .before .before .before .«open» .ensures .0 (memory (a .records .now) (a .coded .now) (a .coefs .now) (a .dc .now) (a .lasts .now) (a .flags .now) (a .bits .now) (a .supers .now) (a .modes .now) (a .active .now)) (a .first .now) (a .second .now) (a .third .now) (a .answers .now) refl refl) ∙ c .before .before .before .if1 .left) (c .before .if2 .taken) (c .before .before .begin .ensures .0) (c .conclude .ensures)
 
 names-of-requires : tie.Need-names-of-requires
 names-of-requires c κs = tt
@@ -39,12 +39,12 @@ names-of-requires c κs = tt
 clear-memory-requires : tie.Need-clear-memory-requires
 clear-memory-requires c κs =
     let a = c .before .before .before .before .before .before .before .before .before .before .before .before .before .before .before .before .before .before .before .before .before .before .before .before .before .before .before .before .before .before .before .args in
-    ranks-fit (a .s) (a .names) (a .lengths .now) (a .packets .now) (a .table .now) (memory (a .records .now) (a .coded .now) (a .coefs .now) (a .dc .now) (a .lasts .now) (a .flags .now) (a .bits .now) (a .supers .now) (a .modes .now) (a .active .now)) (a .first .now) (a .second .now) (a .third .now) (a .answers .now) (accepted (shotCall (a .s) (a .names) (a .lengths .now) (a .packets .now) (a .table .now) (memory (a .records .now) (a .coded .now) (a .coefs .now) (a .dc .now) (a .lasts .now) (a .flags .now) (a .bits .now) (a .supers .now) (a .modes .now) (a .active .now)) (a .first .now) (a .second .now) (a .third .now) (a .answers .now)) (sym (c .before .before .before .before .before .before .before .before .before .before .before .before .before .before .«open» .ensures .0 (memory (a .records .now) (a .coded .now) (a .coefs .now) (a .dc .now) (a .lasts .now) (a .flags .now) (a .bits .now) (a .supers .now) (a .modes .now) (a .active .now)) (a .first .now) (a .second .now) (a .third .now) (a .answers .now) refl) ∙ c .before .before .before .before .before .before .before .before .before .before .before .before .before .if1 .left) .0)
+    ranks-fit (a .s) (a .names) (a .lengths .now) (a .packets .now) (a .table .now) (memory (a .records .now) (a .coded .now) (a .coefs .now) (a .dc .now) (a .lasts .now) (a .flags .now) (a .bits .now) (a .supers .now) (a .modes .now) (a .active .now)) (a .first .now) (a .second .now) (a .third .now) (a .answers .now) (accepted (shotCall (a .s) (a .names) (a .lengths .now) (a .packets .now) (a .table .now) (memory (a .records .now) (a .coded .now) (a .coefs .now) (a .dc .now) (a .lasts .now) (a .flags .now) (a .bits .now) (a .supers .now) (a .modes .now) (a .active .now)) (a .first .now) (a .second .now) (a .third .now) (a .answers .now)) (sym (c .before .before .before .before .before .before .before .before .before .before .before .before .before .before .«open» .ensures .0 (memory (a .records .now) (a .coded .now) (a .coefs .now) (a .dc .now) (a .lasts .now) (a .flags .now) (a .bits .now) (a .supers .now) (a .modes .now) (a .active .now)) (a .first .now) (a .second .now) (a .third .now) (a .answers .now) refl refl) ∙ c .before .before .before .before .before .before .before .before .before .before .before .before .before .if1 .left) .0)
 
 check-packets-requires : tie.Need-check-packets-requires
 check-packets-requires c κs =
     let a = c .before .before .before .before .before .before .before .before .before .before .before .before .before .before .before .before .before .before .before .before .before .before .before .before .before .before .before .before .before .before .before .before .before .before .before .before .before .before .before .before .before .before .before .before .before .before .before .before .before .before .before .before .before .before .before .before .before .before .before .before .before .before .before .before .args in
-    let w = accepted (shotCall (a .s) (a .names) (a .lengths .now) (a .packets .now) (a .table .now) (memory (a .records .now) (a .coded .now) (a .coefs .now) (a .dc .now) (a .lasts .now) (a .flags .now) (a .bits .now) (a .supers .now) (a .modes .now) (a .active .now)) (a .first .now) (a .second .now) (a .third .now) (a .answers .now)) (sym (c .before .before .before .before .before .before .before .before .before .before .before .before .before .before .before .before .before .before .before .before .before .before .before .before .before .before .before .before .before .before .before .before .before .before .before .before .before .before .before .before .before .before .before .before .before .before .before .«open» .ensures .0 (memory (a .records .now) (a .coded .now) (a .coefs .now) (a .dc .now) (a .lasts .now) (a .flags .now) (a .bits .now) (a .supers .now) (a .modes .now) (a .active .now)) (a .first .now) (a .second .now) (a .third .now) (a .answers .now) refl) ∙ c .before .before .before .before .before .before .before .before .before .before .before .before .before .before .before .before .before .before .before .before .before .before .before .before .before .before .before .before .before .before .before .before .before .before .before .before .before .before .before .before .before .before .before .before .before .before .if1 .left) in
+    let w = accepted (shotCall (a .s) (a .names) (a .lengths .now) (a .packets .now) (a .table .now) (memory (a .records .now) (a .coded .now) (a .coefs .now) (a .dc .now) (a .lasts .now) (a .flags .now) (a .bits .now) (a .supers .now) (a .modes .now) (a .active .now)) (a .first .now) (a .second .now) (a .third .now) (a .answers .now)) (sym (c .before .before .before .before .before .before .before .before .before .before .before .before .before .before .before .before .before .before .before .before .before .before .before .before .before .before .before .before .before .before .before .before .before .before .before .before .before .before .before .before .before .before .before .before .before .before .before .«open» .ensures .0 (memory (a .records .now) (a .coded .now) (a .coefs .now) (a .dc .now) (a .lasts .now) (a .flags .now) (a .bits .now) (a .supers .now) (a .modes .now) (a .active .now)) (a .first .now) (a .second .now) (a .third .now) (a .answers .now) refl refl) ∙ c .before .before .before .before .before .before .before .before .before .before .before .before .before .before .before .before .before .before .before .before .before .before .before .before .before .before .before .before .before .before .before .before .before .before .before .before .before .before .before .before .before .before .before .before .before .before .if1 .left) in
     let p = w .0 in
     let t = passes _ p in
     let l = planes-long (a .s) (a .names) (a .lengths .now) (a .packets .now) (a .table .now) (memory (a .records .now) (a .coded .now) (a .coefs .now) (a .dc .now) (a .lasts .now) (a .flags .now) (a .bits .now) (a .supers .now) (a .modes .now) (a .active .now)) (a .first .now) (a .second .now) (a .third .now) (a .answers .now) p in (
@@ -100,7 +100,7 @@ same-length-14 c = c .before .before .answers .given
 returns-3 : tie.Need-returns-3
 returns-3 c =
     let a = c .before .before .before .before .before .before .before .before .before .before .before .before .before .before .before .before .before .before .before .before .before .before .before .before .before .before .before .before .before .before .before .before .before .before .before .before .before .before .before .before .before .before .before .before .before .before .before .before .before .before .before .before .before .before .before .before .before .before .before .before .before .before .before .before .before .before .before .before .before .before .before .before .before .before .before .before .before .before .before .before .before .before .before .before .before .before .before .before .before .before .before .before .args in
-    let z = (sym (c .before .before .before .before .before .before .before .before .before .before .before .before .before .before .before .before .before .before .before .before .before .before .before .before .before .before .before .before .before .before .before .before .before .before .before .before .before .before .before .before .before .before .before .before .before .before .before .before .before .before .before .before .before .before .before .before .before .before .before .before .before .before .before .before .before .before .before .before .before .before .before .before .before .before .before .«open» .ensures .0 (memory (a .records .now) (a .coded .now) (a .coefs .now) (a .dc .now) (a .lasts .now) (a .flags .now) (a .bits .now) (a .supers .now) (a .modes .now) (a .active .now)) (a .first .now) (a .second .now) (a .third .now) (a .answers .now) refl) ∙ c .before .before .before .before .before .before .before .before .before .before .before .before .before .before .before .before .before .before .before .before .before .before .before .before .before .before .before .before .before .before .before .before .before .before .before .before .before .before .before .before .before .before .before .before .before .before .before .before .before .before .before .before .before .before .before .before .before .before .before .before .before .before .before .before .before .before .before .before .before .before .before .before .before .before .if1 .left) in
+    let z = (sym (c .before .before .before .before .before .before .before .before .before .before .before .before .before .before .before .before .before .before .before .before .before .before .before .before .before .before .before .before .before .before .before .before .before .before .before .before .before .before .before .before .before .before .before .before .before .before .before .before .before .before .before .before .before .before .before .before .before .before .before .before .before .before .before .before .before .before .before .before .before .before .before .before .before .before .before .«open» .ensures .0 (memory (a .records .now) (a .coded .now) (a .coefs .now) (a .dc .now) (a .lasts .now) (a .flags .now) (a .bits .now) (a .supers .now) (a .modes .now) (a .active .now)) (a .first .now) (a .second .now) (a .third .now) (a .answers .now) refl refl) ∙ c .before .before .before .before .before .before .before .before .before .before .before .before .before .before .before .before .before .before .before .before .before .before .before .before .before .before .before .before .before .before .before .before .before .before .before .before .before .before .before .before .before .before .before .before .before .before .before .before .before .before .before .before .before .before .before .before .before .before .before .before .before .before .before .before .before .before .before .before .before .before .before .before .before .before .if1 .left) in
     check-some (a .s) (a .names) (a .lengths .now) (a .packets .now) (a .table .now) (memory (a .records .now) (a .coded .now) (a .coefs .now) (a .dc .now) (a .lasts .now) (a .flags .now) (a .bits .now) (a .supers .now) (a .modes .now) (a .active .now)) (a .first .now) (a .second .now) (a .third .now) (a .answers .now) (a .file .now) z (c .before .before .before .before .before .before .before .before .before .before .before .before .before .before .before .before .before .before .before .before .before .before .before .before .before .before .before .before .before .before .before .before .before .before .before .before .before .before .before .before .before .before .before .before .before .before .before .before .before .before .before .before .before .before .before .before .before .before .before .before .before .before .before .before .before .before .before .before .before .before .before .before .if2 .left) (c .before .before .before .before .before .before .before .before .before .before .before .before .before .before .before .before .before .before .before .before .before .before .before .before .before .before .before .before .before .before .before .before .before .before .before .before .before .before .before .before .before .before .before .before .before .before .before .before .before .before .before .before .before .before .before .before .before .before .before .before .before .before .before .before .before .before .before .before .before .before .before .names-of .ensures) (c .before .before .before .before .before .before .before .before .before .before .before .before .before .before .before .before .before .before .before .before .before .before .before .before .before .before .before .before .before .before .before .before .before .before .before .before .before .before .before .before .before .before .before .before .before .before .before .before .before .before .before .before .before .before .before .before .before .before .before .before .clear-memory .ensures (lengthsOf (a .s)) (memory-fits (a .s) (a .names) (a .lengths .now) (a .packets .now) (a .table .now) (memory (a .records .now) (a .coded .now) (a .coefs .now) (a .dc .now) (a .lasts .now) (a .flags .now) (a .bits .now) (a .supers .now) (a .modes .now) (a .active .now)) (a .first .now) (a .second .now) (a .third .now) (a .answers .now) (accepted (shotCall (a .s) (a .names) (a .lengths .now) (a .packets .now) (a .table .now) (memory (a .records .now) (a .coded .now) (a .coefs .now) (a .dc .now) (a .lasts .now) (a .flags .now) (a .bits .now) (a .supers .now) (a .modes .now) (a .active .now)) (a .first .now) (a .second .now) (a .third .now) (a .answers .now)) z .0))) (c .before .before .before .before .before .before .before .before .before .before .before .before .before .before .before .before .before .before .before .before .before .before .before .before .before .before .before .before .before .before .before .before .before .before .before .before .before .before .before .before .before .before .before .before .before .before .before .before .before .before .before .before .before .before .before .before .before .before .before .before .before .before .before .before .before .before .before .before .before .before .before .before .before .begin .ensures .0) (c .before .before .before .before .before .before .before .before .before .before .before .before .before .before .before .before .before .before .before .before .before .before .before .before .before .before .before .check-packets .ensures) (c .conclude2 .ensures)
 
 pub check-shot-spec : {M : Type 1} → statement M

@@ -18,45 +18,41 @@ use Rattle.setup.specs.declared.SetupRead.{SetupRead}
 use Rattle.setup.specs.Table.{tableBytes, isTable, heldSetup}
 use Rattle.table_memory.specs.Kept.{clearFrom}
 use Rattle.table_memory.specs.Genuine.{endsClear, genuine}
-use Rattle.work_memory.specs.declared.WorkLengths.{WorkLengths}
 use Rattle.work_memory.specs.Memory.{Memory}
-use Rattle.work_memory.specs.Lengths.{lengthsOf, lengthsFit}
+use Rattle.work_memory.specs.Lengths.{lengthsFit}
 use Rattle.calls.specs.Lengths.{buffersFit}
 use Rattle.packet_list.specs.Packets.{answerSize}
 use Rattle.buffer_names.specs.declared.Names.{Names}
 use Rattle.buffer_names.specs.Names.{namesFit}
-use Rattle.opening.specs.declared.Room.{Room}
+use Rattle.calls.specs.declared.Room.{Room}
+use Rattle.calls.specs.Room.{roomOf, roomForFrames, roomForWork, roomFits, lentBy}
 use Rattle.opening.specs.Call.{ShotCall, shotCall, shotLengthsFit, reaches, lentNumber, shotNumber}
-use Rattle.opening.specs.Room.{roomOf, roomForFrames, roomForWork, roomFits, lentBy, lateNumber}
+use Rattle.opening.specs.Tests.{shotLentBy, lateNumber}
 
 -- ---- the tests of what is lent
-module _ (s : Session) (n : Names) (packets table : ℕ) (r : Room) where
-  pub lent-8 : sessionFits s ≡ false → 8 ≡ lentBy s n packets table r
-  unfolding lentBy
-  lent-8 h = sym (rw h)
+module _ (s : Session) (n : Names) (packets table : ℕ) (r : Room) (answers : ℕ) where
+  pub lent-first : {k : ℕ} → k ≡ lentBy s table r → (k ≡ 0 → ⊥) → k ≡ shotLentBy s n packets table r answers
+  unfolding shotLentBy
+  lent-first e h = e ∙ sym (rw (ne-eqb (lentBy s table r) 0 (λ z. h (e ∙ z))))
 
-  module _ (fits : sessionFits s ≡ true) {l : WorkLengths} {x y z : Bool} (el : l ≡ lengthsOf s) (ex : x ≡ roomForFrames (l .records) r table) (ey : y ≡ roomForWork l r) (ez : z ≡ eqb (r .answers) (answerSize * packets)) where
-    room-is : {v : Bool} → ((x && y) && z) ≡ v → roomFits s packets table r ≡ v
-    room-is h = (λ i. (roomForFrames (sym el i .records) r table && roomForWork (sym el i) r) && sym ez i) ∙ (λ i. (sym ex i && sym ey i) && z) ∙ h
-
-    pub lent-1 : ((x && y) && z) ≡ false → 1 ≡ lentBy s n packets table r
-    unfolding lentBy
-    lent-1 h = sym (rw (fits, room-is h))
-
-    module _ (long : ((x && y) && z) ≡ true) where
-      pub lent-names : namesFit s n ≡ false → 8 ≡ lentBy s n packets table r
-      unfolding lentBy
-      lent-names h = sym (rw (fits, room-is long, h))
-
-      pub lent-0 : namesFit s n ≡ true → 0 ≡ lentBy s n packets table r
-      unfolding lentBy
-      lent-0 h = sym (rw (fits, room-is long, h))
+  module _ {k : ℕ} (e : k ≡ lentBy s table r) (passed : k ≡ 0) {v : Bool} (a : v ≡ eqb answers (answerSize * packets)) where
+    pub lent-then : {w : Bool} → v ≡ w → {x : Bool} → namesFit s n ≡ x → choose w (choose x 0 8) 1 ≡ shotLentBy s n packets table r answers
+    unfolding shotLentBy
+    lent-then h f = sym (rw (eq-eqb (lentBy s table r) 0 (sym e ∙ passed), sym a ∙ h, f))
 
 -- the same by what is lent
-module _ (s : Session) (n : Names) (lengths joined table : List ℕ) (m : Memory) (x y z answers : List ℕ) where
-  pub lent-is : {r : Room} → r ≡ roomOf m x y z answers → {k : ℕ} → k ≡ lentBy s n (length lengths) (length table) r → k ≡ lentNumber (shotCall s n lengths joined table m x y z answers)
-  unfolding lentBy lentNumber shotLengthsFit buffersFit lengthsFit roomForFrames roomForWork
-  lent-is e h = h ∙ ap (λ (r : Room). lentBy s n (length lengths) (length table) r) e
+pub shot-lent : (s : Session) (n : Names) (lengths joined table : List ℕ) (m : Memory) (x y z answers : List ℕ) {r : Room} → r ≡ roomOf m x y z → {a : ℕ} → a ≡ length answers
+    → {k : ℕ} → k ≡ shotLentBy s n (length lengths) (length table) r a → k ≡ lentNumber (shotCall s n lengths joined table m x y z answers)
+unfolding shotLentBy lentBy lentNumber shotLengthsFit buffersFit lengthsFit roomForFrames roomForWork
+shot-lent s n lengths joined table m x y z answers e ea h =
+    h ∙ (λ i. shotLentBy s n (length lengths) (length table) (e i) (ea i))
+    ∙ go (sessionFits s) (roomFits s (length table) (roomOf m x y z)) (eqb (length answers) (answerSize * length lengths))
+  where
+    go : (f g b : Bool) → _≡_ {A = ℕ} (choose (eqb (choose f (choose g 0 1) 8) 0) (choose b (choose (namesFit s n) 0 8) 1) (choose f (choose g 0 1) 8)) (choose f (choose (g && b) (choose (namesFit s n) 0 8) 1) 8)
+    go true true true = refl
+    go true true false = refl
+    go true false b = refl
+    go false g b = refl
 
 -- so many numbers for so many packets
 pub answers-few : (a l : ℕ) → (eqb (a % 8) 0 && eqb (a / 8) l) ≡ eqb a (answerSize * l)
