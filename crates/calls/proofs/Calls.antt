@@ -1,7 +1,7 @@
 -- A frame call, one law for each way that it goes. Assumes nothing.
 use Prim.Native.Nat.{ℕ}
 use native.Mathlib.Omega.{arith}
-use mathlib.Core.Path.{_≡_, refl, ap, _∙_}
+use mathlib.Core.Path.{_≡_, refl, sym, ap, _∙_}
 use mathlib.Core.List.{List}
 use mathlib.Core.Bool.{Bool, true, false, _&&_}
 use Rattle.bitstream.specs.Reading.{refused, choose}
@@ -34,6 +34,17 @@ module _ (s : Session) (golden previous packet table new : List ℕ) (m : Memory
       go true true h = (refl, refl)
       go true false h = absurd (omega arith)
       go false y h = absurd (omega arith)
+
+  -- what does not, of a session that fits
+  pub fails : sessionFits s ≡ true → (lentNumber st c ≡ 0 → ⊥) → lengthsHold st c ≡ false
+  unfolding lentNumber
+  fails f h = go (sessionFits s) (lengthsHold st c) f h
+    where
+      go : (x y : Bool) → x ≡ true → (_≡_ {A = ℕ} (choose x (choose y 0 1) 8) 0 → ⊥) → y ≡ false
+      go true true f h = absurd (h refl)
+      go true false f h = refl
+      go false true f h = sym f
+      go false false f h = refl
 
   -- ---- the ways of a call
   pub call-refused : (k : ℕ) → k ≡ lentNumber st c → (k ≡ 0 → ⊥) → (a : FrameAnswer) → a ≡ answerFor s (refused k 0) → done a new m ≡ byRules firstWay st c

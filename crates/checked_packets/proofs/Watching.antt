@@ -11,7 +11,7 @@ use Rattle.ways.specs.Ways.{firstWay}
 use Rattle.work_memory.specs.Memory.{Memory}
 use Rattle.work_memory.specs.Lengths.{blocks, lengthsOf, cleared}
 use Rattle.reading.specs.declared.FrameAnswer.{FrameAnswer}
-use Rattle.decoding.specs.Answer.{Done}
+use Rattle.asked_frame.specs.Answer.{Done}
 use Rattle.calls.specs.Call.{byRules}
 use Rattle.packet_list.specs.Packets.{packetsIn, total, answerSize}
 use Rattle.packet_list.proofs.Walk.{packets-left, packets-none}

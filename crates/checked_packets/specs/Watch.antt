@@ -5,7 +5,7 @@ use mathlib.Core.List.{List, [], _∷_}
 use Rattle.headers.specs.declared.Session.{Session}
 use Rattle.ways.specs.Ways.{firstWay}
 use Rattle.work_memory.specs.Memory.{Memory}
-use Rattle.decoding.specs.Answer.{State, Done}
+use Rattle.asked_frame.specs.Answer.{State, Done}
 use Rattle.calls.specs.Call.{Call, byRules}
 use Rattle.buffer_names.specs.declared.Names.{Names}
 use Rattle.stream_numbers.specs.declared.Numbers.{Numbers}

@@ -10,7 +10,7 @@ use Rattle.ways.specs.Ways.{firstWay}
 use Rattle.reading.specs.declared.FrameAnswer.{FrameAnswer}
 use Rattle.reading.specs.declared.Verdict.{Verdict}
 use Rattle.reading.specs.declared.Verdict.the-variants.{Accepted, Refused}
-use Rattle.decoding.specs.Answer.{State}
+use Rattle.asked_frame.specs.Answer.{State}
 use Rattle.calls.specs.Call.{Call, byRules}
 use Rattle.calls.specs.Demand.{Turn, turns}
 use Rattle.output.specs.Output.{gives}

@@ -13,7 +13,7 @@ use Rattle.frame_header.specs.declared.Kind.{Kind}
 use Rattle.frame_header.specs.declared.Kind.the-variants.{Intra, Inter, Repeat}
 use Rattle.ways.specs.Ways.{firstWay}
 use Rattle.reading.specs.Answer.{sessionAfter}
-use Rattle.decoding.specs.Answer.{Done, state}
+use Rattle.asked_frame.specs.Answer.{Done, state}
 use Rattle.calls.specs.Call.{Call, byRules}
 use Rattle.session_list.specs.List.{Answered, answers, sessionOf, listsNumber}
 use Rattle.frame_c.specs.Face.{frameGives, frameCall}

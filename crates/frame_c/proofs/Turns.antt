@@ -11,7 +11,7 @@ use Rattle.ways.specs.Ways.{firstWay}
 use Rattle.reading.specs.declared.Verdict.{Verdict}
 use Rattle.reading.specs.declared.Verdict.the-variants.{Accepted, Refused}
 use Rattle.reading.specs.Answer.{Asked, answerFor}
-use Rattle.decoding.specs.Answer.{State, Done}
+use Rattle.asked_frame.specs.Answer.{State, Done}
 use Rattle.calls.specs.Call.{Call, outcomeOf, byRules}
 use Rattle.calls.specs.Demand.{turn, turns}
 use Rattle.calls.proofs.KeyFrames.{after-session}

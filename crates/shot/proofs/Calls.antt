@@ -17,7 +17,7 @@ use Rattle.table_memory.specs.Genuine.{endsClear, genuine}
 use Rattle.ways.specs.Ways.{firstWay}
 use Rattle.work_memory.specs.Memory.{Memory}
 use Rattle.work_memory.specs.Lengths.{lengthsOf, cleared}
-use Rattle.decoding.specs.Answer.{Way, Done}
+use Rattle.asked_frame.specs.Answer.{Way, Done}
 use Rattle.calls.specs.Call.{byRules}
 use Rattle.packet_list.specs.Packets.{packetsIn, answerSize}
 use Rattle.buffer_names.specs.declared.Names.{Names}

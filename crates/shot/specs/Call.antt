@@ -7,7 +7,7 @@ use Rattle.bitstream.specs.Reading.{choose}
 use Rattle.headers.specs.declared.Session.{Session}
 use Rattle.ways.specs.Ways.{firstWay}
 use Rattle.work_memory.specs.Memory.{Memory}
-use Rattle.decoding.specs.Answer.{Way}
+use Rattle.asked_frame.specs.Answer.{Way}
 use Rattle.calls.specs.Call.{byRules}
 use Rattle.packet_list.specs.Packets.{packetsIn}
 use Rattle.buffer_names.specs.declared.Names.{Names}

@@ -14,7 +14,7 @@ use Rattle.headers.specs.declared.Session.{Session}
 use Rattle.session_list.specs.List.{sessionOf}
 use Rattle.ways.specs.Ways.{firstWay}
 use Rattle.work_memory.specs.Memory.{Memory}
-use Rattle.decoding.specs.Answer.{Way}
+use Rattle.asked_frame.specs.Answer.{Way}
 use Rattle.calls.specs.Call.{Call, outcomeOf, byRules}
 use Rattle.packet_list.specs.Packets.{packetsIn}
 use Rattle.shot_packets.specs.Play.{Shot, stateOf, callOf, after, oneMore, played}

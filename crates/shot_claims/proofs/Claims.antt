@@ -8,7 +8,7 @@ use lib.Dec.{eqb, leb}
 use lib.ListN.{length, drop}
 use borrow.Author.Tests.{eqb-true, eqb-false, leb-false, lt-leb}
 use Rattle.setup.specs.Table.{isTable}
-use Rattle.decoding.specs.Answer.{State, Done}
+use Rattle.asked_frame.specs.Answer.{State, Done}
 use Rattle.calls.specs.Call.{Call, byRules}
 use Rattle.padding.proofs.Padding.{padding-holds}
 use Rattle.packet_list.specs.Packets.{packetsIn, total}

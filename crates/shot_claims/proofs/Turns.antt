@@ -8,7 +8,7 @@ use lib.ListN.{length}
 use Rattle.bitstream.specs.Reading.{choose}
 use Rattle.ways.specs.Ways.{firstWay}
 use Rattle.reading.specs.declared.FrameAnswer.{FrameAnswer}
-use Rattle.decoding.specs.Answer.{State, Done, Way}
+use Rattle.asked_frame.specs.Answer.{State, Done, Way}
 use Rattle.calls.specs.Call.{Call, byRules}
 use Rattle.calls.specs.Demand.{turns}
 use Rattle.calls.proofs.Demand.{call-agrees, demand3}

@@ -9,7 +9,7 @@ use Rattle.headers.specs.declared.Session.{Session}
 use Rattle.setup.specs.Table.{isTable}
 use Rattle.ways.specs.Ways.{firstWay, secondWay}
 use Rattle.reading.specs.declared.FrameAnswer.{FrameAnswer}
-use Rattle.decoding.specs.Answer.{State, Done, Way, state}
+use Rattle.asked_frame.specs.Answer.{State, Done, Way, state}
 use Rattle.calls.specs.Call.{Call, byRules}
 use Rattle.calls.specs.Demand.{Turn, turns, Demand3}
 use Rattle.padding.specs.Padding.{SettledCall}

@@ -15,7 +15,7 @@ use Rattle.settings.specs.declared.Settings.{Settings}
 use Rattle.settings.specs.Settings.{settingsFit}
 use Rattle.ways.specs.Ways.{firstWay}
 use Rattle.reading.specs.Answer.{Asked}
-use Rattle.decoding.specs.Answer.{State}
+use Rattle.asked_frame.specs.Answer.{State}
 use Rattle.calls.specs.Call.{Call, outcomeOf, byRules}
 use Rattle.shot_packets.specs.Play.{Shot, stateOf, callOf, oneMore, played}
 use Rattle.tile_calls.specs.Call.{mapLengthOf, mapFits, tilesCall}

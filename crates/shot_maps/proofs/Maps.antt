@@ -19,7 +19,7 @@ use Rattle.work_memory.specs.Memory.{Memory}
 use Rattle.reading.specs.declared.FrameAnswer.{FrameAnswer}
 use Rattle.reading.specs.declared.Verdict.{Verdict}
 use Rattle.reading.specs.declared.Verdict.the-variants.{Refused}
-use Rattle.decoding.specs.Answer.{State, Done, Way}
+use Rattle.asked_frame.specs.Answer.{State, Done, Way}
 use Rattle.calls.specs.Call.{Call, outcomeOf, byRules}
 use Rattle.packet_list.specs.Packets.{packetsIn}
 use Rattle.packet_list.proofs.Walk.{packets-left, packets-none}

@@ -9,7 +9,7 @@ use Rattle.reading.specs.declared.FrameAnswer.{FrameAnswer}
 use Rattle.reading.specs.declared.Verdict.{Verdict}
 use Rattle.reading.specs.declared.Verdict.the-variants.{Accepted, Refused}
 use Rattle.reading.specs.Answer.{answerNumbers}
-use Rattle.decoding.specs.Answer.{State, Done}
+use Rattle.asked_frame.specs.Answer.{State, Done}
 use Rattle.calls.specs.Call.{Call}
 use Rattle.packet_list.specs.Packets.{answerSize}
 use Rattle.shot_packets.specs.Play.{Shot, stateOf, callOf, after, oneMore, played, numbersOf, allNumbers}

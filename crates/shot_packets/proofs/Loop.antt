@@ -13,7 +13,7 @@ use Rattle.ways.specs.Ways.{firstWay}
 use Rattle.work_memory.specs.Memory.{Memory}
 use Rattle.work_memory.specs.Lengths.{blocks, lengthsOf, lengthsFit, cleared}
 use Rattle.reading.specs.declared.FrameAnswer.{FrameAnswer}
-use Rattle.decoding.specs.Answer.{Done}
+use Rattle.asked_frame.specs.Answer.{Done}
 use Rattle.calls.specs.Call.{outcomeOf, lengthsHold, byRules}
 use Rattle.calls.proofs.Tokens.{outcome-got}
 use Rattle.packet_list.specs.Packets.{packetsIn, total, answerSize}

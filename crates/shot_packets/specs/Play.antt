@@ -6,7 +6,7 @@ use Rattle.headers.specs.declared.Session.{Session}
 use Rattle.work_memory.specs.Memory.{Memory}
 use Rattle.reading.specs.declared.FrameAnswer.{FrameAnswer}
 use Rattle.reading.specs.Answer.{answerNumbers}
-use Rattle.decoding.specs.Answer.{State, Done, state}
+use Rattle.asked_frame.specs.Answer.{State, Done, state}
 use Rattle.calls.specs.Call.{Call, call}
 use Rattle.buffer_names.specs.declared.Names.{Names}
 use Rattle.buffer_names.specs.Names.{free, namesAfter}

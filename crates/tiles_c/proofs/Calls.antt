@@ -12,7 +12,7 @@ use Rattle.headers.specs.declared.Session.{Session}
 use Rattle.settings.specs.declared.Settings.{Settings}
 use Rattle.settings.specs.Settings.{settingsFit}
 use Rattle.settings_list.specs.List.{settingsOf}
-use Rattle.decoding.specs.Answer.{Done, state}
+use Rattle.asked_frame.specs.Answer.{Done, state}
 use Rattle.calls.specs.Call.{Call}
 use Rattle.session_list.specs.List.{Returned, gives, sessionOf, listsNumber, Answered, answers}
 use Rattle.frame_c.specs.Face.{frameGives}

@@ -10,7 +10,7 @@ use Rattle.headers.specs.Sizes.{format}
 use Rattle.settings.specs.declared.Settings.{Settings}
 use Rattle.ways.specs.Ways.{firstWay}
 use Rattle.reading.specs.Answer.{Asked}
-use Rattle.decoding.specs.Answer.{State}
+use Rattle.asked_frame.specs.Answer.{State}
 use Rattle.calls.specs.Call.{Call, outcomeOf, byRules}
 use Rattle.packet_list.specs.Packets.{packetsIn, total}
 use Rattle.shot_packets.specs.Play.{Shot, stateOf, callOf, played}

@@ -19,7 +19,7 @@ use Rattle.setup.specs.Table.{setupOutcome, asSetupAnswer, tableAfter}
 use Rattle.ways.specs.Ways.{firstWay}
 use Rattle.work_memory.specs.Memory.{Memory}
 use Rattle.work_memory.specs.Lengths.{lengthsOf, cleared}
-use Rattle.decoding.specs.Answer.{Done}
+use Rattle.asked_frame.specs.Answer.{Done}
 use Rattle.calls.specs.Call.{byRules}
 use Rattle.packet_list.specs.Packets.{packetsIn}
 use Rattle.buffer_names.specs.declared.Names.{Names}

@@ -11,7 +11,7 @@ use Rattle.headers.specs.declared.Session.{Session}
 use Rattle.ways.specs.Ways.{firstWay}
 use Rattle.reading.specs.declared.Verdict.{Verdict}
 use Rattle.reading.specs.declared.Verdict.the-variants as verdict
-use Rattle.decoding.specs.Answer.{State, Done}
+use Rattle.asked_frame.specs.Answer.{State, Done}
 use Rattle.calls.specs.Call.{Call, byRules}
 use Rattle.calls.specs.Demand.{Turn, turns}
 use Rattle.buffer_names.specs.Names.{Sound}
