@@ -1,14 +1,14 @@
--- `setup::read_trees` meets its contract. The invariant: the trees so far lie in the slice, zeros behind them. Assumes nothing.
+-- `setup_trees::read_trees` meets its contract. The invariant: the trees so far lie in the slice, zeros behind them. Assumes nothing.
 use Prim.Native.Nat.{ℕ, _+_, _-_, _*_, _≤_}
 use native.Mathlib.Omega.{arith}
 use mathlib.Core.Path.{_≡_, ap, sym, _∙_}
 use mathlib.Core.List.{List}
 use lib.ListN.{length, replicate, length-replicate}
 use borrow.Rule.Slice.PartMut.{mid-len}
-use Rattle.setup.proofs.Steps.{Trees, trees-start, trees-long, trees-done, trees-refused, trees-more}
+use Rattle.setup_trees.proofs.Loop.{Trees, trees-start, trees-long, trees-done, trees-refused, trees-more}
 use borrow.Author.Needs.{needs}
-use Rattle.setup.proofs.read_trees.Statement.{statement}
-use Rattle.setup.proofs.read_trees.Tie as tie
+use Rattle.setup_trees.proofs.read_trees.Statement.{statement}
+use Rattle.setup_trees.proofs.read_trees.Tie as tie
 
 abbrev Inv-loop : tie.InvT-loop
 Inv-loop packet at nodes₀ place₀ k₀ nodes place k = (k ≤ 80) × Trees packet at place k nodes

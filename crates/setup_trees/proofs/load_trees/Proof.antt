@@ -1,4 +1,4 @@
--- `setup::load_trees` meets its contract. The invariant: the trees so far lie in the slice, zeros behind them. Assumes nothing.
+-- `setup_trees::load_trees` meets its contract. The invariant: the trees so far lie in the slice, zeros behind them. Assumes nothing.
 use Prim.Native.Nat.{ℕ, _+_, _-_, _*_, _≤_}
 use native.Mathlib.Omega.{arith}
 use mathlib.Core.Path.{_≡_, ap, sym, _∙_}
@@ -6,10 +6,10 @@ use mathlib.Core.List.{List}
 use lib.ListN.{length, replicate, length-replicate}
 use borrow.Rule.Slice.PartMut.{putMid}
 use Rattle.bitstream.specs.Bits.{bits}
-use Rattle.setup.proofs.Steps.{Trees, trees-start, trees-long, trees-free, trees-unloaded, trees-loaded, few-leaves, trees-loaded-all}
+use Rattle.setup_trees.proofs.Loop.{Trees, trees-start, trees-long, trees-free, trees-unloaded, trees-loaded, few-leaves, trees-loaded-all}
 use borrow.Author.Needs.{needs}
-use Rattle.setup.proofs.load_trees.Statement.{statement}
-use Rattle.setup.proofs.load_trees.Tie as tie
+use Rattle.setup_trees.proofs.load_trees.Statement.{statement}
+use Rattle.setup_trees.proofs.load_trees.Tie as tie
 
 abbrev Inv-loop : tie.InvT-loop
 Inv-loop packet at nodes₀ place₀ k₀ nodes place k = (k ≤ 80) × (place ≤ bits packet) × Trees packet at place k nodes

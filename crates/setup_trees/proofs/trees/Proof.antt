@@ -1,9 +1,9 @@
--- `setup::trees` meets its contract. Assumes nothing.
+-- `setup_trees::trees` meets its contract. Assumes nothing.
 use mathlib.Core.Bool.{true, false}
-use Rattle.setup.proofs.Steps.{told-by}
+use Rattle.setup_trees.proofs.Loop.{told-by}
 use borrow.Author.Needs.{needs}
-use Rattle.setup.proofs.trees.Statement.{statement}
-use Rattle.setup.proofs.trees.Tie as tie
+use Rattle.setup_trees.proofs.trees.Statement.{statement}
+use Rattle.setup_trees.proofs.trees.Tie as tie
 
 read-trees-requires : tie.Need-read-trees-requires
 read-trees-requires c κs = search needs
