@@ -1,12 +1,12 @@
--- `making::clear_blocks` meets its contract.
+-- `block_clearing::clear_blocks` meets its contract.
 -- Assumes nothing.
 use mathlib.Core.Path.{_≡_, _∙_}
 use Prim.Native.Nat.{_*_}
 use lib.IntN.{pos}
 use Rattle.buffer.proofs.Laws.{cleared-all, cleared-front}
 use borrow.Author.Needs.{needs}
-use Rattle.making.proofs.clear_blocks.Statement.{statement}
-use Rattle.making.proofs.clear_blocks.Tie as tie
+use Rattle.block_clearing.proofs.clear_blocks.Statement.{statement}
+use Rattle.block_clearing.proofs.clear_blocks.Tie as tie
 
 clear-words-requires : tie.Need-clear-words-requires
 clear-words-requires c κs = search needs
@@ -47,10 +47,10 @@ returns c =
     let a = s .args in
     let p = s .pre in (
       c .before .before .before .before .before .before .before .before .before .before .before .before .before .before .before .before .clear-words .ensures ∙ cleared-all 0 (a .records .now),
-      c .before .before .before .before .before .before .before .before .before .before .before .before .clear-longs .ensures ∙ cleared-front 0 (a .count) (a .coded .now) (p .0) (p .3 .coded-behind),
-      c .before .before .before .before .before .before .before .before .clear-shorts .ensures ∙ cleared-front (pos 0) (a .count * 64) (a .coefs .now) (p .1) (p .3 .coefs-behind),
+      c .before .before .before .before .before .before .before .before .before .before .before .before .clear-longs .ensures ∙ cleared-front 0 (a .count) (a .coded .now) (p .0) (p .1),
+      c .before .before .before .before .before .before .before .before .clear-shorts .ensures ∙ cleared-front (pos 0) (a .count * 64) (a .coefs .now) (p .2) (p .3),
       c .before .before .before .before .before .clear-shorts2 .ensures ∙ cleared-all (pos 0) (a .dc .now),
-      c .before .before .clear-bytes .ensures ∙ cleared-front 0 (a .count) (a .lasts .now) (p .2) (p .3 .lasts-behind),
+      c .before .before .clear-bytes .ensures ∙ cleared-front 0 (a .count) (a .lasts .now) (p .4) (p .5),
     )
 
 pub clear-blocks-spec : {M : Type 1} → statement M
