@@ -8,7 +8,7 @@ use Rattle.headers.specs.declared.Session.{Session}
 use Rattle.headers.specs.Fits.{sessionFits}
 use Rattle.work_memory.specs.declared.WorkLengths.{WorkLengths}
 use Rattle.work_memory.specs.Memory.{Memory}
-use Rattle.work_memory.specs.Lengths.{blocks, lengthsOf, lengthsFit}
+use Rattle.work_memory.specs.Lengths.{lengthsOf, lengthsFit}
 use Rattle.asked_frame.specs.Answer.{state}
 use Rattle.calls.specs.declared.Room.{Room}
 use Rattle.calls.specs.Lengths.{buffersFit}

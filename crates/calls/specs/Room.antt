@@ -32,14 +32,16 @@ roomOf m first second third = record {
   third = length third;
 }
 
--- `buffersFit` and `lengthsFit` by these
+-- `buffersFit` and `lengthsFit`, by these lengths
 unfoldable pub roomForFrames : (n table : ℕ) → Room → Bool
 roomForFrames n table r = all (eqb (r .first) (64 * n) ∷ eqb (r .second) (64 * n) ∷ eqb (r .third) (64 * n) ∷ eqb table tableBytes ∷ [])
 
 unfoldable pub roomForWork : WorkLengths → Room → Bool
 roomForWork l r =
-    all (eqb (r .records) (l .records) ∷ eqb (r .coded) (l .coded) ∷ eqb (r .coefs) (l .coefs) ∷ eqb (r .dc) (l .dc) ∷ eqb (r .lasts) (l .lasts) ∷ eqb (r .flags) (l .flags) ∷ eqb (r .bits) (l .bits) ∷ eqb (r .supers) (l .supers) ∷ eqb (r .modes) (l .modes) ∷ eqb (r .active) (l .active) ∷ [])
+    all (eqb (r .records) (l .records) ∷ eqb (r .coded) (l .coded) ∷ eqb (r .coefs) (l .coefs) ∷ eqb (r .dc) (l .dc) ∷ eqb (r .lasts) (l .lasts)
+    ∷ eqb (r .flags) (l .flags) ∷ eqb (r .bits) (l .bits) ∷ eqb (r .supers) (l .supers) ∷ eqb (r .modes) (l .modes) ∷ eqb (r .active) (l .active) ∷ [])
 
+-- `lengthsHold`
 abbrev pub roomFits : Session → (table : ℕ) → Room → Bool
 roomFits s table r = roomForFrames (blocks s) table r && roomForWork (lengthsOf s) r
 

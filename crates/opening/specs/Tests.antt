@@ -18,7 +18,7 @@ unfoldable pub shotLentBy : Session → Names → (packets table : ℕ) → Room
 shotLentBy s n packets table r answers =
     choose (eqb (lentBy s table r) 0) (choose (eqb answers (answerSize * packets)) (choose (namesFit s n) 0 notGenuine) wrongLength) (lentBy s table r)
 
--- the last two of these, as the program comes to them: by the place behind the setup that table memory holds
+-- and behind those: whether table memory holds a setup, by the place that its loader answers, then the reach
 abbrev pub lateNumber : End → (reach : Bool) → ℕ
 lateNumber (Refused k e) reach = notGenuine
 lateNumber (At e) reach = choose reach 0 pastPackets

@@ -32,7 +32,14 @@ fn answers_fit(numbers: usize, packets: usize) -> bool
 }
 
 // The tests of what is lent, before table memory is looked at: those of a frame call, the list for the answers, the names. The number of the refusal, or 0.
-fn lent_number(s: Session, names: Names, packets: usize, table: usize, room: Room, answers: usize) -> u32
+fn lent_number(
+    s: Session,
+    names: Names,
+    packets: usize,
+    table: usize,
+    room: Room,
+    answers: usize,
+) -> u32
     ensures { λ r. ⌜ r ≡ shotLentBy s names packets table room answers ⌝ }
 {
     let k = calls::lent_number(s, table, room);

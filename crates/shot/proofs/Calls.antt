@@ -30,7 +30,7 @@ use Rattle.shot_packets.proofs.Rules.{any-memory}
 use Rattle.shot_packets.proofs.Packet.{cleared-memory}
 use Rattle.shot_packets.proofs.Loop.{holds}
 use Rattle.shot.specs.declared.ShotAnswer.{ShotAnswer}
-use Rattle.shot.specs.Call.{ShotDone, shotDone, startOf, ended, playedBy, refusedBy, unchanged, byShot}
+use Rattle.shot.specs.Call.{shotDone, startOf, ended, playedBy, refusedBy, unchanged, byShot}
 
 -- ---- the ways of a call
 module _ (way : Way) (c : ShotCall) where

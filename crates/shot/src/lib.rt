@@ -1,7 +1,7 @@
 // A whole shot in one call: packets joined together, applied in order, with three buffers that are named.
 use buffer_names::Names;
-use headers::Session;
 use calls::Room;
+use headers::Session;
 ghost use mathlib.Core.Path.{_≡_};
 ghost use Rattle.work_memory.specs.Memory.{memory};
 ghost use Rattle.opening.specs.Call.{shotCall};

@@ -1,11 +1,10 @@
 // A whole shot in one call, and for each packet the map of the tiles that it changed.
 use buffer_names::Names;
-use headers::Session;
 use calls::Room;
+use headers::Session;
 use settings::Settings;
 use shot::ShotAnswer;
 use shot::ShotVerdict;
-ghost use mathlib.Core.Path.{_≡_};
 ghost use Rattle.work_memory.specs.Memory.{memory};
 ghost use Rattle.opening.specs.Call.{shotCall};
 ghost use Rattle.shot.specs.Call.{shotDone};

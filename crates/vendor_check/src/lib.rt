@@ -1,10 +1,10 @@
 // The vendor's file, checked: two headers and packets are decoded, and a file is compared with the stream of their frames.
 use buffer_names::Names;
+use calls::Room;
 use check_answer::CheckAnswer;
 use checked_packets::Watched;
 use headers::IdentificationAnswer;
 use headers::Session;
-use calls::Room;
 use setup::SetupAnswer;
 ghost use mathlib.Core.Path.{_≡_};
 ghost use mathlib.Core.Bool.{true};

@@ -1,6 +1,6 @@
 -- `opening::number_of` meets its contract. Assumes nothing.
 use borrow.Author.Needs.{needs}
-use mathlib.Core.Path.{_≡_, ap}
+use mathlib.Core.Path.{ap}
 use Rattle.bitstream.specs.declared.End.{End}
 use Rattle.opening.specs.Tests.{lateNumber}
 use Rattle.opening.proofs.Tests.{of-lent, of-late}
