@@ -36,8 +36,9 @@ use Rattle.shot_claims.specs.Claims.{answerOf}
 use Rattle.opening.proofs.Calls.{passes, accepted, memory-fits, planes-long}
 use Rattle.shot.proofs.Calls.{shot-refused, shot-empty, shot-some}
 use Rattle.film.specs.Film.{filmOf}
-use Rattle.checked_packets.specs.declared.Watched.{Watched}
-use Rattle.checked_packets.specs.Watch.{watched, watchedAll, ChecksAll}
+use Rattle.watching.specs.declared.Watched.{Watched}
+use Rattle.watching.specs.Watch.{watched}
+use Rattle.checked_packets.specs.Watch.{watchedAll, ChecksAll}
 use Rattle.check_answer.specs.declared.CheckAnswer.{CheckAnswer}
 use Rattle.check_answer.specs.declared.CheckAnswer.the-variants.{Refused}
 use Rattle.vendor_check.specs.Check.{compared, firstRefused, turnsOf, checkedShot, CheckDone, checkDone, checkOf, Lent, fresh, CheckLeft, unplayed, bySetup, bySession, checked, begunBy}

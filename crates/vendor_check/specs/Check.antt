@@ -28,7 +28,7 @@ use Rattle.shot.specs.Call.{startOf, byShot}
 use Rattle.shot_claims.specs.Claims.{callsOf, answerOf}
 use Rattle.film.specs.Film.{filmOf}
 use Rattle.stream_check.specs.Compared.{difference, onward, beginning}
-use Rattle.checked_packets.specs.declared.Watched.{Watched}
+use Rattle.watching.specs.declared.Watched.{Watched}
 use Rattle.check_answer.specs.declared.CheckAnswer.{CheckAnswer}
 use Rattle.check_answer.specs.declared.CheckAnswer.the-variants.{Passes, Differs, Refused}
 

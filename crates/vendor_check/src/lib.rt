@@ -2,10 +2,10 @@
 use buffer_names::Names;
 use calls::Room;
 use check_answer::CheckAnswer;
-use checked_packets::Watched;
 use headers::IdentificationAnswer;
 use headers::Session;
 use setup::SetupAnswer;
+use watching::Watched;
 ghost use mathlib.Core.Path.{_≡_};
 ghost use mathlib.Core.Bool.{true};
 ghost use Prim.Native.Nat.{_≤_};
