@@ -1,18 +1,14 @@
 // What the calls for C return and leave in lists of numbers, by their answers.
-use frame_header::Kind;
 use headers::IdentificationAnswer;
 use headers::SizesAnswer;
 use queries::BlockAnswer;
 use queries::NumberAnswer;
 use queries::PlaceAnswer;
-use reading::FrameAnswer;
-use reading::Verdict;
 use table_queries::MatrixAnswer;
 ghost use mathlib.Core.Path.{_≡_};
 ghost use lib.ListN.{length};
 ghost use Rattle.session_list.specs.List.{gives, answers};
 ghost use Rattle.answer_lists.specs.Lists.{flag, sessionReturned, sizesReturned, blockReturned, placeReturned, numberReturned, tableCall, matrixReturned};
-ghost use Rattle.answer_lists.specs.FrameLists.{referenceNumber, verdictReturned};
 
 pub fn flag_number(b: bool) -> u64
     ensures { λ r. ⌜ r ≡ flag b ⌝ }
@@ -177,37 +173,4 @@ pub fn table_number(table: &[u8]) -> u32
         return bitstream::NOT_GENUINE;
     }
     bitstream::WRONG_LENGTH
-}
-
-// The reference number of a session after an accepted frame.
-pub fn reference_number(kind: Kind, before: u64) -> u64
-    ensures { λ r. ⌜ r ≡ referenceNumber kind before ⌝ }
-{
-    match kind {
-        Kind::Intra => 1,
-        Kind::Inter => before,
-        Kind::Repeat => before,
-    }
-}
-
-// What the answer of a frame returns, and what it leaves in the lists of the session and of the answer.
-pub fn return_frame(answer: FrameAnswer, session: &mut [u64], list: &mut [u64]) -> u32
-    requires { ⌜ (length (now session) ≡ 19) × (length (now list) ≡ 8) ⌝ }
-    ensures { λ r. ⌜ answers r (now (session .exit)) (now (list .exit)) ≡ verdictReturned (now (session .entry)) (answer .header) (answer .session) (answer .verdict) ⌝ }
-{
-    let header = answer.header;
-    let kind = header.kind;
-    let next = answer.session;
-    let verdict = answer.verdict;
-    reading::store_answer(verdict, header, list);
-    match verdict {
-        Verdict::Accepted(_) => {
-            let before = session[16];
-            session[16] = reference_number(kind, before);
-            session[17] = next.key_frames;
-            session[18] = next.others;
-            0
-        }
-        Verdict::Refused(k, _) => k,
-    }
 }

@@ -1,6 +1,7 @@
 // The names of the buffers that hold golden and previous: which of three is free, and the names after a packet.
 use frame_header::Kind;
 use headers::Session;
+use reading::FrameAnswer;
 use reading::Verdict;
 ghost use mathlib.Core.Path.{_≡_};
 ghost use Rattle.buffer_names.specs.Names.{free, namesAfter, namesOf, namesFit};
@@ -50,7 +51,7 @@ pub fn free_buffer(names: Names) -> u64
 }
 
 // The names after a packet whose new frame is the buffer `new`.
-pub fn names_after(names: Names, new: u64, verdict: Verdict, kind: Kind) -> Names
+fn names_after(names: Names, new: u64, verdict: Verdict, kind: Kind) -> Names
     ensures { λ r. ⌜ r ≡ namesAfter names new verdict kind ⌝ }
 {
     match verdict {
@@ -70,4 +71,15 @@ pub fn names_after(names: Names, new: u64, verdict: Verdict, kind: Kind) -> Name
             },
         },
     }
+}
+
+// The names after a packet with this answer: its new frame is the free buffer.
+pub fn after_packet(names: Names, answer: FrameAnswer) -> Names
+    ensures { λ r. ⌜ r ≡ namesAfter names (free names) (answer .verdict) (answer .header .kind) ⌝ }
+{
+    let new = free_buffer(names);
+    let verdict = answer.verdict;
+    let header = answer.header;
+    let kind = header.kind;
+    names_after(names, new, verdict, kind)
 }

@@ -1,5 +1,6 @@
 pub mod Lengths
 pub mod Calls
+pub mod Rooms
 pub mod LeftBySetup
 pub mod Demand
 pub mod Places

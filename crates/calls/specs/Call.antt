@@ -28,6 +28,10 @@ call packet table memory new = record { packet = packet; table = table; memory =
 abbrev pub lengthsHold : State → Call → Bool
 lengthsHold st c = buffersFit (blocks (st .session)) (st .golden) (st .previous) (c .new) (c .table) && lengthsFit (lengthsOf (st .session)) (c .memory)
 
+-- the tests before table memory is looked at, "Frame: that" (the identification part of 8), "then 1": the number of the refusal, or 0
+unfoldable pub lentNumber : State → Call → ℕ
+lentNumber st c = choose (sessionFits (st .session)) (choose (lengthsHold st c) 0 wrongLength) notGenuine
+
 -- "Frame: that" (the identification part of 8), "then 1, the rest of 8, then the packet"
 unfoldable pub outcomeOf : State → Call → Outcome Asked
 outcomeOf st c =

@@ -4,6 +4,7 @@
 -- 2. A frame is decoded as the paper says: Call, `FramePromise`, which is the contract of `theora::frame`.
 -- 3. A list of calls: Demand, `Demand3Holds`.
 pub mod Lengths
+pub mod Room
 pub mod Call
 pub mod LeftBySetup
 pub mod Demand

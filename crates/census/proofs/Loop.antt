@@ -1,5 +1,5 @@
 -- The frame packets of a recording, one after the other. Assumes nothing.
-use Prim.Native.Nat.{ℕ, _+_, _≤_, _<_}
+use Prim.Native.Nat.{ℕ, _+_, _-_, _≤_, _<_}
 use native.Mathlib.Omega.{arith}
 use mathlib.Core.Path.{_≡_, refl, sym, ap, _∙_, subst}
 use mathlib.Core.Bool.{true}
@@ -67,39 +67,40 @@ module _ (table lengths packets : List ℕ) (start : ℕ) (s₀ : Session) (firs
         subst (Runs sums) (sym n ∙ sym (ap (plus (q .0)) e) ∙ q .2) (q .1)
 
     -- one packet more
-    module _ (l : i < length lengths) (part : List ℕ) (ep : part ≡ take (getD lengths i 0) (drop at packets)) where
+    module _ (l : i < length lengths) (end : ℕ) (ends : end ≡ at + getD lengths i 0) where
+      abbrev part : List ℕ
+      part = take (end - at) (drop at packets)
+
       abbrev o : Outcome Asked
       o = read s table part
 
       abbrev s′ : Session
       s′ = answerFor s o .session
 
-      left-step : left table lengths packets s at i ≡ plus (packetAdds s o) (left table lengths packets s′ (at + getD lengths i 0) (i + 1))
+      left-step : left table lengths packets s at i ≡ plus (packetAdds s o) (left table lengths packets s′ end (i + 1))
       unfolding packetsAdd
-      left-step =
-          ap (packetsAdd (λ s p. read s table p) s) (packets-left lengths packets i at l)
-          ∙ ap (λ (p : List ℕ). plus (packetAdds s (read s table p)) (packetsAdd (λ s p. read s table p) (answerFor s (read s table p) .session) (packetsIn (drop (i + 1) lengths) (drop (at + getD lengths i 0) packets)))) (sym ep)
+      left-step = ap (packetsAdd (λ s p. read s table p) s) (packets-left lengths packets i at end l ends)
 
       on : (sums′ : Running) (w′ : Work) → ((m : List ℕ) → Runs sums m → Runs sums′ (plus m (packetAdds s o))) → w′ ≡ cleared (lengthsOf s) .work
-          → Going table lengths packets start s₀ first s′ sums′ w′ (at + getD lengths i 0) (i + 1)
+          → Going table lengths packets start s₀ first s′ sums′ w′ end (i + 1)
       on sums′ w′ h ew =
           let k = read-kept s (g .fits) table part in
           let kw : cleared (lengthsOf s′) .work ≡ cleared (lengthsOf s) .work = ap (λ (m : Memory). m .work) (k .1) in
           record {
             few = omega arith;
-            room = omega (arith, total-drop lengths i l, g .room);
+            room = omega (arith, total-drop lengths i l, g .room, ends);
             fits = k .0;
             work = ew ∙ sym kw;
             same-work = kw ∙ g .same-work;
             rest = λ y q.
                 let z = g .rest y q in
-                (plus (z .0) (packetAdds s o), h (z .0) (z .1), plus-assoc (z .0) (packetAdds s o) (left table lengths packets s′ (at + getD lengths i 0) (i + 1)) ∙ ap (plus (z .0)) (sym left-step) ∙ z .2);
+                (plus (z .0) (packetAdds s o), h (z .0) (z .1), plus-assoc (z .0) (packetAdds s o) (left table lengths packets s′ end (i + 1)) ∙ ap (plus (z .0)) (sym left-step) ∙ z .2);
           }
 
       pub going-on : (c : Counted) → c ≡ countedBy s o → (sums′ : Running) (w′ : Work) → ((m : List ℕ) → Runs sums m → Runs sums′ (plus m (answerAdds (c .answer) (c .counts)))) → w′ ≡ cleared (lengthsOf s) .work
-          → Going table lengths packets start s₀ first (c .answer .session) sums′ w′ (at + getD lengths i 0) (i + 1)
+          → Going table lengths packets start s₀ first (c .answer .session) sums′ w′ end (i + 1)
       going-on c e sums′ w′ h ew =
-          subst (λ (x : Counted). Going table lengths packets start s₀ first (x .answer .session) sums′ w′ (at + getD lengths i 0) (i + 1)) (sym e)
+          subst (λ (x : Counted). Going table lengths packets start s₀ first (x .answer .session) sums′ w′ end (i + 1)) (sym e)
           (on sums′ w′ (λ m q. subst (λ (x : Counted). Runs sums′ (plus m (answerAdds (x .answer) (x .counts)))) e (h m q)) ew)
 
 -- ---- a packet, by the setup that was loaded

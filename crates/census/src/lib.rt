@@ -1,4 +1,5 @@
 // A census: one recording is added to a report. Planes, table and work memory are scratch, all zero afterwards.
+use calls::Room;
 use census_packets::HeadersAnswer;
 use headers::Session;
 use report::CensusAnswer;
@@ -46,8 +47,7 @@ fn count_packets(
     let mut at = start;
     let mut i: usize = 3;
     while i < lengths.len() {
-        let n = lengths[i] as usize;
-        let end = at + n;
+        let end = packet_list::packet_end(lengths, i, at);
         let packet = bitstream::readable(&packets[at..end]);
         let counted = tally::count_packet(
             session,
@@ -100,22 +100,23 @@ fn count_frames(
         (memory (now (records .entry)) (now (coded .entry)) (now (coefs .entry)) (now (dc .entry)) (now (lasts .entry)) (now (flags .entry)) (now (bits .entry)) (now (supers .entry)) (now (modes .entry)) (now (active .entry))) (now (golden .entry)) (now (previous .entry)) (now (new .entry))) (now (table .entry))) s
         (packetsIn (drop 3 (now (lengths .entry))) (drop start (now (packets .entry))))))) ⌝ }
 {
-    let l = work_memory::lengths_of(s);
-    let buffers = calls::buffers_fit(l.records, golden, previous, new, table);
-    let slices = work_memory::lengths_fit(
-        l,
-        records,
-        coded,
-        coefs,
-        dc,
-        lasts,
-        flags,
-        bits,
-        supers,
-        modes,
-        active,
-    );
-    if buffers & slices {
+    let room = Room {
+        records: records.len(),
+        coded: coded.len(),
+        coefs: coefs.len(),
+        dc: dc.len(),
+        lasts: lasts.len(),
+        flags: flags.len(),
+        bits: bits.len(),
+        supers: supers.len(),
+        modes: modes.len(),
+        active: active.len(),
+        first: golden.len(),
+        second: previous.len(),
+        third: new.len(),
+    };
+    let k = calls::lent_number(s, table.len(), room);
+    if k == 0 {
         work_memory::clear_memory(
             records,
             coded,

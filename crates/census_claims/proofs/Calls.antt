@@ -10,7 +10,7 @@ use Rattle.frame_header.specs.declared.Kind.the-variants.{Intra, Inter, Repeat}
 use Rattle.reading.specs.declared.Verdict.{Verdict}
 use Rattle.reading.specs.declared.Verdict.the-variants.{Accepted, Refused}
 use Rattle.reading.specs.Answer.{read, answerFor}
-use Rattle.decoding.specs.Answer.{State, Way, state}
+use Rattle.asked_frame.specs.Answer.{State, Way, state}
 use Rattle.calls.specs.Call.{Call, call, lengthsHold, outcomeOf, byRules}
 use Rattle.calls.specs.Demand.{turn, turns, handedOn}
 use Rattle.report.specs.Report.{plus}

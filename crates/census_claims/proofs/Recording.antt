@@ -22,7 +22,7 @@ use Rattle.frame_packet.specs.Frame.{Frame, framePacket}
 use Rattle.frame_packet.proofs.Laws.{packetNumbers, packet-refuses}
 use Rattle.work_memory.specs.Lengths as lengths
 use Rattle.reading.specs.Answer.{Asked, staysCounted, counted, read, readBy, sessionAfter, answerFor, kindNumber}
-use Rattle.decoding.specs.Answer.{state}
+use Rattle.asked_frame.specs.Answer.{state}
 use Rattle.calls.specs.Call.{call, lengthsHold, outcomeOf}
 use Rattle.calls.proofs.Tokens.{outcome-got}
 use Rattle.counting.specs.Counts.{sum, frameCounts}

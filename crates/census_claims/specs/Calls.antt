@@ -2,7 +2,7 @@
 use Prim.Native.Nat.{ℕ}
 use mathlib.Core.Path.{_≡_}
 use mathlib.Core.List.{List, [], _∷_}
-use Rattle.decoding.specs.Answer.{State, Way, state}
+use Rattle.asked_frame.specs.Answer.{State, Way, state}
 use Rattle.calls.specs.Call.{Call, call, lengthsHold, outcomeOf, byRules}
 use Rattle.calls.specs.Demand.{Turn, turns}
 use Rattle.report.specs.Report.{plus, nothing}

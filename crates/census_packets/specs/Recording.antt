@@ -13,7 +13,7 @@ use Rattle.reading.specs.declared.FrameAnswer.{FrameAnswer}
 use Rattle.reading.specs.declared.Verdict.{Verdict}
 use Rattle.reading.specs.declared.Verdict.the-variants.{Accepted, Refused}
 use Rattle.reading.specs.Answer.{Asked, answerFor, kindNumber}
-use Rattle.decoding.specs.Answer.{state}
+use Rattle.asked_frame.specs.Answer.{state}
 use Rattle.calls.specs.Call.{call, outcomeOf}
 use Rattle.counting.specs.declared.Counts.{Counts}
 use Rattle.tally.specs.Counted.{countsOf}

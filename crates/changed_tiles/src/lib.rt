@@ -3,43 +3,10 @@ use headers::Session;
 use reading::FrameAnswer;
 use settings::Settings;
 ghost use mathlib.Core.Path.{_≡_};
-ghost use mathlib.Core.Bool.{true};
-ghost use Rattle.settings.specs.Settings.{settingsFit};
 ghost use Rattle.work_memory.specs.Memory.{memory};
-ghost use Rattle.decoding.specs.Answer.{state, done};
+ghost use Rattle.asked_frame.specs.Answer.{state, done};
 ghost use Rattle.calls.specs.Call.{call};
-ghost use Rattle.changed_tiles.specs.Call.{lengthFor, mapFits, tilesDone, tilesCall};
-
-// How many bytes a map has, or the number of the refusal.
-pub enum MapLength {
-    Is(u64),
-    Refused(u32, usize),
-}
-
-// The length of the map of a session's frames.
-pub fn map_length(set: Settings, s: Session) -> MapLength
-    ensures { λ r. ⌜ r ≡ lengthFor set s ⌝ }
-{
-    if !settings::settings_fit(set) {
-        return MapLength::Refused(bitstream::BAD_SETTINGS, 0);
-    }
-    if !headers::session_fits(s) {
-        return MapLength::Refused(bitstream::NOT_GENUINE, 0);
-    }
-    MapLength::Is(map_update::length_of(set, s))
-}
-
-// Whether a map has its length. Of a session that does not fit nothing is said here: the frame call refuses it.
-fn map_fits(set: Settings, s: Session, map: &[u8]) -> bool
-    requires { ⌜ settingsFit set ≡ true ⌝ }
-    ensures { λ r. ⌜ r ≡ mapFits set s (now (map .entry)) ⌝ }
-{
-    if headers::session_fits(s) {
-        let n = map_update::length_of(set, s);
-        return map.len() as u64 == n;
-    }
-    true
-}
+ghost use Rattle.tile_calls.specs.Call.{tilesDone, tilesCall};
 
 // A frame call, and the map of the tiles that changed: 1 or 0 for each, row by row from the bottom.
 pub fn frame(
@@ -70,7 +37,7 @@ pub fn frame(
     if !settings::settings_fit(set) {
         return reading::refusal(bitstream::BAD_SETTINGS, 0, s);
     }
-    if !map_fits(set, s, map) {
+    if !tile_calls::map_fits(set, s, map) {
         return reading::refusal(bitstream::WRONG_LENGTH, 0, s);
     }
     let answer = theora::frame(

@@ -5,7 +5,7 @@ use mathlib.Core.Bool.{true, false}
 use mathlib.Core.List.{List}
 use lib.ListN.{length}
 use borrow.Author.Tests.{lt-ltb, le-ltb}
-use Rattle.checked_packets.specs.declared.Watched.{Watched}
+use Rattle.watching.specs.declared.Watched.{Watched}
 use Rattle.check_answer.specs.declared.CheckAnswer.the-variants.{Passes, Differs, Refused}
 use Rattle.check_answer.specs.Said.{saidBy}
 

@@ -2,7 +2,7 @@
 use Prim.Native.Nat.{ℕ}
 use mathlib.Core.List.{List}
 use Rattle.bitstream.specs.Reading.{choose}
-use Rattle.checked_packets.specs.declared.Watched.{Watched}
+use Rattle.watching.specs.declared.Watched.{Watched}
 use Rattle.check_answer.specs.declared.CheckAnswer.{CheckAnswer}
 use lib.Dec.{ltb}
 use lib.ListN.{length}

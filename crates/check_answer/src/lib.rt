@@ -1,5 +1,5 @@
 // What a check of the vendor's file answers: what is said after the last packet, and the same as numbers.
-use checked_packets::Watched;
+use watching::Watched;
 ghost use mathlib.Core.Path.{_≡_};
 ghost use lib.ListN.{length};
 ghost use Rattle.check_answer.specs.Said.{saidBy};

@@ -2,10 +2,8 @@
 use Prim.Native.Nat.{ℕ, zero, suc}
 use native.Mathlib.Omega.{arith}
 use mathlib.Core.Path.{_≡_, refl, sym, ap, _∙_}
-use mathlib.Core.Bool.{Bool, true, false}
 use mathlib.Core.List.{List, [], _∷_, _++_}
 use lib.ListN.{length}
-use Rattle.bitstream.specs.Reading.{choose}
 use Rattle.headers.specs.declared.Session.{Session}
 use Rattle.frame_header.specs.declared.Kind.{Kind}
 use Rattle.frame_header.specs.declared.Kind.the-variants.{Intra, Inter, Repeat}
@@ -13,21 +11,19 @@ use Rattle.work_memory.specs.Memory.{Memory}
 use Rattle.reading.specs.declared.FrameAnswer.{FrameAnswer}
 use Rattle.reading.specs.declared.Verdict.{Verdict}
 use Rattle.reading.specs.declared.Verdict.the-variants.{Accepted, Refused}
-use Rattle.decoding.specs.Answer.{State, Done}
+use Rattle.asked_frame.specs.Answer.{State, Done}
 use Rattle.calls.specs.Call.{Call}
 use Rattle.calls.specs.Demand.{handedOn}
 use Rattle.buffer_names.specs.declared.Names.{Names}
 use Rattle.buffer_names.specs.Names.{Sound}
 use Rattle.stream_numbers.specs.declared.Numbers.{Numbers}
-use Rattle.y4m.specs.Stream.{frameText}
-use Rattle.stream_check.specs.declared.Compared.{Compared}
-use Rattle.stream_check.specs.Compared.{onward}
 use Rattle.frame_into.specs.Buffers.{bufferOf}
 use Rattle.shot_packets.specs.Play.{Shot, shot, stateOf, callOf, after}
 use Rattle.shot_packets.proofs.Rules.{state-handed}
 use Rattle.frame_into.proofs.Lent.{big}
-use Rattle.checked_packets.specs.declared.Watched.{Watched}
-use Rattle.checked_packets.specs.Watch.{byVerdict, watched, watchedAll}
+use Rattle.watching.specs.declared.Watched.{Watched}
+use Rattle.watching.specs.Watch.{watched}
+use Rattle.checked_packets.specs.Watch.{watchedAll}
 
 -- ---- the buffer of a name
 module _ (x y z : List ℕ) where
@@ -43,25 +39,8 @@ module _ (x y z : List ℕ) where
   buffer-second (suc (suc zero)) a b = absurd (b refl)
   buffer-second (suc (suc (suc k))) a b = sym (big x y z (suc (suc (suc k))) (omega arith))
 
--- ---- the ways of a step
+-- ---- a step
 module _ (n : Numbers) (file : List ℕ) (w : Watched) where
-  pub watched-stays : (v : Verdict) (frame : List ℕ) → w .refused ≡ true → w ≡ watched n file w v frame
-  unfolding watched
-  watched-stays v frame h = sym (ap (λ (b : Bool). choose b w (byVerdict n file w v frame)) h)
-
-  pub watched-on : (v : Verdict) (frame : List ℕ) → w .refused ≡ false → byVerdict n file w v frame ≡ watched n file w v frame
-  unfolding watched
-  watched-on v frame h = sym (ap (λ (b : Bool). choose b w (byVerdict n file w v frame)) h)
-
-  pub watched-refused : {v : Verdict} {k e : ℕ} (frame : List ℕ) → w .refused ≡ false → v ≡ Refused k e
-      → _≡_ {A = Watched} (record { compared = w .compared; refused = true; number = k; bit = e }) (watched n file w v frame)
-  watched-refused {v} {k} {e} frame h ev = ap (λ (v : Verdict). byVerdict n file w v frame) (sym ev) ∙ watched-on v frame h
-
-  pub watched-accepted : {v : Verdict} {t : ℕ} (frame : List ℕ) (c : Compared) → w .refused ≡ false → v ≡ Accepted t → c ≡ onward (w .compared) (frameText n frame) file
-      → _≡_ {A = Watched} (record { compared = c; refused = false; number = 0; bit = 0 }) (watched n file w v frame)
-  watched-accepted {v} {t} frame c h ev ec =
-      ap (λ (c : Compared). record { compared = c; refused = false; number = 0; bit = 0 }) ec ∙ ap (λ (v : Verdict). byVerdict n file w v frame) (sym ev) ∙ watched-on v frame h
-
   -- the frame that is previous after a packet is the new one, or does not matter
   pub watched-handed : (st : State) (v : Verdict) (kind : Kind) (s : Session) (new : List ℕ) → watched n file w v (handedOn st v kind s new .previous) ≡ watched n file w v new
   unfolding watched

@@ -1,33 +1,19 @@
 -- Packets that are applied in order while a file is compared with their frames.
 use Prim.Native.Nat.{ℕ}
 use mathlib.Core.Path.{_≡_}
-use mathlib.Core.Bool.{true, false}
 use mathlib.Core.List.{List, [], _∷_}
-use Rattle.bitstream.specs.Reading.{choose}
 use Rattle.headers.specs.declared.Session.{Session}
 use Rattle.ways.specs.Ways.{firstWay}
 use Rattle.work_memory.specs.Memory.{Memory}
-use Rattle.reading.specs.declared.Verdict.{Verdict}
-use Rattle.reading.specs.declared.Verdict.the-variants.{Accepted, Refused}
-use Rattle.decoding.specs.Answer.{State, Done}
+use Rattle.asked_frame.specs.Answer.{State, Done}
 use Rattle.calls.specs.Call.{Call, byRules}
 use Rattle.buffer_names.specs.declared.Names.{Names}
 use Rattle.stream_numbers.specs.declared.Numbers.{Numbers}
 use Rattle.stream_numbers.specs.Numbers.{numbersOf}
-use Rattle.y4m.specs.Stream.{frameText}
-use Rattle.stream_check.specs.Compared.{onward}
 use Rattle.shot_packets.specs.Play.{Shot, stateOf, callOf, after}
 use Rattle.shot_packets.specs.Inner.{PlaysAll}
-use Rattle.checked_packets.specs.declared.Watched.{Watched}
-
--- one packet more: its refusal, or its frame, which the file must have next
-abbrev pub byVerdict : Numbers → (file : List ℕ) → Watched → Verdict → (frame : List ℕ) → Watched
-byVerdict n file w (Refused k e) frame = record { compared = w .compared; refused = true; number = k; bit = e }
-byVerdict n file w (Accepted t) frame = record { compared = onward (w .compared) (frameText n frame) file; refused = false; number = 0; bit = 0 }
-
--- "The first refusal .. wins": it stays
-unfoldable pub watched : Numbers → (file : List ℕ) → Watched → Verdict → (frame : List ℕ) → Watched
-watched n file w v frame = choose (w .refused) w (byVerdict n file w v frame)
+use Rattle.watching.specs.declared.Watched.{Watched}
+use Rattle.watching.specs.Watch.{watched}
 
 -- the packets of a shot, one after the other
 unfoldable pub watchedAll : (State → Call → Done) → Numbers → (file table : List ℕ) → Watched → Shot → List (List ℕ) → Watched

@@ -3,7 +3,7 @@ use buffer_names::Names;
 use headers::Session;
 use reading::Verdict;
 use setup::LoadedSetup;
-use stream_check::Compared;
+use watching::Watched;
 ghost use mathlib.Core.Path.{_≡_};
 ghost use mathlib.Core.Bool.{true};
 ghost use mathlib.Core.List.{List, [], _∷_};
@@ -12,52 +12,17 @@ ghost use lib.ListN.{length};
 ghost use Rattle.headers.specs.Fits.{sessionFits};
 ghost use Rattle.work_memory.specs.Memory.{memory};
 ghost use Rattle.work_memory.specs.Lengths.{blocks, lengthsOf, cleared};
-ghost use Rattle.packet_list.specs.Packets.{total, packetsIn};
+ghost use Rattle.packet_list.specs.Packets.{total, packetsIn, answerSize};
 ghost use Rattle.buffer_names.specs.Names.{Sound};
 ghost use Rattle.stream_numbers.specs.Numbers.{numbersOf};
 ghost use Rattle.y4m.specs.Stream.{frameBytes};
 ghost use Rattle.frame_into.specs.Buffers.{bufferOf};
-ghost use Rattle.shot_packets.specs.Play.{shot, answerSize};
+ghost use Rattle.shot_packets.specs.Play.{shot};
 ghost use Rattle.shot_packets.specs.Inner.{TableLoaded};
-ghost use Rattle.checked_packets.specs.Watch.{watched, ChecksAll};
+ghost use Rattle.watching.specs.Watch.{watched};
+ghost use Rattle.checked_packets.specs.Watch.{ChecksAll};
 
-// How far the file was compared, and the first refusal among the packets, if there is one.
-pub struct Watched {
-    pub compared: Compared,
-    pub refused: bool,
-    pub number: u32,
-    pub bit: usize,
-}
-
-// One packet more: its refusal, if it is the first, or its frame compared. Behind a refusal nothing is looked at.
-fn watch(w: Watched, s: Session, verdict: Verdict, frame: &[u8], file: &[u8]) -> Watched
-    requires { ⌜ (sessionFits s ≡ true) × (length (now frame) ≡ frameBytes (numbersOf s)) × (w .compared .place ≤ length (now file)) ⌝ }
-    ensures { λ r. ⌜ (r ≡ watched (numbersOf s) (now (file .entry)) w verdict (now (frame .entry))) × (r .compared .place ≤ length (now (file .entry))) ⌝ }
-{
-    if w.refused {
-        return w;
-    }
-    let reached = w.compared;
-    match verdict {
-        Verdict::Refused(k, e) => Watched {
-            compared: reached,
-            refused: true,
-            number: k,
-            bit: e,
-        },
-        Verdict::Accepted(_) => {
-            let compared = stream_check::compare_frame(reached, s, frame, file);
-            Watched {
-                compared,
-                refused: false,
-                number: 0,
-                bit: 0,
-            }
-        }
-    }
-}
-
-// The same with three buffers, of which one is named.
+// One packet more (`watching::watch`), with three buffers, of which one is named.
 fn watch_named(
     w: Watched,
     s: Session,
@@ -72,12 +37,12 @@ fn watch_named(
     ensures { λ r. ⌜ (r ≡ watched (numbersOf s) (now (file .entry)) w verdict (bufferOf ((now (first .entry)) ∷ (now (second .entry)) ∷ (now (third .entry)) ∷ []) name)) × (r .compared .place ≤ length (now (file .entry))) ⌝ }
 {
     if name == 0 {
-        return watch(w, s, verdict, first, file);
+        return watching::watch(w, s, verdict, first, file);
     }
     if name == 2 {
-        return watch(w, s, verdict, third, file);
+        return watching::watch(w, s, verdict, third, file);
     }
-    watch(w, s, verdict, second, file)
+    watching::watch(w, s, verdict, second, file)
 }
 
 // Packets, applied in order: `shot_packets::play_packets`, and the frame of each that is accepted compared with the file.
@@ -119,8 +84,7 @@ pub fn check_packets(
     let mut at: usize = 0;
     let mut i: usize = 0;
     while i < lengths.len() {
-        let n = lengths[i] as usize;
-        let end = at + n;
+        let end = packet_list::packet_end(lengths, i, at);
         let played = shot_packets::play_packet(
             session,
             both,

@@ -11,7 +11,7 @@ use Rattle.reading.specs.declared.FrameAnswer.{FrameAnswer}
 use Rattle.work_memory.specs.Memory.{Memory}
 use Rattle.work_memory.specs.Lengths.{lengthsOf, cleared}
 use Rattle.reading.specs.Answer.{readBy, read, answerFor}
-use Rattle.decoding.specs.Answer.{Done, state, done, decoded}
+use Rattle.asked_frame.specs.Answer.{Done, state, done, decoded}
 
 -- ---- a packet by table memory
 module _ (s : Session) (golden previous packet table new : List ℕ) where

@@ -24,7 +24,7 @@ ghost use Rattle.headers.specs.Fits.{sessionFits};
 ghost use Rattle.work_memory.specs.Memory.{work, memory};
 ghost use Rattle.work_memory.specs.Lengths.{blocks, lengthsOf, cleared};
 ghost use Rattle.reading.specs.Answer.{read};
-ghost use Rattle.decoding.specs.Answer.{state, done, decoded};
+ghost use Rattle.asked_frame.specs.Answer.{state, done, decoded};
 ghost use Rattle.decoding.specs.Ready.{Ready};
 
 // The loop limit of the first qi.

@@ -6,7 +6,7 @@ use Rattle.frame_header.specs.declared.Header.{Header}
 use Rattle.work_memory.specs.Memory.{Memory}
 use Rattle.reading.specs.declared.Verdict.{Verdict}
 use Rattle.reading.specs.declared.Verdict.the-variants.{Accepted, Refused}
-use Rattle.decoding.specs.Answer.{State, Done, done}
+use Rattle.asked_frame.specs.Answer.{State, Done, done}
 use Rattle.calls.specs.Call.{Call, call}
 use Rattle.calls.specs.Demand.{turns}
 use Rattle.film.specs.Film.{framesOf}

@@ -22,8 +22,8 @@ use Rattle.packet_list.specs.Packets.{packetsIn}
 use Rattle.shot_packets.specs.Play.{stateOf}
 use Rattle.shot.specs.Call.{startOf}
 use Rattle.shot_claims.specs.Claims.{callsOf}
-use Rattle.shot.proofs.Calls.{passes}
-use Rattle.shot_claims.proofs.Turns.{accepted-passed, shot-turns}
+use Rattle.opening.proofs.Calls.{passes, accepted}
+use Rattle.shot_claims.proofs.Turns.{shot-turns}
 use Rattle.film.specs.Film.{framesOf, joined, filmOf, acceptedIn, FilmIs, FilmsHold, ShotFilmed}
 use Rattle.film.proofs.Frames.{AllLong, joined-length, joined-at, frames-count, all-long}
 
@@ -64,6 +64,6 @@ shot-filmed c h three =
     let ps = packetsIn (c .lengths) (c .joined) in
     let calls = callsOf (byRules firstWay) (c .table) (startOf c) ps in
     let ts = turns (byRules firstWay) (stateOf (startOf c)) calls in (
-      films-hold (stateOf (startOf c)) calls (passes c (accepted-passed c h) .0),
+      films-hold (stateOf (startOf c)) calls (passes c (accepted c h .0) .0),
       frames-count ts ∙ sym (ap acceptedIn (shot-turns c .in-turns h three firstWay .answers)),
     )

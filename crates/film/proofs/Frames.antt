@@ -16,7 +16,7 @@ use Rattle.work_memory.specs.Lengths.{blocks}
 use Rattle.reading.specs.declared.Verdict.{Verdict}
 use Rattle.reading.specs.declared.Verdict.the-variants.{Accepted, Refused}
 use Rattle.reading.specs.Answer.{Asked, answerFor}
-use Rattle.decoding.specs.Answer.{State, Done, done, picture, newBy}
+use Rattle.asked_frame.specs.Answer.{State, Done, done, picture, newBy}
 use Rattle.calls.specs.Call.{Call, outcomeOf, memoryAfter, byRules}
 use Rattle.calls.specs.Demand.{Turn, turn, turns, handedOn}
 use Rattle.output.specs.Output.{part}

@@ -10,7 +10,7 @@ use Rattle.ways.specs.Ways.{firstWay}
 use Rattle.reading.specs.declared.FrameAnswer.{FrameAnswer}
 use Rattle.reading.specs.declared.Verdict.{Verdict}
 use Rattle.reading.specs.declared.Verdict.the-variants.{Accepted, Refused}
-use Rattle.decoding.specs.Answer.{State}
+use Rattle.asked_frame.specs.Answer.{State}
 use Rattle.calls.specs.Call.{Call, byRules}
 use Rattle.calls.specs.Demand.{Turn, turns}
 use Rattle.output.specs.Output.{gives}
@@ -19,7 +19,8 @@ use Rattle.y4m.specs.Stream.{frameOf, streamText, streamFor}
 use Rattle.y4m.specs.Film.{holds, filmIn}
 use Rattle.packet_list.specs.Packets.{packetsIn}
 use Rattle.shot_packets.specs.Play.{stateOf, played}
-use Rattle.shot.specs.Call.{ShotCall, shotNumber, startOf}
+use Rattle.opening.specs.Call.{ShotCall, shotNumber}
+use Rattle.shot.specs.Call.{startOf}
 use Rattle.shot_claims.specs.Claims.{callsOf, answerOf}
 
 -- an accepted call gives its new frame, in front of those that follow; a refused one gives none

@@ -13,11 +13,11 @@ use Rattle.frame_header.specs.declared.Kind.{Kind}
 use Rattle.frame_header.specs.declared.Kind.the-variants.{Intra, Inter, Repeat}
 use Rattle.ways.specs.Ways.{firstWay}
 use Rattle.reading.specs.Answer.{sessionAfter}
-use Rattle.decoding.specs.Answer.{Done, state}
+use Rattle.asked_frame.specs.Answer.{Done, state}
 use Rattle.calls.specs.Call.{Call, byRules}
 use Rattle.session_list.specs.List.{Answered, answers, sessionOf, listsNumber}
 use Rattle.frame_c.specs.Face.{frameGives, frameCall}
-use Rattle.answer_lists.specs.FrameLists.{sessionNumbers, verdictReturned}
+use Rattle.frame_lists.specs.FrameLists.{sessionNumbers, verdictReturned}
 
 -- a frame call that is made on the session s of the list, and one whose lists are refused
 module _ (session old golden previous : List ℕ) (c : Call) {k : ℕ} (e : k ≡ listsNumber 8 session (length old)) where

@@ -11,13 +11,13 @@ use Rattle.ways.specs.Ways.{firstWay}
 use Rattle.reading.specs.declared.Verdict.{Verdict}
 use Rattle.reading.specs.declared.Verdict.the-variants.{Accepted, Refused}
 use Rattle.reading.specs.Answer.{Asked, answerFor}
-use Rattle.decoding.specs.Answer.{State, Done}
+use Rattle.asked_frame.specs.Answer.{State, Done}
 use Rattle.calls.specs.Call.{Call, outcomeOf, byRules}
 use Rattle.calls.specs.Demand.{turn, turns}
 use Rattle.calls.proofs.KeyFrames.{after-session}
 use Rattle.session_list.specs.List.{sessionOf, listsNumber}
 use Rattle.frame_c.specs.Face.{FrameReturned, stateOf, doneReturned, frameCall}
-use Rattle.answer_lists.specs.FrameLists.{referenceNumber, verdictReturned}
+use Rattle.frame_lists.specs.FrameLists.{referenceNumber, verdictReturned}
 use Rattle.frame_c.specs.Turns.{FaceCall, AnswersFit, SameTurns, FaceTurns}
 use Rattle.frame_c.proofs.Calls.{session-handed}
 

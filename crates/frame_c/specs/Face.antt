@@ -7,9 +7,9 @@ use Rattle.bitstream.specs.Reading.{choose}
 use Rattle.session_list.specs.List.{Answered, answers, sessionOf, listsNumber}
 use Rattle.ways.specs.Ways.{firstWay}
 use Rattle.work_memory.specs.Memory.{Memory}
-use Rattle.decoding.specs.Answer.{State, Done, state}
+use Rattle.asked_frame.specs.Answer.{State, Done, state}
 use Rattle.calls.specs.Call.{Call, byRules}
-use Rattle.answer_lists.specs.FrameLists.{verdictReturned}
+use Rattle.frame_lists.specs.FrameLists.{verdictReturned}
 
 -- the same, and all else that is lent to be written: new and work memory
 pub record FrameReturned : Type 0 where

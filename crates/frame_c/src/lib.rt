@@ -51,7 +51,7 @@ pub extern "C" fn wedgepetal_frame(
             previous,
             new,
         );
-        return answer_lists::return_frame(done, session, answer);
+        return frame_lists::return_frame(done, session, answer);
     }
     k
 }

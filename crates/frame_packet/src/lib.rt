@@ -4,13 +4,13 @@ use frame_header::Header;
 use frame_header::Kind;
 use geometry::PixelFormat;
 pub use packet_body::Read;
+use packet_opening::Opening;
 ghost use mathlib.Core.Path.{_≡_};
 ghost use Prim.Native.Nat.{_≤_};
 ghost use lib.ListN.{length};
 ghost use Rattle.bitstream.specs.Bits.{longest};
-ghost use Rattle.bitstream.specs.Reading.{got, refused, choose};
+ghost use Rattle.bitstream.specs.Reading.{got, refused};
 ghost use Rattle.geometry.specs.Sizes.{largest};
-ghost use Rattle.bitstream.specs.Numbers.{noReferences};
 ghost use Rattle.tokens.specs.Answer.{Tables, treesOf};
 ghost use Rattle.work_memory.specs.Memory.{work};
 ghost use Rattle.work_memory.specs.Lengths.{published, cleared};
@@ -36,21 +36,18 @@ fn refusal(k: u32, e: usize) -> FrameRead
     }
 }
 
-// An empty packet.
-fn read_empty(references: bool, format: PixelFormat, w: u64, h: u64) -> FrameRead
-    ensures { λ r. ⌜ r ≡ asFrame (choose references (got (repeatFrame format w h) 0) (refused noReferences 0)) ⌝ }
+// An empty packet where there are references.
+fn repeat(format: PixelFormat, w: u64, h: u64) -> FrameRead
+    ensures { λ r. ⌜ r ≡ asFrame (got (repeatFrame format w h) 0) ⌝ }
 {
-    if references {
-        return FrameRead {
-            read: Read::Whole(0, 0, 0),
-            header: Header {
-                kind: Kind::Repeat,
-                qis: [0, 0, 0],
-                count: 0,
-            },
-        };
+    FrameRead {
+        read: Read::Whole(0, 0, 0),
+        header: Header {
+            kind: Kind::Repeat,
+            qis: [0, 0, 0],
+            count: 0,
+        },
     }
-    refusal(bitstream::NO_REFERENCES, 0)
 }
 
 // A frame packet, read to its end. The modes stay.
@@ -75,8 +72,11 @@ pub fn read_kept(
     ensures { λ r. ⌜ r ≡ asFrame (framePacket format w h (treesOf (now (nodes .entry))) references (now (packet .entry))) ⌝ }
     ensures { λ r. ⌜ work (now (records .exit)) (now (coded .exit)) (now (coefs .exit)) (now (lasts .exit)) (now (flags .exit)) (now (bits .exit)) (now (supers .exit)) (now (modes .exit)) (now (active .exit)) ≡ workKept format w h (framePacket format w h (treesOf (now (nodes .entry))) references (now (packet .entry))) ⌝ }
 {
-    if packet.len() == 0 {
-        return read_empty(references, format, w, h);
+    let opening = packet_opening::open_packet(packet.len(), references);
+    match opening {
+        Opening::Repeat => return repeat(format, w, h),
+        Opening::NoReferences => return refusal(bitstream::NO_REFERENCES, 0),
+        Opening::Header => (),
     }
     let head = frame_header::read_header(packet, references);
     let done = head.done;

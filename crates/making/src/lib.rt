@@ -9,28 +9,6 @@ ghost use Rattle.ways.specs.Ways.{firstWay};
 ghost use Rattle.reconstruct.specs.Picture.{pictureOf};
 ghost use Rattle.reconstruct.specs.Lent.{blocksIn, matrixIn, Lent, ZerosBehind};
 
-// What held the blocks becomes 0 everywhere.
-fn clear_blocks(
-    records: &mut [u32],
-    coded: &mut [u64],
-    count: usize,
-    coefs: &mut [i16],
-    dc: &mut [i16],
-    lasts: &mut [u8],
-)
-    requires { ⌜ (count ≤ length (now coded)) × (count * 64 ≤ length (now coefs)) × (count ≤ length (now lasts)) × ZerosBehind (now coded) count (now coefs) (now lasts) ⌝ }
-    ensures { λ _. ⌜ (now (records .exit) ≡ replicate (length (now (records .entry))) 0) × (now (coded .exit) ≡ replicate (length (now (coded .entry))) 0) × (now (coefs .exit) ≡ replicate (length (now (coefs .entry))) (pos 0))
-        × (now (dc .exit) ≡ replicate (length (now (dc .entry))) (pos 0)) × (now (lasts .exit) ≡ replicate (length (now (lasts .entry))) 0) ⌝ }
-{
-    let blocks = records.len();
-    let values = dc.len();
-    buffer::clear_words(records, blocks);
-    buffer::clear_longs(coded, count);
-    buffer::clear_shorts(coefs, count * 64);
-    buffer::clear_shorts(dc, values);
-    buffer::clear_bytes(lasts, count);
-}
-
 // The frame of the coded blocks that are lent, which is previous where none is. What held them is 0 everywhere at last.
 pub fn make_frame(
     new: &mut [u8],
@@ -76,5 +54,5 @@ pub fn make_frame(
         w,
         h,
     );
-    clear_blocks(records, coded, count, coefs, dc, lasts);
+    block_clearing::clear_blocks(records, coded, count, coefs, dc, lasts);
 }

@@ -1,4 +1,4 @@
--- Packets that are joined together, and the list of their lengths.
+-- Packets that are joined together, the list of their lengths, and the list for their answers.
 use Prim.Native.Nat.{ℕ, _+_}
 use mathlib.Core.List.{List, [], _∷_}
 use lib.ListN.{take, drop}
@@ -12,3 +12,7 @@ packetsIn (n ∷ ns) joined = take n joined ∷ packetsIn ns (drop n joined)
 unfoldable pub total : List ℕ → ℕ
 total [] = 0
 total (n ∷ ns) = n + total ns
+
+-- "Packet answers go to a lent list": 8 numbers for each packet, those of the frame call
+abbrev pub answerSize : ℕ
+answerSize = 8

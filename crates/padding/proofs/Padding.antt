@@ -26,7 +26,7 @@ use Rattle.frame_header.specs.Header.{frameType, moreQis, qiList, reserved, kin
 use Rattle.frame_packet.specs.Frame.{Frame, frame, framePacket, repeatFrame}
 use Rattle.frame_packet.proofs.Laws.{frame-lawful, packet-some}
 use Rattle.reading.specs.Answer.{Asked, counted, readBy, read, answerFor}
-use Rattle.decoding.specs.Answer.{State, Done, Way, done, newBy}
+use Rattle.asked_frame.specs.Answer.{State, Done, Way, done, newBy}
 use Rattle.calls.specs.Call.{Call, lengthsHold, outcomeOf, memoryAfter, byRules}
 use Rattle.calls.specs.Demand.{turn, turns}
 use Rattle.padding.specs.Padding.{Settled, withMore, SettledCall, paddedBy, AllSettled, Left, leftIn, ListsPadded, PaddingHolds}

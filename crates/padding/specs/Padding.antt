@@ -6,7 +6,7 @@ use lib.ListN.{length}
 use Rattle.bitstream.specs.Reading.{Outcome, got, refused}
 use Rattle.headers.specs.Identification.{identification}
 use Rattle.setup.specs.Table.{setupOutcome, tableAfter}
-use Rattle.decoding.specs.Answer.{State, Done, Way}
+use Rattle.asked_frame.specs.Answer.{State, Done, Way}
 use Rattle.calls.specs.Call.{Call, call, outcomeOf, byRules, FramePromise}
 use Rattle.calls.specs.Demand.{Turn, turns}
 

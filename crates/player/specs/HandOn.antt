@@ -5,7 +5,7 @@ use mathlib.Core.List.{List}
 use Rattle.headers.specs.declared.Session.{Session}
 use Rattle.frame_header.specs.declared.Kind.{Kind}
 use Rattle.reading.specs.declared.Verdict.the-variants.{Accepted}
-use Rattle.decoding.specs.Answer.{state}
+use Rattle.asked_frame.specs.Answer.{state}
 use Rattle.calls.specs.Demand.{handedOn}
 
 -- after an accepted frame of a kind: golden and previous become what the rules hand on, whatever the session and the number of tokens

@@ -6,7 +6,7 @@ use mathlib.Core.List.{List, [], _∷_, _++_}
 use lib.ListN.{length, getD}
 use Rattle.huffman.specs.Tree.{Tree, leaf, Proper, nodesOf}
 use Rattle.quantization.specs.Layout.{laid}
-use Rattle.setup.proofs.Steps.{proper-padded}
+use Rattle.setup_trees.proofs.Loop.{proper-padded}
 use Rattle.setup.proofs.Held.{held-nodes, trees-whole}
 use Rattle.setup.specs.Header.{Setup}
 use Rattle.setup.specs.Loaded.{Holds}

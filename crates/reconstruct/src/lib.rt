@@ -1,5 +1,6 @@
 // The frame of the coded blocks that a packet asks for, made in the second way: previous whole, the coded blocks over it, then the loop filter.
 use block_record::Prediction;
+use block_walk::Band;
 use geometry::PixelFormat;
 ghost use mathlib.Core.Path.{_≡_};
 ghost use mathlib.Core.List.{map};
@@ -13,6 +14,7 @@ ghost use Rattle.transform.specs.Residual.{residual};
 ghost use Rattle.dc_prediction.specs.Planes.{predictedDc};
 ghost use Rattle.prediction.specs.Predicted.{summed};
 ghost use Rattle.ways.specs.Loops.{over};
+ghost use Rattle.block_walk.specs.Band.{InBand};
 ghost use Rattle.geometry.specs.Raster.{blockNo};
 ghost use Rattle.ways.specs.Ways.{firstWay};
 ghost use Rattle.reconstruct.specs.Picture.{gathered, typeOf, blockResidual, dcOf, sampleOf, pictureOf};
@@ -84,7 +86,7 @@ fn residual_of(
     transform::residual(coefs, k * 64, dc, last, q, &matrices[at..end], out);
 }
 
-// The coded block with raster number n and rank k.
+// The coded block with raster number n and rank k, which stands in the band.
 fn write_coded(
     new: &mut [u8],
     golden: &[u8],
@@ -94,17 +96,18 @@ fn write_coded(
     format: PixelFormat,
     w: u64,
     h: u64,
+    band: Band,
     n: u64,
     k: usize,
     packed: u32,
     dc: i16,
     last: u8,
 )
-    requires { ⌜ (w ≤ largest) × (h ≤ largest) × (n < blocksOf format w h) × InRange (unpacked packed) × ((k + 1) * 64 ≤ length (now coefs)) × (length (now matrices) ≡ 1152)
+    requires { ⌜ (w ≤ largest) × (h ≤ largest) × (n < blocksOf format w h) × InBand format w h band n × InRange (unpacked packed) × ((k + 1) * 64 ≤ length (now coefs)) × (length (now matrices) ≡ 1152)
         × (length (now new) ≡ 64 * blocksOf format w h) × (length (now golden) ≡ 64 * blocksOf format w h) × (length (now previous) ≡ 64 * blocksOf format w h) ⌝ }
     ensures { λ _. ⌜ now (new .exit) ≡ putBlock format w h (λ b. summed format w h (now (golden .entry)) (now (previous .entry)) (blockResidual (matrixIn (now (matrices .entry))) (now (coefs .entry)) k dc last (unpacked packed) (b .plane)) (unpacked packed .prediction) b) (blockNo format w h n) (now (new .entry)) ⌝ }
 {
-    let b = geometry::raster_block(format, w, h, n);
+    let b = block_walk::block_in(format, w, h, band, n);
     let r = block_record::unpack(packed);
     let p = r.prediction;
     let mut residual = [0i16; 64];
@@ -142,6 +145,12 @@ fn write_blocks(
         × (length (now dc) ≡ blocksOf format w h) × (length (now new) ≡ 64 * blocksOf format w h) × (length (now golden) ≡ 64 * blocksOf format w h) × (length (now previous) ≡ 64 * blocksOf format w h) ⌝ }
     ensures { λ _. ⌜ now (new .exit) ≡ over (map (blockNo format w h) (take count (now (coded .entry)))) (putBlock format w h (sampleOf format w h (blocksIn (now (records .entry)) (now (coded .entry)) count (now (coefs .entry)) (now (lasts .entry))) (matrixIn (now (matrices .entry))) (now (golden .entry)) (now (previous .entry)))) (now (new .entry)) ⌝ }
 {
+    let mut band = Band {
+        plane: 0,
+        y: 0,
+        first: 0,
+        end: 0,
+    };
     let mut k: usize = 0;
     while k < count {
         let n = coded[k];
@@ -149,6 +158,7 @@ fn write_blocks(
         let packed = records[i];
         let value = dc[i];
         let last = lasts[k];
+        band = block_walk::band_with(format, w, h, band, n);
         write_coded(
             new,
             golden,
@@ -158,6 +168,7 @@ fn write_blocks(
             format,
             w,
             h,
+            band,
             n,
             k,
             packed,

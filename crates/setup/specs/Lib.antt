@@ -1,4 +1,3 @@
 pub mod Header
-pub mod Answer
 pub mod Table
 pub mod Loaded

@@ -14,7 +14,8 @@ use Rattle.buffer_names.specs.declared.Names.{Names}
 use Rattle.shot.specs.declared.ShotAnswer.{ShotAnswer}
 use Rattle.shot.specs.declared.ShotVerdict.{ShotVerdict}
 use Rattle.shot.specs.declared.ShotVerdict.the-variants.{Played, Refused}
-use Rattle.shot.specs.Call.{ShotDone, shotCall, byShot}
+use Rattle.opening.specs.Call.{shotCall}
+use Rattle.shot.specs.Call.{ShotDone, byShot}
 use Rattle.shot_c.specs.Face.{namesIn, referenceNumber, sessionNumbers, Lists, lists, listsBy, listsAfter, ShotReturned, shotGives, doneReturned, shotFace}
 
 -- two numbers in a list of two

@@ -14,12 +14,13 @@ use Rattle.headers.specs.declared.Session.{Session}
 use Rattle.session_list.specs.List.{sessionOf}
 use Rattle.ways.specs.Ways.{firstWay}
 use Rattle.work_memory.specs.Memory.{Memory}
-use Rattle.decoding.specs.Answer.{Way}
+use Rattle.asked_frame.specs.Answer.{Way}
 use Rattle.calls.specs.Call.{Call, outcomeOf, byRules}
 use Rattle.packet_list.specs.Packets.{packetsIn}
 use Rattle.shot_packets.specs.Play.{Shot, stateOf, callOf, after, oneMore, played}
 use Rattle.shot_packets.proofs.Rules.{answer-fields}
-use Rattle.shot.specs.Call.{ShotCall, ShotDone, shotCall, shotNumber, startOf, ended, unchanged, byShot}
+use Rattle.opening.specs.Call.{ShotCall, shotCall, shotNumber}
+use Rattle.shot.specs.Call.{ShotDone, startOf, ended, unchanged, byShot}
 use Rattle.shot_c.specs.Face.{namesIn, referenceNumber, sessionNumbers, ShotReturned, doneReturned, shotFace, ListsSay}
 
 -- ---- packets change no field of the session

@@ -15,7 +15,8 @@ use Rattle.buffer_names.specs.declared.Names.{Names}
 use Rattle.shot.specs.declared.ShotAnswer.{ShotAnswer}
 use Rattle.shot.specs.declared.ShotVerdict.{ShotVerdict}
 use Rattle.shot.specs.declared.ShotVerdict.the-variants.{Played, Refused}
-use Rattle.shot.specs.Call.{ShotDone, shotCall, byShot}
+use Rattle.opening.specs.Call.{shotCall}
+use Rattle.shot.specs.Call.{ShotDone, byShot}
 
 -- the names of golden and previous as 2 numbers
 abbrev pub namesIn : List ℕ → Names

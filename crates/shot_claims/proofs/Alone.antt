@@ -33,7 +33,7 @@ use Rattle.ways.proofs.Where.{Within, each-sample-at, samples-length}
 use Rattle.reconstruct.specs.Picture.{Blocks, Matrices, recordOf, residualOf, sampleOf, pictureOf}
 use Rattle.work_memory.specs.Lengths.{blocks, lengthsOf, lengthsFit, cleared}
 use Rattle.reading.specs.Answer.{Asked, read, answerFor}
-use Rattle.decoding.specs.Answer.{State, state, done, blocksAsked, matricesAsked, qiAt, picture, newBy}
+use Rattle.asked_frame.specs.Answer.{State, state, done, blocksAsked, matricesAsked, qiAt, picture, newBy}
 use Rattle.calls.specs.Lengths.{buffersFit}
 use Rattle.calls.specs.Call.{Call, lengthsHold, outcomeOf, memoryAfter, byRules}
 use Rattle.calls.proofs.Tokens.{outcome-got}

@@ -8,16 +8,16 @@ use lib.Dec.{eqb, leb}
 use lib.ListN.{length, drop}
 use borrow.Author.Tests.{eqb-true, eqb-false, leb-false, lt-leb}
 use Rattle.setup.specs.Table.{isTable}
-use Rattle.decoding.specs.Answer.{State, Done}
+use Rattle.asked_frame.specs.Answer.{State, Done}
 use Rattle.calls.specs.Call.{Call, byRules}
 use Rattle.padding.proofs.Padding.{padding-holds}
 use Rattle.packet_list.specs.Packets.{packetsIn, total}
 use Rattle.packet_list.proofs.Cut.{packets-cut}
 use Rattle.shot_packets.specs.Play.{Shot, stateOf, callOf, after, oneMore, played}
 use Rattle.shot_packets.proofs.Cut.{shot-none, shot-one, shot-cut}
-use Rattle.shot.specs.Call.{ShotCall, reaches, lentNumber, shotNumber}
+use Rattle.opening.specs.Call.{ShotCall, reaches, lentNumber, shotNumber}
 use Rattle.shot_claims.specs.Claims.{Cuts, SixteenExactly, paddedBy, AllSettled, ShotsPadded}
-use Rattle.shot.proofs.Calls.{lent-few, number-lent, number-table, number-16, number-0}
+use Rattle.opening.proofs.Calls.{lent-few, number-lent, number-table, number-16, number-0}
 
 pub cuts : (does : State → Call → Done) (table : List ℕ) (h : Shot) → Cuts does table h
 cuts does table h = record {

@@ -2,15 +2,13 @@
 use Prim.Native.Nat.{ℕ}
 use native.Mathlib.Omega.{arith}
 use mathlib.Core.Path.{_≡_, refl, sym, ap, ap₂, _∙_, fun-ext}
-use mathlib.Core.Bool.{Bool, true, false}
 use mathlib.Core.List.{List, [], _∷_, _++_, map, append-nil, append-assoc}
 use lib.Dec.{eqb}
-use borrow.Author.Tests.{eqb-true, eqb-false}
 use lib.ListN.{length}
 use Rattle.bitstream.specs.Reading.{choose}
 use Rattle.ways.specs.Ways.{firstWay}
 use Rattle.reading.specs.declared.FrameAnswer.{FrameAnswer}
-use Rattle.decoding.specs.Answer.{State, Done, Way}
+use Rattle.asked_frame.specs.Answer.{State, Done, Way}
 use Rattle.calls.specs.Call.{Call, byRules}
 use Rattle.calls.specs.Demand.{turns}
 use Rattle.calls.proofs.Demand.{call-agrees, demand3}
@@ -19,9 +17,10 @@ use Rattle.buffer_names.specs.Names.{Sound}
 use Rattle.buffer_names.proofs.First.{sound-first}
 use Rattle.shot_packets.specs.Play.{Shot, stateOf, callOf, after, oneMore, played}
 use Rattle.shot_packets.proofs.Rules.{state-handed, three-after, sound-after}
-use Rattle.shot.specs.Call.{ShotCall, ShotDone, lentNumber, shotNumber, startOf, ended, unchanged, byShot}
+use Rattle.opening.specs.Call.{ShotCall, shotNumber}
+use Rattle.shot.specs.Call.{ShotDone, startOf, ended, unchanged, byShot}
 use Rattle.shot_claims.specs.Claims.{callsOf, shotsOf, answerOf, afterOf, InTurns, ShotTurns}
-use Rattle.shot.proofs.Calls.{passes, number-lent}
+use Rattle.opening.proofs.Calls.{passes, accepted}
 
 module _ (way : Way) (table : List ℕ) where
   states : (h : Shot) → length (h .planes) ≡ 3 → Sound (h .session) (h .names) → (ps : List (List ℕ))
@@ -48,19 +47,11 @@ module _ (way : Way) (table : List ℕ) where
       ∙ append-assoc (h .answers) (d .answer ∷ []) _
       ∙ ap (λ (st : State). h .answers ++ (d .answer ∷ map answerOf (turns (byRules way) st (callsOf (byRules way) table (after h d) ps)))) e
 
--- a call that is not refused passed the tests of what is lent
-pub accepted-passed : (c : ShotCall) → shotNumber c ≡ 0 → lentNumber c ≡ 0
-accepted-passed c h = go (eqb (lentNumber c) 0) refl
-  where
-    go : (b : Bool) → eqb (lentNumber c) 0 ≡ b → lentNumber c ≡ 0
-    go true e = eqb-true (lentNumber c) 0 e
-    go false e = sym (number-lent c (eqb-false (lentNumber c) 0 e)) ∙ h
-
 pub shot-turns : (c : ShotCall) → ShotTurns c
 unfolding byShot
 shot-turns c = record {
   in-turns = λ h three way.
-      let sound = sound-first (c .session) (c .names) (passes c (accepted-passed c h) .2) in
+      let sound = sound-first (c .session) (c .names) (passes c (accepted c h .0) .2) in
       let ps = packetsIn (c .lengths) (c .joined) in
       record { answers = answers way (c .table) (startOf c) three sound ps; states = states way (c .table) (startOf c) three sound ps };
   demand3 = demand3 (stateOf (startOf c)) (callsOf (byRules firstWay) (c .table) (startOf c) (packetsIn (c .lengths) (c .joined)));

@@ -9,13 +9,14 @@ use Rattle.headers.specs.declared.Session.{Session}
 use Rattle.setup.specs.Table.{isTable}
 use Rattle.ways.specs.Ways.{firstWay, secondWay}
 use Rattle.reading.specs.declared.FrameAnswer.{FrameAnswer}
-use Rattle.decoding.specs.Answer.{State, Done, Way, state}
+use Rattle.asked_frame.specs.Answer.{State, Done, Way, state}
 use Rattle.calls.specs.Call.{Call, byRules}
 use Rattle.calls.specs.Demand.{Turn, turns, Demand3}
 use Rattle.padding.specs.Padding.{SettledCall}
 use Rattle.packet_list.specs.Packets.{packetsIn, total}
 use Rattle.shot_packets.specs.Play.{Shot, stateOf, callOf, after, oneMore, played}
-use Rattle.shot.specs.Call.{ShotCall, lentNumber, shotNumber, startOf, ended, byShot}
+use Rattle.opening.specs.Call.{ShotCall, lentNumber, shotNumber}
+use Rattle.shot.specs.Call.{startOf, ended, byShot}
 
 -- ---- a shot as a list of calls, in demand 3's sense
 -- the calls that a shot makes, and the shot after each of them

@@ -15,12 +15,12 @@ use Rattle.settings.specs.declared.Settings.{Settings}
 use Rattle.settings.specs.Settings.{settingsFit}
 use Rattle.ways.specs.Ways.{firstWay}
 use Rattle.reading.specs.Answer.{Asked}
-use Rattle.decoding.specs.Answer.{State}
+use Rattle.asked_frame.specs.Answer.{State}
 use Rattle.calls.specs.Call.{Call, outcomeOf, byRules}
 use Rattle.shot_packets.specs.Play.{Shot, stateOf, callOf, oneMore, played}
-use Rattle.changed_tiles.specs.Call.{mapLengthOf, mapFits, tilesCall}
-use Rattle.changed_tiles.proofs.Calls.{map-here, map-any}
-use Rattle.changed_tiles.proofs.Said.{zero-or-one, map-is-left}
+use Rattle.tile_calls.specs.Call.{mapLengthOf, mapFits, tilesCall}
+use Rattle.tile_calls.proofs.Calls.{map-here, map-any}
+use Rattle.tile_calls.proofs.Said.{zero-or-one, map-is-left}
 use Rattle.shot_maps.specs.Maps.{mapOf, mapsAfter}
 use Rattle.shot_maps.proofs.Maps.{long-after}
 

@@ -16,7 +16,7 @@ use Rattle.reading.specs.declared.Verdict.{Verdict}
 use Rattle.reading.specs.declared.Verdict.the-variants.{Accepted, Refused}
 use Rattle.frame_into.specs.Buffers.{bufferOf}
 use Rattle.frame_into.proofs.Lent.{big}
-use Rattle.changed_tiles.specs.Call.{mapLengthOf, IfAccepted}
+use Rattle.tile_calls.specs.Call.{mapLengthOf, IfAccepted}
 use Rattle.shot_maps.specs.Maps.{mapsFit, mapsNumber}
 
 -- ---- so many bytes are so many maps

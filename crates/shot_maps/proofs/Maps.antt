@@ -1,5 +1,5 @@
 -- The maps of a shot that is being played, and maps that are cut. Assumes nothing.
-use Prim.Native.Nat.{ℕ, zero, suc, _+_, _*_, _≤_, _<_}
+use Prim.Native.Nat.{ℕ, zero, suc, _+_, _-_, _*_, _≤_, _<_}
 use native.Mathlib.Nat.{mul-suc}
 use native.Mathlib.Numerals.{add-one}
 use native.Mathlib.Omega.{arith}
@@ -19,7 +19,7 @@ use Rattle.work_memory.specs.Memory.{Memory}
 use Rattle.reading.specs.declared.FrameAnswer.{FrameAnswer}
 use Rattle.reading.specs.declared.Verdict.{Verdict}
 use Rattle.reading.specs.declared.Verdict.the-variants.{Refused}
-use Rattle.decoding.specs.Answer.{State, Done, Way}
+use Rattle.asked_frame.specs.Answer.{State, Done, Way}
 use Rattle.calls.specs.Call.{Call, outcomeOf, byRules}
 use Rattle.packet_list.specs.Packets.{packetsIn}
 use Rattle.packet_list.proofs.Walk.{packets-left, packets-none}
@@ -29,8 +29,8 @@ use Rattle.buffer_names.proofs.Free.{free-is}
 use Rattle.frame_into.specs.Buffers.{bufferOf, index}
 use Rattle.shot_packets.specs.Play.{Shot, shot, stateOf, callOf, after, oneMore, played}
 use Rattle.shot_packets.proofs.Rules.{answer-fields, apart}
-use Rattle.changed_tiles.specs.Call.{mapLengthOf, mapFits, mapAfter, refusedBy, frameFor, tilesCall}
-use Rattle.changed_tiles.proofs.Calls.{map-here}
+use Rattle.tile_calls.specs.Call.{mapLengthOf, mapFits, mapAfter, refusedBy, frameFor, tilesCall}
+use Rattle.tile_calls.proofs.Calls.{map-here}
 use Rattle.shot_maps.specs.Maps.{mapOf, mapsAfter, withPart}
 use Rattle.shot_maps.proofs.Parts.{part-ends}
 
@@ -138,8 +138,11 @@ module _ (st : Settings) (table lengths packets : List ℕ) (start : Shot) (maps
     maps-same e = g .size ∙ ap (λ (k : ℕ). k * length lengths) (g .same-long) ∙ sym e
 
     -- one more
-    module _ (sound : Sound s n) (fits : sessionFits s ≡ true) (fit : settingsFit st ≡ true) (l : i < length lengths) (part : List ℕ) (ep : part ≡ take (getD lengths i 0) (drop at packets))
-        (a : FrameAnswer) (x′ y′ z′ : List ℕ) (n′ : Names) (m′ : Memory) (e : shot (a .session) (x′ ∷ y′ ∷ z′ ∷ []) n′ m′ (a ∷ []) ≡ oneMore (byRules firstWay) table (shot s (x ∷ y ∷ z ∷ []) n m []) part) where
+    module _ (sound : Sound s n) (fits : sessionFits s ≡ true) (fit : settingsFit st ≡ true) (l : i < length lengths) (end : ℕ) (ends : end ≡ at + getD lengths i 0)
+        (a : FrameAnswer) (x′ y′ z′ : List ℕ) (n′ : Names) (m′ : Memory) (e : shot (a .session) (x′ ∷ y′ ∷ z′ ∷ []) n′ m′ (a ∷ []) ≡ oneMore (byRules firstWay) table (shot s (x ∷ y ∷ z ∷ []) n m []) (take (end - at) (drop at packets))) where
+      abbrev part : List ℕ
+      part = take (end - at) (drop at packets)
+
       abbrev begun : Shot
       begun = shot s (x ∷ y ∷ z ∷ []) n m []
 
@@ -153,13 +156,13 @@ module _ (st : Settings) (table lengths packets : List ℕ) (start : Shot) (maps
       same = ap (λ (h : Shot). mapLengthOf st (h .session)) e ∙ long-after st table begun part
 
       pub maps-on : (maps′ : List ℕ) → maps′ ≡ withPart k i (mapAfter st s (a .verdict) (bufferOf planes (n .previous)) (bufferOf planes (free n))) maps → length maps′ ≡ length maps
-          → MapsGoing st table lengths packets start maps₀ (a .session) x′ y′ z′ n′ m′ maps′ (at + getD lengths i 0) (i + 1)
+          → MapsGoing st table lengths packets start maps₀ (a .session) x′ y′ z′ n′ m′ maps′ end (i + 1)
       unfolding mapsAfter
       maps-on maps′ em hm =
           let front = take (k * i) maps in
           let behind = drop (k * i + k) maps in
           let new = mapOf st table begun part (take k (drop (k * i) maps)) in
-          let ps = packetsIn (drop (i + 1) lengths) (drop (at + getD lengths i 0) packets) in
+          let ps = packetsIn (drop (i + 1) lengths) (drop end packets) in
           let q : maps′ ≡ front ++ (new ++ behind) = em ∙ ap (λ (p : List ℕ). front ++ (p ++ behind)) (packet-map st table s x y z n m sound fits fit part a planes n′ m′ e (take k (drop (k * i) maps)) old-long) in
           let lf : length front ≡ k * i = length-take-le (k * i) maps (omega (arith, map-ends l)) in
           let lb = length-drop (k * i + k) maps in
@@ -176,8 +179,7 @@ module _ (st : Settings) (table lengths packets : List ℕ) (start : Shot) (maps
                 ∙ ap (λ (l : List ℕ). take (k * (i + 1)) maps′ ++ l) (any-answers st table (a .session) planes n′ m′ [] (a ∷ []) ps (drop (k * (i + 1)) maps′))
                 ∙ (λ j. et j ++ mapsAfter st table (e j) ps (ed j))
                 ∙ append-assoc front new (mapsAfter st table (oneMore (byRules firstWay) table begun part) ps (drop k (drop (k * i) maps)))
-                ∙ ap (λ (p : List ℕ). front ++ mapsAfter st table begun (p ∷ ps) (drop (k * i) maps)) ep
-                ∙ ap (λ (qs : List (List ℕ)). front ++ mapsAfter st table begun qs (drop (k * i) maps)) (sym (packets-left lengths packets i at l))
+                ∙ ap (λ (qs : List (List ℕ)). front ++ mapsAfter st table begun qs (drop (k * i) maps)) (sym (packets-left lengths packets i at end l ends))
                 ∙ g .rest;
           }
 

@@ -13,7 +13,7 @@ use Rattle.settings.specs.Settings.{settingsFit}
 use Rattle.ways.specs.Ways.{firstWay}
 use Rattle.calls.specs.Call.{byRules}
 use Rattle.shot_packets.specs.Play.{Shot, stateOf, callOf, oneMore}
-use Rattle.changed_tiles.specs.Call.{mapLengthOf, tilesCall}
+use Rattle.tile_calls.specs.Call.{mapLengthOf, tilesCall}
 
 -- "a map of another length, which is 1 like the other lengths": behind the identification part of 8, with which the shot call begins
 unfoldable pub mapsFit : Settings → Session → (packets maps : ℕ) → Bool

@@ -9,9 +9,10 @@ use Rattle.reading.specs.declared.FrameAnswer.{FrameAnswer}
 use Rattle.reading.specs.declared.Verdict.{Verdict}
 use Rattle.reading.specs.declared.Verdict.the-variants.{Accepted, Refused}
 use Rattle.reading.specs.Answer.{answerNumbers}
-use Rattle.decoding.specs.Answer.{State, Done}
+use Rattle.asked_frame.specs.Answer.{State, Done}
 use Rattle.calls.specs.Call.{Call}
-use Rattle.shot_packets.specs.Play.{Shot, stateOf, callOf, after, oneMore, played, answerSize, numbersOf, allNumbers}
+use Rattle.packet_list.specs.Packets.{answerSize}
+use Rattle.shot_packets.specs.Play.{Shot, stateOf, callOf, after, oneMore, played, numbersOf, allNumbers}
 
 module _ (does : State → Call → Done) (table : List ℕ) where
   -- "An empty list changes nothing"

@@ -1,5 +1,5 @@
 -- The packets of a shot, one after the other. Assumes nothing.
-use Prim.Native.Nat.{ℕ, zero, suc, _+_, _*_, _≤_, _<_}
+use Prim.Native.Nat.{ℕ, zero, suc, _+_, _-_, _*_, _≤_, _<_}
 use native.Mathlib.Omega.{arith}
 use mathlib.Core.Path.{_≡_, refl, sym, ap, _∙_, subst}
 use mathlib.Core.Bool.{true}
@@ -13,15 +13,15 @@ use Rattle.ways.specs.Ways.{firstWay}
 use Rattle.work_memory.specs.Memory.{Memory}
 use Rattle.work_memory.specs.Lengths.{blocks, lengthsOf, lengthsFit, cleared}
 use Rattle.reading.specs.declared.FrameAnswer.{FrameAnswer}
-use Rattle.decoding.specs.Answer.{Done}
+use Rattle.asked_frame.specs.Answer.{Done}
 use Rattle.calls.specs.Call.{outcomeOf, lengthsHold, byRules}
 use Rattle.calls.proofs.Tokens.{outcome-got}
-use Rattle.packet_list.specs.Packets.{packetsIn, total}
+use Rattle.packet_list.specs.Packets.{packetsIn, total, answerSize}
 use Rattle.packet_list.proofs.Walk.{total-drop, packets-left, packets-none}
 use Rattle.buffer_names.specs.declared.Names.{Names}
 use Rattle.buffer_names.specs.Names.{free, Sound}
 use Rattle.buffer_names.proofs.Free.{free-is}
-use Rattle.shot_packets.specs.Play.{Shot, shot, stateOf, callOf, oneMore, played, answerSize, numbersOf, allNumbers}
+use Rattle.shot_packets.specs.Play.{Shot, shot, stateOf, callOf, oneMore, played, numbersOf, allNumbers}
 use Rattle.shot_packets.specs.Inner.{PlaysAll}
 use Rattle.shot_packets.proofs.Cut.{numbers-more, numbers-first}
 use Rattle.shot_packets.proofs.Rules.{sound-after, session-kept, by-decoded}
@@ -107,22 +107,22 @@ module _ (table lengths packets : List ℕ) (s₀ : Session) (n₀ : Names) (m�
         }
 
     -- one more
-    module _ (l : i < length lengths) (part : List ℕ) (ep : part ≡ take (getD lengths i 0) (drop at packets)) (a : FrameAnswer) (x′ y′ z′ : List ℕ) (n′ : Names) (m′ : Memory)
-        (e : (answers : List FrameAnswer) → shot (a .session) (x′ ∷ y′ ∷ z′ ∷ []) n′ m′ (answers ++ (a ∷ [])) ≡ oneMore (byRules firstWay) table (shot s (x ∷ y ∷ z ∷ []) n m answers) part)
+    module _ (l : i < length lengths) (end : ℕ) (ends : end ≡ at + getD lengths i 0) (a : FrameAnswer) (x′ y′ z′ : List ℕ) (n′ : Names) (m′ : Memory)
+        (e : (answers : List FrameAnswer) → shot (a .session) (x′ ∷ y′ ∷ z′ ∷ []) n′ m′ (answers ++ (a ∷ [])) ≡ oneMore (byRules firstWay) table (shot s (x ∷ y ∷ z ∷ []) n m answers) (take (end - at) (drop at packets)))
         (hx : length x′ ≡ length x) (hy : length y′ ≡ length y) (hz : length z′ ≡ length z) where
       abbrev kept : (sessionFits (a .session) ≡ true) × (cleared (lengthsOf (a .session)) ≡ cleared (lengthsOf s)) × (blocks (a .session) ≡ blocks s) × Sound (a .session) n′ × (m′ ≡ cleared (lengthsOf s))
       kept = subst (λ (t : Shot). (sessionFits (t .session) ≡ true) × (cleared (lengthsOf (t .session)) ≡ cleared (lengthsOf s)) × (blocks (t .session) ≡ blocks s) × Sound (t .session) (t .names) × (t .memory ≡ cleared (lengthsOf s))) (sym (e (g .answers)))
-          (more-kept s (g .fits) x y z n (g .sound) m (g .work) table part ht (g .long-first) (g .long-second) (g .long-third) (g .answers))
+          (more-kept s (g .fits) x y z n (g .sound) m (g .work) table (take (end - at) (drop at packets)) ht (g .long-first) (g .long-second) (g .long-third) (g .answers))
 
       pub going-on : (numbers′ behind : List ℕ) → numbers′ ≡ take (8 * i) numbers ++ (numbersOf a ++ behind) → length numbers′ ≡ length numbers
-          → Going table lengths packets s₀ planes₀ n₀ m₀ (a .session) x′ y′ z′ n′ m′ numbers′ (at + getD lengths i 0) (i + 1)
+          → Going table lengths packets s₀ planes₀ n₀ m₀ (a .session) x′ y′ z′ n′ m′ numbers′ end (i + 1)
       unfolding played
       going-on numbers′ behind en hn =
           let k = kept in
           let size : 64 * blocks s ≡ 64 * blocks (a .session) = ap (λ (n : ℕ). 64 * n) (sym (k .2)) in
           record {
             few = omega arith;
-            room = omega (arith, total-drop lengths i l, g .room);
+            room = omega (arith, total-drop lengths i l, g .room, ends);
             fits = k .0;
             sound = k .3;
             work = k .4 ∙ sym (k .1);
@@ -133,9 +133,8 @@ module _ (table lengths packets : List ℕ) (s₀ : Session) (n₀ : Names) (m�
             same-blocks = k .2 ∙ g .same-blocks;
             size = hn ∙ g .size;
             answers = g .answers ++ (a ∷ []);
-            rest = ap (λ (h : Shot). played (byRules firstWay) table h (packetsIn (drop (i + 1) lengths) (drop (at + getD lengths i 0) packets)))
-                (e (g .answers) ∙ ap (oneMore (byRules firstWay) table (shot s (x ∷ y ∷ z ∷ []) n m (g .answers))) ep)
-                ∙ sym (ap (played (byRules firstWay) table (shot s (x ∷ y ∷ z ∷ []) n m (g .answers))) (packets-left lengths packets i at l)) ∙ g .rest;
+            rest = ap (λ (h : Shot). played (byRules firstWay) table h (packetsIn (drop (i + 1) lengths) (drop end packets))) (e (g .answers))
+                ∙ sym (ap (played (byRules firstWay) table (shot s (x ∷ y ∷ z ∷ []) n m (g .answers))) (packets-left lengths packets i at end l ends)) ∙ g .rest;
             stored = stored-more;
           }
         where

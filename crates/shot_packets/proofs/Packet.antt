@@ -23,7 +23,7 @@ use Rattle.reading.specs.declared.FrameAnswer.{FrameAnswer}
 use Rattle.reading.specs.Answer.{readBy, read}
 use Rattle.reading.proofs.Readable.{read-readable}
 use Rattle.decoding.specs.declared.Prepared.{Prepared}
-use Rattle.decoding.specs.Answer.{Done, state, done, decoded}
+use Rattle.asked_frame.specs.Answer.{Done, state, done, decoded}
 use Rattle.decoding.specs.Ready.{Ready}
 use Rattle.decoding.proofs.Answers.{decoded-by}
 use Rattle.calls.specs.Lengths.{buffersFit}

@@ -32,7 +32,7 @@ use Rattle.reading.specs.declared.Verdict.the-variants.{Accepted, Refused}
 use Rattle.reading.specs.Answer.{Asked, staysCounted, read, sessionAfter, answerFor}
 use Rattle.reading.proofs.Counted.{fits-after}
 use Rattle.reading.proofs.Places.{outcome-by}
-use Rattle.decoding.specs.Answer.{State, Done, Way, state, done, newBy, decoded}
+use Rattle.asked_frame.specs.Answer.{State, Done, Way, state, done, newBy, decoded}
 use Rattle.calls.specs.Call.{Call, call, lengthsHold, outcomeOf, memoryAfter, byRules}
 use Rattle.calls.specs.Demand.{handedOn}
 use Rattle.calls.proofs.Tokens.{outcome-got}

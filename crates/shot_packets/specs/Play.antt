@@ -6,7 +6,7 @@ use Rattle.headers.specs.declared.Session.{Session}
 use Rattle.work_memory.specs.Memory.{Memory}
 use Rattle.reading.specs.declared.FrameAnswer.{FrameAnswer}
 use Rattle.reading.specs.Answer.{answerNumbers}
-use Rattle.decoding.specs.Answer.{State, Done, state}
+use Rattle.asked_frame.specs.Answer.{State, Done, state}
 use Rattle.calls.specs.Call.{Call, call}
 use Rattle.buffer_names.specs.declared.Names.{Names}
 use Rattle.buffer_names.specs.Names.{free, namesAfter}
@@ -44,10 +44,6 @@ oneMore does table h packet = after h (does (stateOf h) (callOf table h packet))
 unfoldable pub played : (State → Call → Done) → (table : List ℕ) → Shot → List (List ℕ) → Shot
 played does table h [] = h
 played does table h (p ∷ ps) = played does table (oneMore does table h p) ps
-
--- "Packet answers go to a lent list": 8 numbers for each packet, those of the frame call
-abbrev pub answerSize : ℕ
-answerSize = 8
 
 abbrev pub numbersOf : FrameAnswer → List ℕ
 numbersOf a = answerNumbers (a .verdict) (a .header)

@@ -16,9 +16,9 @@ ghost use Rattle.work_memory.specs.Memory.{memory};
 ghost use Rattle.work_memory.specs.Lengths.{blocks, lengthsOf, cleared};
 ghost use Rattle.reading.specs.declared.FrameAnswer.{FrameAnswer};
 ghost use Rattle.calls.specs.Call.{byRules};
-ghost use Rattle.packet_list.specs.Packets.{total, packetsIn};
+ghost use Rattle.packet_list.specs.Packets.{total, packetsIn, answerSize};
 ghost use Rattle.buffer_names.specs.Names.{namesAfter, Sound};
-ghost use Rattle.shot_packets.specs.Play.{shot, oneMore, answerSize};
+ghost use Rattle.shot_packets.specs.Play.{shot, oneMore};
 ghost use Rattle.shot_packets.specs.Inner.{TableLoaded, PlaysAll};
 
 // What one packet answers, the names after it, and the matrices that are kept.
@@ -98,10 +98,7 @@ pub fn play_packet(
         s.fields.fmbh,
     );
     let answer = ready.answer;
-    let verdict = answer.verdict;
-    let header = answer.header;
-    let kind = header.kind;
-    let after = buffer_names::names_after(names, free, verdict, kind);
+    let after = buffer_names::after_packet(names, answer);
     Played {
         answer,
         names: after,
@@ -151,8 +148,7 @@ pub fn play_packets(
     let mut at: usize = 0;
     let mut i: usize = 0;
     while i < lengths.len() {
-        let n = lengths[i] as usize;
-        let end = at + n;
+        let end = packet_list::packet_end(lengths, i, at);
         let played = play_packet(
             session,
             both,

@@ -14,7 +14,7 @@ use denote.Ref.{now}
 use denote.Triple.Entry.{Args, Res}
 use denote.Triple.Clauses.{AtExit}
 use Rattle.work_memory.specs.Memory.{memory}
-use Rattle.decoding.specs.Answer.{State, Done, state, done}
+use Rattle.asked_frame.specs.Answer.{State, Done, state, done}
 use Rattle.calls.specs.Call.{Call, call, FramePromise}
 use Rattle.theora.proofs.frame as frame
 

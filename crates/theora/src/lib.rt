@@ -1,4 +1,5 @@
 // The public face of the decoder: the two headers, the sizes, and the frame call. No call asks anything of what is handed in.
+use calls::Room;
 use headers::IdentificationAnswer;
 use headers::Session;
 use headers::SizesAnswer;
@@ -11,7 +12,7 @@ ghost use Rattle.headers.specs.Identification.{identification, asIdentification
 ghost use Rattle.headers.specs.Sizes.{sessionSizes};
 ghost use Rattle.setup.specs.Table.{setupOutcome, asSetupAnswer, tableAfter};
 ghost use Rattle.work_memory.specs.Memory.{memory};
-ghost use Rattle.decoding.specs.Answer.{state, done};
+ghost use Rattle.asked_frame.specs.Answer.{state, done};
 ghost use Rattle.calls.specs.Call.{call, FramePromise};
 ghost use Rattle.theora.specs.Lengths.{workLengths};
 
@@ -77,55 +78,53 @@ pub fn frame(
         (call (now (packet .entry)) (now (table .entry)) (memory (now (records .entry)) (now (coded .entry)) (now (coefs .entry)) (now (dc .entry)) (now (lasts .entry)) (now (flags .entry)) (now (bits .entry)) (now (supers .entry)) (now (modes .entry)) (now (active .entry))) (now (new .entry)))
         (done r (now (new .exit)) (memory (now (records .exit)) (now (coded .exit)) (now (coefs .exit)) (now (dc .exit)) (now (lasts .exit)) (now (flags .exit)) (now (bits .exit)) (now (supers .exit)) (now (modes .exit)) (now (active .exit)))) ⌝ }
 {
-    if headers::session_fits(s) {
-        let l = work_memory::lengths_of(s);
-        let buffers = calls::buffers_fit(l.records, golden, previous, new, table);
-        let slices = work_memory::lengths_fit(
-            l,
-            records,
-            coded,
-            coefs,
-            dc,
-            lasts,
-            flags,
-            bits,
-            supers,
-            modes,
-            active,
-        );
-        if buffers & slices {
-            work_memory::clear_memory(
-                records,
-                coded,
-                coefs,
-                dc,
-                lasts,
-                flags,
-                bits,
-                supers,
-                modes,
-                active,
-            );
-            return decoding::decode(
-                s,
-                bitstream::readable(packet),
-                table,
-                records,
-                coded,
-                coefs,
-                dc,
-                lasts,
-                flags,
-                bits,
-                supers,
-                modes,
-                active,
-                golden,
-                previous,
-                new,
-            );
-        }
-        return reading::refusal(bitstream::WRONG_LENGTH, 0, s);
+    let room = Room {
+        records: records.len(),
+        coded: coded.len(),
+        coefs: coefs.len(),
+        dc: dc.len(),
+        lasts: lasts.len(),
+        flags: flags.len(),
+        bits: bits.len(),
+        supers: supers.len(),
+        modes: modes.len(),
+        active: active.len(),
+        first: golden.len(),
+        second: previous.len(),
+        third: new.len(),
+    };
+    let k = calls::lent_number(s, table.len(), room);
+    if k != 0 {
+        return reading::refusal(k, 0, s);
     }
-    reading::refusal(bitstream::NOT_GENUINE, 0, s)
+    work_memory::clear_memory(
+        records,
+        coded,
+        coefs,
+        dc,
+        lasts,
+        flags,
+        bits,
+        supers,
+        modes,
+        active,
+    );
+    decoding::decode(
+        s,
+        bitstream::readable(packet),
+        table,
+        records,
+        coded,
+        coefs,
+        dc,
+        lasts,
+        flags,
+        bits,
+        supers,
+        modes,
+        active,
+        golden,
+        previous,
+        new,
+    )
 }

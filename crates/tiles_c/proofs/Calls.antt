@@ -12,14 +12,14 @@ use Rattle.headers.specs.declared.Session.{Session}
 use Rattle.settings.specs.declared.Settings.{Settings}
 use Rattle.settings.specs.Settings.{settingsFit}
 use Rattle.settings_list.specs.List.{settingsOf}
-use Rattle.decoding.specs.Answer.{Done, state}
+use Rattle.asked_frame.specs.Answer.{Done, state}
 use Rattle.calls.specs.Call.{Call}
 use Rattle.session_list.specs.List.{Returned, gives, sessionOf, listsNumber, Answered, answers}
 use Rattle.frame_c.specs.Face.{frameGives}
-use Rattle.answer_lists.specs.FrameLists.{verdictReturned}
+use Rattle.frame_lists.specs.FrameLists.{verdictReturned}
 use Rattle.session_list.proofs.Lists.{lengths}
-use Rattle.changed_tiles.specs.declared.MapLength.{MapLength}
-use Rattle.changed_tiles.specs.Call.{lengthFor, TilesDone, tilesCall}
+use Rattle.tile_calls.specs.declared.MapLength.{MapLength}
+use Rattle.tile_calls.specs.Call.{lengthFor, TilesDone, tilesCall}
 use Rattle.tiles_c.specs.Face.{tilesNumber, lengthReturned, lengthCall, tilesGives, tilesFrameCall}
 
 -- ---- by what the lists are refused

@@ -10,9 +10,9 @@ use Rattle.settings_list.specs.List.{settingsOf}
 use Rattle.calls.specs.Call.{Call}
 use Rattle.session_list.specs.List.{Returned, gives, sessionOf, listsNumber, answers}
 use Rattle.frame_c.specs.Face.{FrameReturned, frameGives, stateOf, doneReturned}
-use Rattle.changed_tiles.specs.declared.MapLength.{MapLength}
-use Rattle.changed_tiles.specs.declared.MapLength.the-variants.{Is, Refused}
-use Rattle.changed_tiles.specs.Call.{lengthFor, tilesCall}
+use Rattle.tile_calls.specs.declared.MapLength.{MapLength}
+use Rattle.tile_calls.specs.declared.MapLength.the-variants.{Is, Refused}
+use Rattle.tile_calls.specs.Call.{lengthFor, tilesCall}
 
 -- by what the lists are refused, 0 if by nothing: "20 before all other checks" that can be made on a list of 4 numbers
 unfoldable pub tilesNumber : (wanted : ℕ) (settings session : List ℕ) (room : ℕ) → ℕ

@@ -1,5 +1,5 @@
 // The face of `changed_tiles` for C and other languages: include/wedgepetal.h says what each call is for.
-use changed_tiles::MapLength;
+use tile_calls::MapLength;
 ghost use mathlib.Core.Path.{_≡_};
 ghost use lib.ListN.{length};
 ghost use Rattle.work_memory.specs.Memory.{memory};
@@ -49,7 +49,7 @@ pub extern "C" fn wedgepetal_tiles_length(
     if k == 0 {
         let set = settings_list::settings_of(settings);
         let s = session_list::session_of(session);
-        return return_length(changed_tiles::map_length(set, s), length);
+        return return_length(tile_calls::map_length(set, s), length);
     }
     k
 }
@@ -106,7 +106,7 @@ pub extern "C" fn wedgepetal_tiles_frame(
             new,
             map,
         );
-        return answer_lists::return_frame(done, session, answer);
+        return frame_lists::return_frame(done, session, answer);
     }
     k
 }

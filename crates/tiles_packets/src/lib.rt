@@ -13,11 +13,11 @@ ghost use Rattle.headers.specs.Fits.{sessionFits};
 ghost use Rattle.settings.specs.Settings.{settingsFit};
 ghost use Rattle.work_memory.specs.Memory.{memory};
 ghost use Rattle.work_memory.specs.Lengths.{blocks, lengthsOf, cleared};
-ghost use Rattle.packet_list.specs.Packets.{total, packetsIn};
+ghost use Rattle.packet_list.specs.Packets.{total, packetsIn, answerSize};
 ghost use Rattle.buffer_names.specs.Names.{Sound};
-ghost use Rattle.shot_packets.specs.Play.{shot, answerSize};
+ghost use Rattle.shot_packets.specs.Play.{shot};
 ghost use Rattle.shot_packets.specs.Inner.{TableLoaded};
-ghost use Rattle.changed_tiles.specs.Call.{mapLengthOf};
+ghost use Rattle.tile_calls.specs.Call.{mapLengthOf};
 ghost use Rattle.tiles_packets.specs.Inner.{PlaysMaps};
 
 // Packets, applied in order. Map i is the map of packet i.
@@ -58,8 +58,7 @@ pub fn play_packets(
     let mut at: usize = 0;
     let mut i: usize = 0;
     while i < lengths.len() {
-        let n = lengths[i] as usize;
-        let end = at + n;
+        let end = packet_list::packet_end(lengths, i, at);
         let played = shot_packets::play_packet(
             session,
             both,

@@ -2,13 +2,11 @@
 use Prim.Native.Nat.{ℕ, _*_}
 use native.Mathlib.Omega.{arith}
 use mathlib.Core.Path.{_≡_, refl, sym, ap, _∙_}
-use mathlib.Core.Bool.{true}
 use mathlib.Core.List.{List, [], _∷_, _++_}
 use borrow.Author.Tests.{ne-eqb}
 use lib.ListN.{length, getD, take, drop}
 use Rattle.headers.specs.declared.Session.{Session}
 use Rattle.settings.specs.declared.Settings.{Settings}
-use Rattle.setup.specs.Table.{isTable}
 use Rattle.ways.specs.Ways.{firstWay}
 use Rattle.work_memory.specs.Memory.{Memory}
 use Rattle.work_memory.specs.Lengths.{lengthsOf, cleared}
@@ -20,10 +18,11 @@ use Rattle.shot_packets.proofs.Rules.{any-memory}
 use Rattle.shot_packets.proofs.Packet.{cleared-memory}
 use Rattle.shot_packets.proofs.Loop.{holds}
 use Rattle.shot.specs.declared.ShotAnswer.{ShotAnswer}
-use Rattle.shot.specs.declared.ShotVerdict.the-variants.{Played}
-use Rattle.shot.specs.Call.{ShotCall, ShotDone, shotCall, shotDone, reaches, lentNumber, shotNumber, startOf, refusedBy, unchanged, byShot}
-use Rattle.shot.proofs.Calls.{passes, left-by, memory-fits, planes-long, shot-empty, shot-some}
-use Rattle.changed_tiles.specs.Call.{mapLengthOf}
+use Rattle.opening.specs.Call.{ShotCall, shotCall, lentNumber, shotNumber}
+use Rattle.shot.specs.Call.{ShotDone, shotDone, startOf, playedBy, refusedBy, unchanged, byShot}
+use Rattle.opening.proofs.Calls.{passes, accepted, memory-fits, planes-long}
+use Rattle.shot.proofs.Calls.{left-by, shot-empty, shot-some}
+use Rattle.tile_calls.specs.Call.{mapLengthOf}
 use Rattle.shot_maps.specs.Maps.{mapsNumber, mapsAfter}
 use Rattle.shot_maps.proofs.Fits.{maps-long}
 use Rattle.shot_maps.proofs.Maps.{map-same}
@@ -57,9 +56,12 @@ module _ (st : Settings) (s : Session) (n : Names) (lengths joined table : List 
         call-made st c maps pass (shotDone a x y z m answers) maps (left-by s n lengths joined table m x y z answers k a e h some)
         (ap (λ (a : ShotAnswer). mapsBy st c (a .verdict) maps) (sym e))
 
-    module _ (passed : lentNumber c ≡ 0) where
+    module _ (zero : shotNumber c ≡ 0) where
       abbrev k : Names
       k = namesOf s n
+
+      passed : lentNumber c ≡ 0
+      passed = accepted c zero .0
 
       pub lent-maps : length maps ≡ mapLengthOf st s * length lengths
       lent-maps = maps-long st s (length lengths) (length maps) pass (passes c passed .0)
@@ -98,16 +100,15 @@ module _ (st : Settings) (s : Session) (n : Names) (lengths joined table : List 
           go [] h = refl
           go (n ∷ l) h = absurd (omega arith)
 
-      module _ (held : isTable table ≡ true) (reach : reaches c ≡ true) where
-        -- "An empty list changes nothing"
-        pub call-empty : length lengths ≡ 0 → (k′ : Names) → k′ ≡ k → tilesShotDone (shotDone (record { verdict = Played; session = s; names = k′ }) x y z m answers) maps ≡ tilesShot st c maps
-        call-empty none k′ ek =
-            call-made st c maps pass _ maps (shot-empty s n lengths joined table m x y z answers passed held reach none k′ ek) (maps-none none)
+      -- "An empty list changes nothing"
+      pub call-empty : length lengths ≡ 0 → (k′ : Names) → k′ ≡ k → tilesShotDone (shotDone (playedBy s k′) x y z m answers) maps ≡ tilesShot st c maps
+      call-empty none k′ ek =
+          call-made st c maps pass _ maps (shot-empty s n lengths joined table m x y z answers zero none k′ ek) (maps-none none)
 
-        -- packets that were played from cleared memory
-        pub call-some : (length lengths ≡ 0 → ⊥) → {k′ : Names} → k′ ≡ k → {m₀ : Memory} → m₀ ≡ cleared (lengthsOf s) → {s′ : Session} {x′ y′ z′ : List ℕ} {n′ : Names} {m′ : Memory} {numbers left : List ℕ}
-            → PlaysMaps st table (shot s (x ∷ y ∷ z ∷ []) k′ m₀ []) (packetsIn lengths joined) maps s′ (x′ ∷ y′ ∷ z′ ∷ []) n′ m′ numbers left
-            → tilesShotDone (shotDone (record { verdict = Played; session = s′; names = n′ }) x′ y′ z′ m′ numbers) left ≡ tilesShot st c maps
-        call-some some ek em {left = left} p =
-            call-made st c maps pass _ left (shot-some s n lengths joined table m x y z answers passed held reach some ek em (p .plays))
-            (p .maps-are ∙ (λ i. mapsAfter st table (shot s (x ∷ y ∷ z ∷ []) (ek i) (em i) []) (packetsIn lengths joined) maps) ∙ maps-any some)
+      -- packets that were played from cleared memory
+      pub call-some : (length lengths ≡ 0 → ⊥) → {k′ : Names} → k′ ≡ k → {m₀ : Memory} → m₀ ≡ cleared (lengthsOf s) → {s′ : Session} {x′ y′ z′ : List ℕ} {n′ : Names} {m′ : Memory} {numbers left : List ℕ}
+          → PlaysMaps st table (shot s (x ∷ y ∷ z ∷ []) k′ m₀ []) (packetsIn lengths joined) maps s′ (x′ ∷ y′ ∷ z′ ∷ []) n′ m′ numbers left
+          → tilesShotDone (shotDone (playedBy s′ n′) x′ y′ z′ m′ numbers) left ≡ tilesShot st c maps
+      call-some some ek em {left = left} p =
+          call-made st c maps pass _ left (shot-some s n lengths joined table m x y z answers zero some ek em (p .plays))
+          (p .maps-are ∙ (λ i. mapsAfter st table (shot s (x ∷ y ∷ z ∷ []) (ek i) (em i) []) (packetsIn lengths joined) maps) ∙ maps-any some)

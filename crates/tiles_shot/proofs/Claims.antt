@@ -12,11 +12,12 @@ use Rattle.calls.specs.Call.{byRules}
 use Rattle.packet_list.specs.Packets.{packetsIn, total}
 use Rattle.packet_list.proofs.Cut.{packets-cut, packets-many}
 use Rattle.shot_packets.specs.Play.{played}
-use Rattle.shot.specs.Call.{ShotCall, startOf, ended, unchanged, byShot}
-use Rattle.shot.proofs.Calls.{passes, shot-refused, shot-played}
-use Rattle.shot_claims.proofs.Turns.{accepted-passed}
-use Rattle.changed_tiles.specs.Call.{mapLengthOf}
-use Rattle.changed_tiles.proofs.Said.{quiet-is-zero, repeat-is-zero, first-is-one, map-is-left}
+use Rattle.opening.specs.Call.{ShotCall}
+use Rattle.shot.specs.Call.{startOf, ended, unchanged, byShot}
+use Rattle.opening.proofs.Calls.{passes, accepted}
+use Rattle.shot.proofs.Calls.{shot-refused, shot-played}
+use Rattle.tile_calls.specs.Call.{mapLengthOf}
+use Rattle.tile_calls.proofs.Said.{quiet-is-zero, repeat-is-zero, first-is-one, map-is-left}
 use Rattle.shot_maps.specs.Maps.{mapsAfter}
 use Rattle.shot_maps.proofs.Fits.{maps-pass, maps-long}
 use Rattle.shot_maps.proofs.Each.{each, maps-cut}
@@ -35,7 +36,7 @@ maps-each set c maps h i l =
     let k = mapLengthOf set (c .session) in
     let ps = packetsIn (c .lengths) (c .joined) in
     let many = packets-many (c .lengths) (c .joined) in
-    let fits = passes c (accepted-passed c (h .by-shot)) .0 in
+    let fits = passes c (accepted c (h .by-shot) .0) .0 in
     let long = maps-long set (c .session) (length (c .lengths)) (length maps) (h .by-maps) fits in
     let room : k * length ps ≤ length maps = omega (arith, long, ap (λ (j : ℕ). k * j) many) in
     ap (λ (m : List ℕ). take k (drop (k * i) m)) (played-maps set c maps h)

@@ -10,7 +10,8 @@ use Rattle.ways.specs.Ways.{firstWay}
 use Rattle.packet_list.specs.Packets.{packetsIn}
 use Rattle.shot.specs.declared.ShotVerdict.{ShotVerdict}
 use Rattle.shot.specs.declared.ShotVerdict.the-variants.{Played, Refused}
-use Rattle.shot.specs.Call.{ShotCall, ShotDone, startOf, unchanged, byShot}
+use Rattle.opening.specs.Call.{ShotCall}
+use Rattle.shot.specs.Call.{ShotDone, startOf, unchanged, byShot}
 use Rattle.shot_maps.specs.Maps.{mapsNumber, mapsAfter}
 
 -- 20 and the maps' 1 in front; else a shot call

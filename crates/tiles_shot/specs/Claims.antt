@@ -10,13 +10,14 @@ use Rattle.headers.specs.Sizes.{format}
 use Rattle.settings.specs.declared.Settings.{Settings}
 use Rattle.ways.specs.Ways.{firstWay}
 use Rattle.reading.specs.Answer.{Asked}
-use Rattle.decoding.specs.Answer.{State}
+use Rattle.asked_frame.specs.Answer.{State}
 use Rattle.calls.specs.Call.{Call, outcomeOf, byRules}
 use Rattle.packet_list.specs.Packets.{packetsIn, total}
 use Rattle.shot_packets.specs.Play.{Shot, stateOf, callOf, played}
-use Rattle.shot.specs.Call.{ShotCall, shotNumber, startOf, unchanged, byShot}
-use Rattle.changed_tiles.specs.Call.{mapLengthOf, tilesCall}
-use Rattle.changed_tiles.specs.Said.{AcceptedCall, IsTileOf, QuietTile}
+use Rattle.opening.specs.Call.{ShotCall, shotNumber}
+use Rattle.shot.specs.Call.{startOf, unchanged, byShot}
+use Rattle.tile_calls.specs.Call.{mapLengthOf, tilesCall}
+use Rattle.tile_calls.specs.Said.{AcceptedCall, IsTileOf, QuietTile}
 use Rattle.shot_maps.specs.Maps.{mapsNumber, mapsAfter}
 use Rattle.tiles_shot.specs.Call.{tilesShotDone, tilesShot}
 

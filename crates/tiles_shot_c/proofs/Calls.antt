@@ -10,7 +10,7 @@ use Rattle.settings_list.specs.List.{settingsOf}
 use Rattle.session_list.specs.List.{sessionOf}
 use Rattle.work_memory.specs.Memory.{Memory}
 use Rattle.buffer_names.specs.declared.Names.{Names}
-use Rattle.shot.specs.Call.{shotCall}
+use Rattle.opening.specs.Call.{shotCall}
 use Rattle.shot_c.specs.Face.{namesIn, Lists, lists, listsAfter, shotGives, doneReturned}
 use Rattle.tiles_shot.specs.Call.{TilesShotDone, tilesShot}
 use Rattle.tiles_shot_c.specs.Face.{TilesShotReturned, tilesShotGives, tilesShotFace}

@@ -7,7 +7,7 @@ use Rattle.bitstream.specs.Reading.{choose}
 use Rattle.settings_list.specs.List.{settingsOf}
 use Rattle.session_list.specs.List.{sessionOf}
 use Rattle.work_memory.specs.Memory.{Memory}
-use Rattle.shot.specs.Call.{shotCall}
+use Rattle.opening.specs.Call.{shotCall}
 use Rattle.shot_c.specs.Face.{namesIn, lists, ShotReturned, shotGives, doneReturned}
 use Rattle.tiles_shot.specs.Call.{tilesShot}
 use Rattle.settings_list.specs.ShotLists.{tilesShotNumber}

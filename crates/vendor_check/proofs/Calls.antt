@@ -2,7 +2,7 @@
 use Prim.Native.Nat.{ℕ}
 use native.Mathlib.Omega.{arith}
 use mathlib.Core.Path.{_≡_, refl, sym, ap, _∙_}
-use mathlib.Core.Bool.{Bool, true}
+use mathlib.Core.Bool.{Bool}
 use mathlib.Core.List.{List, [], _∷_, map}
 use lib.Dec.{eqb}
 use lib.ListN.{length, getD, take, drop}
@@ -15,11 +15,11 @@ use Rattle.headers.specs.Identification.{identification, asIdentification}
 use Rattle.setup.specs.Header.{Setup}
 use Rattle.setup.specs.declared.SetupAnswer.{SetupAnswer}
 use Rattle.setup.specs.declared.SetupAnswer.the-variants as answer
-use Rattle.setup.specs.Table.{setupOutcome, asSetupAnswer, tableAfter, isTable}
+use Rattle.setup.specs.Table.{setupOutcome, asSetupAnswer, tableAfter}
 use Rattle.ways.specs.Ways.{firstWay}
 use Rattle.work_memory.specs.Memory.{Memory}
 use Rattle.work_memory.specs.Lengths.{lengthsOf, cleared}
-use Rattle.decoding.specs.Answer.{Done}
+use Rattle.asked_frame.specs.Answer.{Done}
 use Rattle.calls.specs.Call.{byRules}
 use Rattle.packet_list.specs.Packets.{packetsIn}
 use Rattle.buffer_names.specs.declared.Names.{Names}
@@ -30,13 +30,15 @@ use Rattle.shot_packets.specs.Play.{Shot, shot, stateOf, after}
 use Rattle.shot_packets.proofs.Rules.{any-memory}
 use Rattle.shot_packets.proofs.Packet.{cleared-memory}
 use Rattle.shot_packets.proofs.Loop.{holds}
-use Rattle.shot.specs.declared.ShotVerdict.the-variants.{Played}
-use Rattle.shot.specs.Call.{ShotCall, ShotDone, shotCall, shotDone, reaches, lentNumber, shotNumber, startOf, unchanged, byShot}
+use Rattle.opening.specs.Call.{ShotCall, shotCall, lentNumber, shotNumber}
+use Rattle.shot.specs.Call.{ShotDone, shotDone, startOf, playedBy, unchanged, byShot}
 use Rattle.shot_claims.specs.Claims.{answerOf}
-use Rattle.shot.proofs.Calls.{passes, number-0, shot-refused, shot-empty, shot-some, memory-fits, planes-long}
+use Rattle.opening.proofs.Calls.{passes, accepted, memory-fits, planes-long}
+use Rattle.shot.proofs.Calls.{shot-refused, shot-empty, shot-some}
 use Rattle.film.specs.Film.{filmOf}
-use Rattle.checked_packets.specs.declared.Watched.{Watched}
-use Rattle.checked_packets.specs.Watch.{watched, watchedAll, ChecksAll}
+use Rattle.watching.specs.declared.Watched.{Watched}
+use Rattle.watching.specs.Watch.{watched}
+use Rattle.checked_packets.specs.Watch.{watchedAll, ChecksAll}
 use Rattle.check_answer.specs.declared.CheckAnswer.{CheckAnswer}
 use Rattle.check_answer.specs.declared.CheckAnswer.the-variants.{Refused}
 use Rattle.vendor_check.specs.Check.{compared, firstRefused, turnsOf, checkedShot, CheckDone, checkDone, checkOf, Lent, fresh, CheckLeft, unplayed, bySetup, bySession, checked, begunBy}
@@ -70,9 +72,12 @@ module _ (s : Session) (n : Names) (lengths joined table : List ℕ) (m : Memory
   pub check-refused : (k : ℕ) → shotNumber c ≡ k → (k ≡ 0 → ⊥) → checkDone (Refused k 0) x y z m answers ≡ checkOf c file
   check-refused k e some = as-shot c file (unchanged k c) (shot-refused firstWay c k e some) (Refused k 0) (answer-refused c file k e some)
 
-  module _ (passed : lentNumber c ≡ 0) where
+  module _ (zero : shotNumber c ≡ 0) where
     abbrev k : Names
     k = namesOf s n
+
+    passed : lentNumber c ≡ 0
+    passed = accepted c zero .0
 
     abbrev All : Watched → Memory → List (List ℕ) → Watched
     All w m ps = watchedAll (byRules firstWay) (numbersOf s) file table w (shot s (x ∷ y ∷ z ∷ []) k m []) ps
@@ -103,24 +108,23 @@ module _ (s : Session) (n : Names) (lengths joined table : List ℕ) (m : Memory
         go [] h = refl
         go (n ∷ ns) h = absurd (omega arith)
 
-    module _ (held : isTable table ≡ true) (reach : reaches c ≡ true) where
-      said-played : saidBy (All (begunBy s file) m (packetsIn lengths joined)) file ≡ checkedShot c file
-      said-played = film-said file table (startOf c) refl (sound-first s n (passes c passed .2)) (packetsIn lengths joined) ∙ answer-played c file (number-0 c passed held reach)
+    said-played : saidBy (All (begunBy s file) m (packetsIn lengths joined)) file ≡ checkedShot c file
+    said-played = film-said file table (startOf c) refl (sound-first s n (passes c passed .2)) (packetsIn lengths joined) ∙ answer-played c file zero
 
-      pub check-empty : length lengths ≡ 0 → {w : Watched} → w ≡ begunBy s file → {r : CheckAnswer} → r ≡ saidBy w file → checkDone r x y z m answers ≡ checkOf c file
-      check-empty none {w} ew {r} er =
-          as-shot c file (shotDone (record { verdict = Played; session = s; names = k }) x y z m answers) (shot-empty s n lengths joined table m x y z answers passed held reach none k refl) r
-          (er ∙ ap (λ (v : Watched). saidBy v file) (ew ∙ nothing (begunBy s file) m none) ∙ said-played)
+    pub check-empty : length lengths ≡ 0 → {w : Watched} → w ≡ begunBy s file → {r : CheckAnswer} → r ≡ saidBy w file → checkDone r x y z m answers ≡ checkOf c file
+    check-empty none {w} ew {r} er =
+        as-shot c file (shotDone (playedBy s k) x y z m answers) (shot-empty s n lengths joined table m x y z answers zero none k refl) r
+        (er ∙ ap (λ (v : Watched). saidBy v file) (ew ∙ nothing (begunBy s file) m none) ∙ said-played)
 
-      pub check-some : (length lengths ≡ 0 → ⊥) → {k′ : Names} → k′ ≡ k → {m₀ : Memory} → m₀ ≡ cleared (lengthsOf s) → {w : Watched} → w ≡ begunBy s file
-          → {seen : Watched} {x′ y′ z′ : List ℕ} {m′ : Memory} {numbers : List ℕ} → ChecksAll table file w (shot s (x ∷ y ∷ z ∷ []) k′ m₀ []) (packetsIn lengths joined) seen (x′ ∷ y′ ∷ z′ ∷ []) m′ numbers
-          → {r : CheckAnswer} → r ≡ saidBy seen file → checkDone r x′ y′ z′ m′ numbers ≡ checkOf c file
-      check-some some ek em ew {seen} {x′} {y′} {z′} {m′} {numbers} p {r} er =
-          as-shot c file (shotDone (record { verdict = Played; session = p .session; names = p .names }) x′ y′ z′ m′ numbers)
-          (shot-some s n lengths joined table m x y z answers passed held reach some ek em (p .plays)) r
-          (er ∙ ap (λ (v : Watched). saidBy v file)
-          (p .sees ∙ (λ i. watchedAll (byRules firstWay) (numbersOf s) file table (ew i) (shot s (x ∷ y ∷ z ∷ []) (ek i) (em i) []) (packetsIn lengths joined)) ∙ from-any (begunBy s file) some)
-          ∙ said-played)
+    pub check-some : (length lengths ≡ 0 → ⊥) → {k′ : Names} → k′ ≡ k → {m₀ : Memory} → m₀ ≡ cleared (lengthsOf s) → {w : Watched} → w ≡ begunBy s file
+        → {seen : Watched} {x′ y′ z′ : List ℕ} {m′ : Memory} {numbers : List ℕ} → ChecksAll table file w (shot s (x ∷ y ∷ z ∷ []) k′ m₀ []) (packetsIn lengths joined) seen (x′ ∷ y′ ∷ z′ ∷ []) m′ numbers
+        → {r : CheckAnswer} → r ≡ saidBy seen file → checkDone r x′ y′ z′ m′ numbers ≡ checkOf c file
+    check-some some ek em ew {seen} {x′} {y′} {z′} {m′} {numbers} p {r} er =
+        as-shot c file (shotDone (playedBy (p .session) (p .names)) x′ y′ z′ m′ numbers)
+        (shot-some s n lengths joined table m x y z answers zero some ek em (p .plays)) r
+        (er ∙ ap (λ (v : Watched). saidBy v file)
+        (p .sees ∙ (λ i. watchedAll (byRules firstWay) (numbersOf s) file table (ew i) (shot s (x ∷ y ∷ z ∷ []) (ek i) (em i) []) (packetsIn lengths joined)) ∙ from-any (begunBy s file) some)
+        ∙ said-played)
 
 -- ---- the two headers
 module _ (header setup file : List ℕ) (l : Lent) {a : IdentificationAnswer} (ea : a ≡ asIdentification (identification header 0)) where

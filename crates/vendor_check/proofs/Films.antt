@@ -11,7 +11,7 @@ use Rattle.headers.specs.declared.Session.{Session}
 use Rattle.ways.specs.Ways.{firstWay}
 use Rattle.reading.specs.declared.Verdict.{Verdict}
 use Rattle.reading.specs.declared.Verdict.the-variants as verdict
-use Rattle.decoding.specs.Answer.{State, Done}
+use Rattle.asked_frame.specs.Answer.{State, Done}
 use Rattle.calls.specs.Call.{Call, byRules}
 use Rattle.calls.specs.Demand.{Turn, turns}
 use Rattle.buffer_names.specs.Names.{Sound}
@@ -27,9 +27,10 @@ use Rattle.film.proofs.Frames.{AllLong, joined-at, all-long}
 use Rattle.stream_check.specs.declared.Compared.{Compared}
 use Rattle.stream_check.specs.Compared.{onward, beginning}
 use Rattle.stream_check.proofs.Onward.{onward-none, onward-parts}
-use Rattle.checked_packets.specs.declared.Watched.{Watched}
-use Rattle.checked_packets.specs.Watch.{byVerdict, watched, watchedAll}
-use Rattle.checked_packets.proofs.Steps.{watched-stays}
+use Rattle.watching.specs.declared.Watched.{Watched}
+use Rattle.watching.specs.Watch.{byVerdict, watched}
+use Rattle.watching.proofs.Steps.{watched-stays}
+use Rattle.checked_packets.specs.Watch.{watchedAll}
 use Rattle.check_answer.specs.declared.CheckAnswer.the-variants.{Refused}
 use Rattle.vendor_check.specs.Check.{compared, refusedOr, firstRefused, begunBy}
 use Rattle.check_answer.specs.Said.{comparedAll, saidBy}

@@ -23,11 +23,12 @@ use Rattle.stream_numbers.specs.Numbers.{numbersOf}
 use Rattle.y4m.specs.Stream.{headerText}
 use Rattle.buffer_names.specs.Names.{names}
 use Rattle.shot_packets.specs.Play.{stateOf}
-use Rattle.shot.specs.Call.{ShotCall, shotNumber, startOf, byShot}
+use Rattle.opening.specs.Call.{ShotCall, shotNumber}
+use Rattle.shot.specs.Call.{startOf, byShot}
 use Rattle.shot_claims.specs.Claims.{callsOf, answerOf}
 use Rattle.film.specs.Film.{filmOf}
 use Rattle.stream_check.specs.Compared.{difference, onward, beginning}
-use Rattle.checked_packets.specs.declared.Watched.{Watched}
+use Rattle.watching.specs.declared.Watched.{Watched}
 use Rattle.check_answer.specs.declared.CheckAnswer.{CheckAnswer}
 use Rattle.check_answer.specs.declared.CheckAnswer.the-variants.{Passes, Differs, Refused}
 

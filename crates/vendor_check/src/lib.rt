@@ -1,20 +1,18 @@
 // The vendor's file, checked: two headers and packets are decoded, and a file is compared with the stream of their frames.
-use bitstream::End;
 use buffer_names::Names;
+use calls::Room;
 use check_answer::CheckAnswer;
-use checked_packets::Watched;
 use headers::IdentificationAnswer;
 use headers::Session;
-use setup::LoadedSetup;
 use setup::SetupAnswer;
+use watching::Watched;
 ghost use mathlib.Core.Path.{_≡_};
 ghost use mathlib.Core.Bool.{true};
 ghost use Prim.Native.Nat.{_≤_};
 ghost use lib.ListN.{length};
 ghost use Rattle.headers.specs.Fits.{sessionFits};
 ghost use Rattle.work_memory.specs.Memory.{memory};
-ghost use Rattle.shot_packets.specs.Inner.{TableLoaded};
-ghost use Rattle.shot.specs.Call.{shotCall, lentNumber};
+ghost use Rattle.opening.specs.Call.{shotCall};
 ghost use Rattle.vendor_check.specs.Check.{begunBy, lent, checkDone, ShotChecked, checkLeft, checked};
 
 // The header of a session's stream compared, before the first packet.
@@ -29,83 +27,6 @@ fn begin(s: Session, file: &[u8]) -> Watched
         number: 0,
         bit: 0,
     }
-}
-
-// A check whose lent lengths passed their tests, by the setup that table memory holds.
-fn check_loaded(
-    s: Session,
-    names: Names,
-    lengths: &[u64],
-    packets: &[u8],
-    file: &[u8],
-    table: &[u8],
-    loaded: LoadedSetup,
-    records: &mut [u32],
-    coded: &mut [u64],
-    coefs: &mut [i16],
-    dc: &mut [i16],
-    lasts: &mut [u8],
-    flags: &mut [u8],
-    bits: &mut [u8],
-    supers: &mut [u8],
-    modes: &mut [u8],
-    active: &mut [u64],
-    first: &mut [u8],
-    second: &mut [u8],
-    third: &mut [u8],
-    answers: &mut [u64],
-) -> CheckAnswer
-    requires { ⌜ (lentNumber (shotCall s names (now lengths) (now packets) (now table) (memory (now records) (now coded) (now coefs) (now dc) (now lasts) (now flags) (now bits) (now supers) (now modes) (now active)) (now first) (now second) (now third) (now answers)) ≡ 0) × TableLoaded (now table) loaded ⌝ }
-    ensures { λ r. ⌜ ShotChecked (shotCall s names (now (lengths .entry)) (now (packets .entry)) (now (table .entry))
-        (memory (now (records .entry)) (now (coded .entry)) (now (coefs .entry)) (now (dc .entry)) (now (lasts .entry)) (now (flags .entry)) (now (bits .entry)) (now (supers .entry)) (now (modes .entry)) (now (active .entry))) (now (first .entry)) (now (second .entry)) (now (third .entry)) (now (answers .entry))) (now (file .entry))
-        (checkDone r (now (first .exit)) (now (second .exit)) (now (third .exit)) (memory (now (records .exit)) (now (coded .exit)) (now (coefs .exit)) (now (dc .exit)) (now (lasts .exit)) (now (flags .exit)) (now (bits .exit)) (now (supers .exit)) (now (modes .exit)) (now (active .exit))) (now (answers .exit))) ⌝ }
-{
-    let reach = packet_list::lengths_reach(lengths, packets.len() as u64);
-    if !reach {
-        return CheckAnswer::Refused(bitstream::PAST_PACKETS, 0);
-    }
-    let begun = begin(s, file);
-    if lengths.len() == 0 {
-        return check_answer::conclude(begun, file);
-    }
-    let both = buffer_names::names_of(s, names);
-    work_memory::clear_memory(
-        records,
-        coded,
-        coefs,
-        dc,
-        lasts,
-        flags,
-        bits,
-        supers,
-        modes,
-        active,
-    );
-    let seen = checked_packets::check_packets(
-        s,
-        both,
-        lengths,
-        packets,
-        file,
-        begun,
-        table,
-        loaded,
-        records,
-        coded,
-        coefs,
-        dc,
-        lasts,
-        flags,
-        bits,
-        supers,
-        modes,
-        active,
-        first,
-        second,
-        third,
-        answers,
-    );
-    check_answer::conclude(seen, file)
 }
 
 // A check from a session on: request 6's call, and the file compared.
@@ -135,12 +56,52 @@ fn check_shot(
         (memory (now (records .entry)) (now (coded .entry)) (now (coefs .entry)) (now (dc .entry)) (now (lasts .entry)) (now (flags .entry)) (now (bits .entry)) (now (supers .entry)) (now (modes .entry)) (now (active .entry))) (now (first .entry)) (now (second .entry)) (now (third .entry)) (now (answers .entry))) (now (file .entry))
         (checkDone r (now (first .exit)) (now (second .exit)) (now (third .exit)) (memory (now (records .exit)) (now (coded .exit)) (now (coefs .exit)) (now (dc .exit)) (now (lasts .exit)) (now (flags .exit)) (now (bits .exit)) (now (supers .exit)) (now (modes .exit)) (now (active .exit))) (now (answers .exit))) ⌝ }
 {
-    let k = shot::lent_number(
+    let room = Room {
+        records: records.len(),
+        coded: coded.len(),
+        coefs: coefs.len(),
+        dc: dc.len(),
+        lasts: lasts.len(),
+        flags: flags.len(),
+        bits: bits.len(),
+        supers: supers.len(),
+        modes: modes.len(),
+        active: active.len(),
+        first: first.len(),
+        second: second.len(),
+        third: third.len(),
+    };
+    let opened = opening::open(s, names, lengths, packets, table, room, answers.len());
+    let number = opened.number;
+    if number != 0 {
+        return CheckAnswer::Refused(number, 0);
+    }
+    let begun = begin(s, file);
+    if lengths.len() == 0 {
+        return check_answer::conclude(begun, file);
+    }
+    let both = buffer_names::names_of(s, names);
+    work_memory::clear_memory(
+        records,
+        coded,
+        coefs,
+        dc,
+        lasts,
+        flags,
+        bits,
+        supers,
+        modes,
+        active,
+    );
+    let seen = checked_packets::check_packets(
         s,
-        names,
+        both,
         lengths,
         packets,
+        file,
+        begun,
         table,
+        opened.setup,
         records,
         coded,
         coefs,
@@ -156,37 +117,7 @@ fn check_shot(
         third,
         answers,
     );
-    if k != 0 {
-        return CheckAnswer::Refused(k, 0);
-    }
-    let held = setup::load_table(table);
-    let place = held.place;
-    match place {
-        End::Refused(_, _) => CheckAnswer::Refused(bitstream::NOT_GENUINE, 0),
-        End::At(_) => check_loaded(
-            s,
-            names,
-            lengths,
-            packets,
-            file,
-            table,
-            held.setup,
-            records,
-            coded,
-            coefs,
-            dc,
-            lasts,
-            flags,
-            bits,
-            supers,
-            modes,
-            active,
-            first,
-            second,
-            third,
-            answers,
-        ),
-    }
+    check_answer::conclude(seen, file)
 }
 
 // Checks a file against two headers and packets: whether it is the stream of their frames.

@@ -22,7 +22,7 @@ use Rattle.reading.specs.declared.Verdict.the-variants as verdict
 use Rattle.text.specs.Same.{same}
 use Rattle.text.proofs.Texts.{same-eq, same-refl}
 use Rattle.buffer_names.specs.Names.{names, namesFit}
-use Rattle.shot.specs.Call.{ShotCall, shotLengthsFit, reaches, lentNumber, shotNumber}
+use Rattle.opening.specs.Call.{ShotCall, shotLengthsFit, reaches, lentNumber, shotNumber}
 use Rattle.shot_claims.specs.Claims.{answerOf}
 use Rattle.film.specs.Film.{filmOf}
 use Rattle.stream_check.specs.Compared.{difference}

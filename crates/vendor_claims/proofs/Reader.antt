@@ -12,8 +12,7 @@ use Rattle.stream_numbers.specs.Numbers.{numbersOf}
 use Rattle.y4m.specs.Stream.{frameBytes, streamText}
 use Rattle.y4m.specs.Film.{holds, refused, numbersIn, isStreamOf, bodyOf, framesOf as countIn, planesOf, filmIn}
 use Rattle.y4m.proofs.Streams.{stream-only}
-use Rattle.shot.proofs.Calls.{passes}
-use Rattle.shot_claims.proofs.Turns.{accepted-passed}
+use Rattle.opening.proofs.Calls.{passes, accepted}
 use Rattle.shot.specs.Call.{startOf}
 use Rattle.shot_claims.specs.Claims.{callsOf}
 use Rattle.shot_packets.specs.Play.{stateOf}
@@ -44,7 +43,7 @@ read-only t room n k planes h = go (isStreamOf (numbersIn t) t) refl (leb (count
 pub passes-by-reader : PassesByReader
 unfolding filmOf
 passes-by-reader header setup file l c a room h =
-    let f = films-hold (stateOf (startOf c)) (callsOf (byRules firstWay) (c .table) (startOf c) (packetsIn (c .lengths) (c .joined))) (passes c (accepted-passed c (a .unrefused)) .0) in (
+    let f = films-hold (stateOf (startOf c)) (callsOf (byRules firstWay) (c .table) (startOf c) (packetsIn (c .lengths) (c .joined))) (passes c (accepted c (a .unrefused) .0) .0) in (
       (λ p. ap (λ (t : List ℕ). filmIn t room) (accepted-same header setup file l c a p) ∙ f .back room h),
       (λ r. same-accepted header setup file l c a (read-only file room (numbersOf (c .session)) (length (framesOf (turnsOf c))) (joined (framesOf (turnsOf c))) r)),
     )

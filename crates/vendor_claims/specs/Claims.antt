@@ -16,7 +16,8 @@ use Rattle.reading.specs.declared.Verdict.{Verdict}
 use Rattle.reading.specs.declared.Verdict.the-variants as verdict
 use Rattle.stream_numbers.specs.Numbers.{numbersOf}
 use Rattle.y4m.specs.Film.{holds, filmIn}
-use Rattle.shot.specs.Call.{ShotCall, shotNumber, byShot}
+use Rattle.opening.specs.Call.{ShotCall, shotNumber}
+use Rattle.shot.specs.Call.{byShot}
 use Rattle.shot_claims.specs.Claims.{answerOf}
 use Rattle.film.specs.Film.{framesOf, joined, filmOf}
 use Rattle.check_answer.specs.declared.CheckAnswer.{CheckAnswer}

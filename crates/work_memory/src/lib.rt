@@ -53,34 +53,6 @@ pub fn lengths_of(s: Session) -> WorkLengths
     }
 }
 
-// Whether every slice has its length.
-pub fn lengths_fit(
-    l: WorkLengths,
-    records: &[u32],
-    coded: &[u64],
-    coefs: &[i16],
-    dc: &[i16],
-    lasts: &[u8],
-    flags: &[u8],
-    bits: &[u8],
-    supers: &[u8],
-    modes: &[u8],
-    active: &[u64],
-) -> bool
-    ensures { λ r. ⌜ r ≡ lengthsFit l (memory (now (records .entry)) (now (coded .entry)) (now (coefs .entry)) (now (dc .entry)) (now (lasts .entry)) (now (flags .entry)) (now (bits .entry)) (now (supers .entry)) (now (modes .entry)) (now (active .entry))) ⌝ }
-{
-    (records.len() as u64 == l.records)
-        & (coded.len() as u64 == l.coded)
-        & (coefs.len() as u64 == l.coefs)
-        & (dc.len() as u64 == l.dc)
-        & (lasts.len() as u64 == l.lasts)
-        & (flags.len() as u64 == l.flags)
-        & (bits.len() as u64 == l.bits)
-        & (supers.len() as u64 == l.supers)
-        & (modes.len() as u64 == l.modes)
-        & (active.len() as u64 == l.active)
-}
-
 // Work memory, whole, becomes 0.
 pub fn clear_memory(
     records: &mut [u32],

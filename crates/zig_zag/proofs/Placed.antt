@@ -12,9 +12,9 @@ use lib.IntN.{ℤ, pos}
 use lib.ListN.{length, getD, set, replicate}
 use Rattle.numeric.specs.Cut.{mod16, read16, cut}
 use Rattle.zig_zag.specs.Values.{zigZag, dequantized, tabulated, valueAt, values}
-use Rattle.zig_zag.specs.Placing.{turned, ZerosFrom, placed, partly}
+use Rattle.zig_zag.specs.Placing.{turned, ZerosFrom, placed, partly, StandsAt}
 use Rattle.zig_zag.proofs.Turned.{length-tabulated}
-use Rattle.zig_zag.proofs.ZigZag.{naturalOrder, natural-lt, position-lt, position-of-natural, natural-of-position}
+use Rattle.zig_zag.proofs.ZigZag.{position-lt, one-index}
 
 -- ---- lists that are tabulated
 
@@ -31,6 +31,12 @@ set-one f g v j (suc n) (suc i) h e r =
     let d : j + suc i ≡ suc j + i = omega arith in
     ap₂ (λ (x : ℤ) (l : List ℤ). x ∷ l) (e j (omega arith) (omega arith) (λ d. absurd (omega arith)))
     (set-one f g v (suc j) n i (omega arith) (λ k a b u. e k (omega arith) (omega arith) (λ m. u (omega arith))) (r ∙ ap g d))
+
+-- ---- positions
+
+-- a position that an index stands at
+pub stands-lt : (p i : ℕ) → StandsAt p i → p < 64
+stands-lt p i h = let b = position-lt i (h .0) in omega (arith, h .1)
 
 -- ---- a test of a position
 
@@ -68,10 +74,10 @@ module _ (coefs : List ℤ) (at : ℕ) (dc : ℤ) (q : ℕ) (matrix : List ℕ) 
   value-is (suc i) h = refl
 
   -- what stands at another index stays
-  stays : (p k : ℕ) → p < 64 → k < 64 → (k ≡ getD naturalOrder p 0 → ⊥) → placed coefs at dc q matrix p k ≡ placed coefs at dc q matrix (p + 1) k
-  stays p k h b u =
+  stays : (p i k : ℕ) → StandsAt p i → k < 64 → (k ≡ i → ⊥) → placed coefs at dc q matrix p k ≡ placed coefs at dc q matrix (p + 1) k
+  stays p i k h b u =
       ap (λ (t : Bool). cond t (value k) (pos 0))
-      (test-next (getD zigZag k 0) p (ltb (getD zigZag k 0) (p + 1)) refl (λ e. u (sym (natural-of-position k b) ∙ ap (λ (z : ℕ). getD naturalOrder z 0) e)))
+      (test-next (getD zigZag k 0) p (ltb (getD zigZag k 0) (p + 1)) refl (λ e. u (one-index k i b (h .0) (e ∙ sym (h .1)))))
 
   value-at : (p i : ℕ) → 1 ≤ p → getD zigZag i 0 ≡ p → dequantized (getD coefs (at + p) (pos 0)) (getD matrix i 0) ≡ placed coefs at dc q matrix (p + 1) i
   value-at p i l e =
@@ -80,14 +86,13 @@ module _ (coefs : List ℤ) (at : ℕ) (dc : ℤ) (q : ℕ) (matrix : List ℕ) 
       ∙ ap (λ (t : Bool). cond t (value i) (pos 0)) (sym (lt-ltb (getD zigZag i 0) (p + 1) (omega arith)))
 
   -- one more position
-  pub next-placed : (s : List ℤ) (p : ℕ) (v : ℤ) → 1 ≤ p → p < 64 → s ≡ partly coefs at dc q matrix p → v ≡ dequantized (getD coefs (at + p) (pos 0)) (getD matrix (getD naturalOrder p 0) 0) → set s (getD naturalOrder p 0) v ≡ partly coefs at dc q matrix (p + 1)
+  pub next-placed : (s : List ℤ) (p i : ℕ) (v : ℤ) → 1 ≤ p → StandsAt p i → s ≡ partly coefs at dc q matrix p → v ≡ dequantized (getD coefs (at + p) (pos 0)) (getD matrix i 0) → set s i v ≡ partly coefs at dc q matrix (p + 1)
   unfolding partly
-  next-placed s p v l h e r =
-      let i = getD naturalOrder p 0 in
+  next-placed s p i v l h e r =
       ap (λ (l : List ℤ). set l i v) e
-      ∙ set-one (placed coefs at dc q matrix p) (placed coefs at dc q matrix (p + 1)) v 0 64 i (natural-lt p h)
-      (λ k a b u. stays p k h (omega arith) (λ d. u (d ∙ sym (zero-add i))))
-      (r ∙ value-at p i l (position-of-natural p h) ∙ ap (placed coefs at dc q matrix (p + 1)) (sym (zero-add i)))
+      ∙ set-one (placed coefs at dc q matrix p) (placed coefs at dc q matrix (p + 1)) v 0 64 i (h .0)
+      (λ k a b u. stays p i k h (omega arith) (λ d. u (d ∙ sym (zero-add i))))
+      (r ∙ value-at p i l (h .1) ∙ ap (placed coefs at dc q matrix (p + 1)) (sym (zero-add i)))
 
   rest-is : (p k : ℕ) (t : Bool) → ltb (getD zigZag k 0) p ≡ t → 1 ≤ p → (p ≤ getD zigZag k 0 → getD coefs (at + getD zigZag k 0) (pos 0) ≡ pos 0) → placed coefs at dc q matrix p k ≡ value k
   rest-is p k true e l h = ap (λ (t : Bool). cond t (value k) (pos 0)) e

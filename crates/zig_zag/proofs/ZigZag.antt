@@ -1,6 +1,6 @@
--- The zig-zag order is a permutation: `naturalOrder`, which has the natural index of each position, is its inverse. Tests that are computed over the whole figure.
+-- The zig-zag order is a permutation: `naturalOrder`, which has the natural index of each position, leads back. Tests that are computed over the whole figure.
 -- Assumes nothing.
-use mathlib.Core.Path.{_≡_, refl, sym, _∙_}
+use mathlib.Core.Path.{_≡_, refl, sym, ap, _∙_}
 use mathlib.Core.Bool.{Bool, true, false, cond}
 use mathlib.Core.List.{List, [], _∷_}
 use Prim.Native.Nat.{ℕ, zero, suc, _+_, _<_}
@@ -9,7 +9,7 @@ use lib.Dec.{T, ltb, eqb, ltb→lt, eqb→eq}
 use lib.ListN.{length, getD}
 use Rattle.zig_zag.specs.Values.{zigZag}
 
-unfoldable pub naturalOrder : List ℕ
+unfoldable naturalOrder : List ℕ
 naturalOrder =
     0 ∷ 1 ∷ 8 ∷ 16 ∷ 9 ∷ 2 ∷ 3 ∷ 10 ∷
     17 ∷ 24 ∷ 32 ∷ 25 ∷ 18 ∷ 11 ∷ 4 ∷ 5 ∷
@@ -21,22 +21,18 @@ naturalOrder =
     53 ∷ 60 ∷ 61 ∷ 54 ∷ 47 ∷ 55 ∷ 62 ∷ 63 ∷
     []
 
-abbrev pub below : ℕ → List ℕ → Bool
+abbrev below : ℕ → List ℕ → Bool
 below b [] = true
 below b (x ∷ xs) = cond (ltb x b) (below b xs) false
 
 -- f leads from each entry of the rest, whose first place is i, back to its place
-abbrev pub leadsBack : List ℕ → ℕ → List ℕ → Bool
+abbrev leadsBack : List ℕ → ℕ → List ℕ → Bool
 leadsBack f i [] = true
 leadsBack f i (x ∷ xs) = cond (eqb (getD f x 0) i) (leadsBack f (suc i) xs) false
 
-pub permutes : (length zigZag ≡ 64) × T (below 64 zigZag) × T (leadsBack naturalOrder 0 zigZag)
+permutes : (length zigZag ≡ 64) × T (below 64 zigZag) × T (leadsBack naturalOrder 0 zigZag)
 unfolding zigZag naturalOrder
 permutes = (refl, tt, tt)
-
-pub permutes-back : (length naturalOrder ≡ 64) × T (below 64 naturalOrder) × T (leadsBack zigZag 0 naturalOrder)
-unfolding zigZag naturalOrder
-permutes-back = (refl, tt, tt)
 
 cond-both : (a b : Bool) → T (cond a b false) → T a × T b
 cond-both true b t = (tt, t)
@@ -53,18 +49,14 @@ back-at f i (x ∷ xs) t zero h = eqb→eq (getD f x 0) i (cond-both (eqb (getD 
 back-at f i (x ∷ xs) t (suc k) h =
     back-at f (suc i) xs (cond-both (eqb (getD f x 0) i) (leadsBack f (suc i) xs) t .1) k (le-of-suc-le-suc h) ∙ suc-add i k ∙ sym (add-suc i k)
 
-pub natural-lt : (p : ℕ) → p < 64 → getD naturalOrder p 0 < 64
-unfolding naturalOrder
-natural-lt p h = below-at 64 naturalOrder (permutes-back .1) p h
-
 pub position-lt : (i : ℕ) → i < 64 → getD zigZag i 0 < 64
 unfolding zigZag
 position-lt i h = below-at 64 zigZag (permutes .1) i h
 
-pub position-of-natural : (p : ℕ) → p < 64 → getD zigZag (getD naturalOrder p 0) 0 ≡ p
-unfolding naturalOrder
-position-of-natural p h = back-at zigZag 0 naturalOrder (permutes-back .2) p h ∙ zero-add p
-
-pub natural-of-position : (i : ℕ) → i < 64 → getD naturalOrder (getD zigZag i 0) 0 ≡ i
+natural-of-position : (i : ℕ) → i < 64 → getD naturalOrder (getD zigZag i 0) 0 ≡ i
 unfolding zigZag
 natural-of-position i h = back-at naturalOrder 0 zigZag (permutes .2) i h ∙ zero-add i
+
+-- no two indices stand at one position
+pub one-index : (k i : ℕ) → k < 64 → i < 64 → getD zigZag k 0 ≡ getD zigZag i 0 → k ≡ i
+one-index k i hk hi e = sym (natural-of-position k hk) ∙ ap (λ (p : ℕ). getD naturalOrder p 0) e ∙ natural-of-position i hi

@@ -25,10 +25,18 @@ module _ (coefs : List ℤ) (at : ℕ) (dc : ℤ) (q : ℕ) (matrix : List ℕ) 
   unfoldable pub partly : ℕ → List ℤ
   partly p = tabulated (placed p) 0 64
 
+-- the coefficient with index i in natural order stands at position p of the zig-zag order
+abbrev pub StandsAt : ℕ → ℕ → Type 0
+StandsAt p i = (i < 64) × (getD zigZag i 0 ≡ p)
+
+-- so do four from p on
+abbrev pub Four : (p a b c d : ℕ) → Type 0
+Four p a b c d = StandsAt p a × StandsAt (p + 1) b × StandsAt (p + 2) c × StandsAt (p + 3) d
+
 module _ (coefs : List ℤ) (at : ℕ) (matrix : List ℕ) where
-  -- whatever DC is: if the positions below p are placed in s, one more is in t
-  abbrev pub Grows : ℕ → List ℤ → List ℤ → Type 0
-  Grows p s t = (dc : ℤ) (q : ℕ) → s ≡ turned (partly coefs at dc q matrix p) → t ≡ turned (partly coefs at dc q matrix (p + 1))
+  -- whatever DC is: if the positions below p are placed in s, n more are in t
+  abbrev pub Grows : (p n : ℕ) → List ℤ → List ℤ → Type 0
+  Grows p n s t = (dc : ℤ) (q m : ℕ) → p + n ≡ m → s ≡ turned (partly coefs at dc q matrix p) → t ≡ turned (partly coefs at dc q matrix m)
 
   -- whatever DC is: if the positions below p are placed in s, and the coefficients from n on are 0, all are placed in t
   abbrev pub Fills : ℕ → ℕ → List ℤ → List ℤ → Type 0

@@ -4,7 +4,7 @@ use Prim.Native.Nat.{ℕ, _+_, _-_, _≤_, _^_}
 use native.Mathlib.Omega.{arith}
 use mathlib.Core.Path.{_≡_, ap, subst, subst⁻¹}
 use mathlib.Core.List.{List}
-use lib.ListN.{length, getD, take, drop}
+use lib.ListN.{length, take, drop}
 use Rattle.bitstream.proofs.Spends.{readable-short}
 use Rattle.work_memory.specs.Memory.{Work, work}
 use Rattle.reading.specs.Answer.{read}
@@ -23,32 +23,26 @@ abbrev μ-loop : tie.MeasureT-loop
 loop-holds : tie.Need-loop-holds Inv-loop μ-loop
 loop-holds c = let a = (c .before .before .before .before .before .before .before .before .before .before .before .args) in going-first (a .table .now) (a .lengths .now) (a .packets .now) (a .start) (a .s) (a .running) _ ((c .before .before .before .before .before .before .before .before .before .before .before .pre) .3) ((c .before .before .before .before .before .before .before .before .before .before .before .pre) .4) ((c .before .before .before .before .before .before .before .before .before .before .before .pre) .0) ((c .before .before .before .before .before .before .before .before .before .before .before .pre) .2)
 
-mul-n : tie.Need-mul-n Inv-loop μ-loop
-mul-n c = omega (arith, (c .loop-test) .taken)
-
-shared-slice-read-n : tie.Need-shared-slice-read-n Inv-loop μ-loop
-shared-slice-read-n c = (c .before .loop-test) .taken
-
-add-end : tie.Need-add-end Inv-loop μ-loop
-add-end c = let a = (c .before .before .before .before .before .before .before .before .before .before .before .before .before .before .args) in let l = (c .before .before .loop) in omega (arith, end-few (a .table .now) (a .lengths .now) (a .packets .now) (a .start) (a .s) (a .running) (l .session) (l .sums) _ (l .at) (l .i) (l .inv) ((c .before .loop-test) .taken))
+packet-end-requires : tie.Need-packet-end-requires Inv-loop μ-loop
+packet-end-requires c κs = let a = (c .before .before .before .before .before .before .before .before .before .before .before .before .before .args) in let l = (c .before .loop) in ((c .loop-test) .taken, omega (arith, end-few (a .table .now) (a .lengths .now) (a .packets .now) (a .start) (a .s) (a .running) (l .session) (l .sums) _ (l .at) (l .i) (l .inv) ((c .loop-test) .taken)))
 
 sub-readable : tie.Need-sub-readable Inv-loop μ-loop
-sub-readable c = omega arith
+sub-readable c = omega (arith, c .packet-end .ensures)
 
 part-readable-start : tie.Need-part-readable-start Inv-loop μ-loop
-part-readable-start c = let a = (c .before .before .before .before .before .before .before .before .before .before .before .before .before .before .args) in let l = (c .before .before .loop) in omega (arith, end-few (a .table .now) (a .lengths .now) (a .packets .now) (a .start) (a .s) (a .running) (l .session) (l .sums) _ (l .at) (l .i) (l .inv) ((c .before .loop-test) .taken))
+part-readable-start c = let a = (c .before .before .before .before .before .before .before .before .before .before .before .before .before .before .args) in let l = (c .before .before .loop) in omega (arith, end-few (a .table .now) (a .lengths .now) (a .packets .now) (a .start) (a .s) (a .running) (l .session) (l .sums) _ (l .at) (l .i) (l .inv) ((c .before .loop-test) .taken), c .packet-end .ensures)
 
 part-readable-end : tie.Need-part-readable-end Inv-loop μ-loop
-part-readable-end c = let a = (c .before .before .before .before .before .before .before .before .before .before .before .before .before .before .args) in let l = (c .before .before .loop) in omega (arith, end-few (a .table .now) (a .lengths .now) (a .packets .now) (a .start) (a .s) (a .running) (l .session) (l .sums) _ (l .at) (l .i) (l .inv) ((c .before .loop-test) .taken))
+part-readable-end c = let a = (c .before .before .before .before .before .before .before .before .before .before .before .before .before .before .args) in let l = (c .before .before .loop) in omega (arith, end-few (a .table .now) (a .lengths .now) (a .packets .now) (a .start) (a .s) (a .running) (l .session) (l .sums) _ (l .at) (l .i) (l .inv) ((c .before .loop-test) .taken), c .packet-end .ensures)
 
 readable-requires : tie.Need-readable-requires Inv-loop μ-loop
 readable-requires c κs = search needs
 
 count-packet-requires : tie.Need-count-packet-requires Inv-loop μ-loop
-count-packet-requires c κs = let a = (c .before .before .before .before .before .before .before .before .before .before .before .before .before .before .before .before .before .before .before .before .before .before .before .before .before .before .before .before .args) in let l = (c .before .before .before .before .before .before .before .before .before .before .before .before .before .before .before .before .loop) in (l .inv .fits, subst⁻¹ (λ (p : List ℕ). length p ≤ 2 ^ 58) ((c .before .before .before .before .before .before .before .before .before .before .before .before .readable) .ensures) (readable-short (take (l .at + getD (a .lengths .now) (l .i) 0 - l .at) (drop (l .at) (a .packets .now)))), nodes-whole (a .table .now) ((c .before .before .before .before .before .before .before .before .before .before .before .before .before .before .before .before .before .before .before .before .before .before .before .before .before .before .before .before .pre) .1), l .inv .work)
+count-packet-requires c κs = let a = (c .before .before .before .before .before .before .before .before .before .before .before .before .before .before .before .before .before .before .before .before .before .before .before .before .before .before .before .before .args) in let l = (c .before .before .before .before .before .before .before .before .before .before .before .before .before .before .before .before .loop) in (l .inv .fits, subst⁻¹ (λ (p : List ℕ). length p ≤ 2 ^ 58) ((c .before .before .before .before .before .before .before .before .before .before .before .before .readable) .ensures) (readable-short (take ((c .before .before .before .before .before .before .before .before .before .before .before .before .before .before .packet-end) .result - l .at) (drop (l .at) (a .packets .now)))), nodes-whole (a .table .now) ((c .before .before .before .before .before .before .before .before .before .before .before .before .before .before .before .before .before .before .before .before .before .before .before .before .before .before .before .before .pre) .1), l .inv .work)
 
 add-packet-requires : tie.Need-add-packet-requires Inv-loop μ-loop
-add-packet-requires c κs = let a = (c .before .before .before .before .before .before .before .before .before .before .before .before .before .before .before .before .before .before .before .before .before .before .before .before .before .before .before .before .before .before .before .before .before .before .before .before .before .before .before .before .before .before .before .before .before .before .before .before .args) in let l = (c .before .before .before .before .before .before .before .before .before .before .before .before .before .before .before .before .before .before .before .before .before .before .before .before .before .before .before .before .before .before .before .before .before .before .before .before .loop) in counted-numbered (a .table .now) ((c .before .before .before .before .before .before .before .before .before .before .before .before .before .before .before .before .before .before .before .before .before .before .before .before .before .before .before .before .before .before .before .before .before .before .before .before .before .before .before .before .before .before .before .before .before .before .before .before .pre) .1) (l .session) (take (l .at + getD (a .lengths .now) (l .i) 0 - l .at) (drop (l .at) (a .packets .now))) ((c .before .before .before .before .before .before .before .before .before .before .before .before .before .before .before .before .before .before .before .count-packet) .result) (counted-is (a .table .now) ((c .before .before .before .before .before .before .before .before .before .before .before .before .before .before .before .before .before .before .before .before .before .before .before .before .before .before .before .before .before .before .before .before .before .before .before .before .before .before .before .before .before .before .before .before .before .before .before .before .pre) .1) (l .session) (l .inv .fits) (take (l .at + getD (a .lengths .now) (l .i) 0 - l .at) (drop (l .at) (a .packets .now))) _ ((c .before .before .before .before .before .before .before .before .before .before .before .before .before .before .before .before .before .before .before .before .before .before .before .before .before .before .before .before .before .before .before .before .readable) .ensures) ((c .before .before .before .before .before .before .before .before .before .before .before .before .before .before .before .before .before .before .before .count-packet) .result) ((c .before .before .before .before .before .before .before .before .before .before .before .before .before .before .before .before .before .before .before .count-packet) .ensures .0))
+add-packet-requires c κs = let a = (c .before .before .before .before .before .before .before .before .before .before .before .before .before .before .before .before .before .before .before .before .before .before .before .before .before .before .before .before .before .before .before .before .before .before .before .before .before .before .before .before .before .before .before .before .before .before .before .before .args) in let l = (c .before .before .before .before .before .before .before .before .before .before .before .before .before .before .before .before .before .before .before .before .before .before .before .before .before .before .before .before .before .before .before .before .before .before .before .before .loop) in counted-numbered (a .table .now) ((c .before .before .before .before .before .before .before .before .before .before .before .before .before .before .before .before .before .before .before .before .before .before .before .before .before .before .before .before .before .before .before .before .before .before .before .before .before .before .before .before .before .before .before .before .before .before .before .before .pre) .1) (l .session) (take ((c .before .before .before .before .before .before .before .before .before .before .before .before .before .before .before .before .before .before .before .before .before .before .before .before .before .before .before .before .before .before .before .before .before .before .packet-end) .result - l .at) (drop (l .at) (a .packets .now))) ((c .before .before .before .before .before .before .before .before .before .before .before .before .before .before .before .before .before .before .before .count-packet) .result) (counted-is (a .table .now) ((c .before .before .before .before .before .before .before .before .before .before .before .before .before .before .before .before .before .before .before .before .before .before .before .before .before .before .before .before .before .before .before .before .before .before .before .before .before .before .before .before .before .before .before .before .before .before .before .before .pre) .1) (l .session) (l .inv .fits) (take ((c .before .before .before .before .before .before .before .before .before .before .before .before .before .before .before .before .before .before .before .before .before .before .before .before .before .before .before .before .before .before .before .before .before .before .packet-end) .result - l .at) (drop (l .at) (a .packets .now))) _ ((c .before .before .before .before .before .before .before .before .before .before .before .before .before .before .before .before .before .before .before .before .before .before .before .before .before .before .before .before .before .before .before .before .readable) .ensures) ((c .before .before .before .before .before .before .before .before .before .before .before .before .before .before .before .before .before .before .before .count-packet) .result) ((c .before .before .before .before .before .before .before .before .before .before .before .before .before .before .before .before .before .before .before .count-packet) .ensures .0))
 
 add-i : tie.Need-add-i Inv-loop μ-loop
 add-i c = let q = (c .before .before .before .before .before .before .before .before .before .before .before .before .before .before .before .before .before .before .before .before .before .before .before .before .before .before .before .before .before .before .before .before .before .before .before .before .before .before .before .before .before .before .before .before .before .before .before .before .before .before .good) .1 .1 .0 in omega (arith, (c .before .before .before .before .before .before .before .before .before .before .before .before .before .before .before .before .before .before .before .before .before .before .before .before .before .before .before .before .before .before .before .before .before .before .before .before .before .loop-test) .taken, q .0, q .1)
@@ -57,7 +51,7 @@ loop-less : tie.Need-loop-less Inv-loop μ-loop
 loop-less c = omega (arith, (c .before .before .before .before .before .before .before .before .before .before .before .before .before .before .before .before .before .before .before .before .before .before .before .before .before .before .before .before .before .before .before .before .before .before .before .before .before .loop-test) .taken)
 
 loop-again : tie.Need-loop-again Inv-loop μ-loop
-loop-again c = let a = (c .before .before .before .before .before .before .before .before .before .before .before .before .before .before .before .before .before .before .before .before .before .before .before .before .before .before .before .before .before .before .before .before .before .before .before .before .before .before .before .before .before .before .before .before .before .before .before .before .before .before .args) in let l = (c .before .before .before .before .before .before .before .before .before .before .before .before .before .before .before .before .before .before .before .before .before .before .before .before .before .before .before .before .before .before .before .before .before .before .before .before .before .before .loop) in let n = getD (a .lengths .now) (l .i) 0 in let k : l .at + n - l .at ≡ n = omega arith in let part : List ℕ = take (l .at + n - l .at) (drop (l .at) (a .packets .now)) in let e : (c .before .before .before .before .before .before .before .before .before .before .before .before .before .before .before .before .before .before .before .before .before .count-packet) .result ≡ countedBy (l .session) (read (l .session) (a .table .now) part) = (counted-is (a .table .now) ((c .before .before .before .before .before .before .before .before .before .before .before .before .before .before .before .before .before .before .before .before .before .before .before .before .before .before .before .before .before .before .before .before .before .before .before .before .before .before .before .before .before .before .before .before .before .before .before .before .before .before .pre) .1) (l .session) (l .inv .fits) part _ ((c .before .before .before .before .before .before .before .before .before .before .before .before .before .before .before .before .before .before .before .before .before .before .before .before .before .before .before .before .before .before .before .before .before .before .readable) .ensures) ((c .before .before .before .before .before .before .before .before .before .before .before .before .before .before .before .before .before .before .before .before .before .count-packet) .result) ((c .before .before .before .before .before .before .before .before .before .before .before .before .before .before .before .before .before .before .before .before .before .count-packet) .ensures .0)) in going-on (a .table .now) (a .lengths .now) (a .packets .now) (a .start) (a .s) (a .running) (l .session) (l .sums) _ (l .at) (l .i) (l .inv) ((c .before .before .before .before .before .before .before .before .before .before .before .before .before .before .before .before .before .before .before .before .before .before .before .before .before .before .before .before .before .before .before .before .before .before .before .before .before .loop-test) .taken) part (ap (λ (k : ℕ). take k (drop (l .at) (a .packets .now))) k) ((c .before .before .before .before .before .before .before .before .before .before .before .before .before .before .before .before .before .before .before .before .before .count-packet) .result) e _ _ ((c .before .add-packet) .ensures) ((c .before .before .before .before .before .before .before .before .before .before .before .before .before .before .before .before .before .before .before .before .before .count-packet) .ensures .1)
+loop-again c = let a = (c .before .before .before .before .before .before .before .before .before .before .before .before .before .before .before .before .before .before .before .before .before .before .before .before .before .before .before .before .before .before .before .before .before .before .before .before .before .before .before .before .before .before .before .before .before .before .before .before .before .before .args) in let l = (c .before .before .before .before .before .before .before .before .before .before .before .before .before .before .before .before .before .before .before .before .before .before .before .before .before .before .before .before .before .before .before .before .before .before .before .before .before .before .loop) in let p = (c .before .before .before .before .before .before .before .before .before .before .before .before .before .before .before .before .before .before .before .before .before .before .before .before .before .before .before .before .before .before .before .before .before .before .before .before .packet-end) in let part : List ℕ = take (p .result - l .at) (drop (l .at) (a .packets .now)) in let e : (c .before .before .before .before .before .before .before .before .before .before .before .before .before .before .before .before .before .before .before .before .before .count-packet) .result ≡ countedBy (l .session) (read (l .session) (a .table .now) part) = (counted-is (a .table .now) ((c .before .before .before .before .before .before .before .before .before .before .before .before .before .before .before .before .before .before .before .before .before .before .before .before .before .before .before .before .before .before .before .before .before .before .before .before .before .before .before .before .before .before .before .before .before .before .before .before .before .before .pre) .1) (l .session) (l .inv .fits) part _ ((c .before .before .before .before .before .before .before .before .before .before .before .before .before .before .before .before .before .before .before .before .before .before .before .before .before .before .before .before .before .before .before .before .before .before .readable) .ensures) ((c .before .before .before .before .before .before .before .before .before .before .before .before .before .before .before .before .before .before .before .before .before .count-packet) .result) ((c .before .before .before .before .before .before .before .before .before .before .before .before .before .before .before .before .before .before .before .before .before .count-packet) .ensures .0)) in going-on (a .table .now) (a .lengths .now) (a .packets .now) (a .start) (a .s) (a .running) (l .session) (l .sums) _ (l .at) (l .i) (l .inv) ((c .before .before .before .before .before .before .before .before .before .before .before .before .before .before .before .before .before .before .before .before .before .before .before .before .before .before .before .before .before .before .before .before .before .before .before .before .before .loop-test) .taken) (p .result) (p .ensures) ((c .before .before .before .before .before .before .before .before .before .before .before .before .before .before .before .before .before .before .before .before .before .count-packet) .result) e _ _ ((c .before .add-packet) .ensures) ((c .before .before .before .before .before .before .before .before .before .before .before .before .before .before .before .before .before .before .before .before .before .count-packet) .ensures .1)
 
 same-length : tie.Need-same-length Inv-loop μ-loop
 same-length c = let a = (c .before .before .before .before .before .before .before .before .before .before .before .before .before .args) in let l = (c .before .loop) in ap (λ (w : Work). length (w .records)) (work-same (a .table .now) (a .lengths .now) (a .packets .now) (a .start) (a .s) (a .running) (l .session) (l .sums) _ (l .at) (l .i) (l .inv) ((c .before .before .before .before .before .before .before .before .before .before .before .before .before .pre) .2))
@@ -96,9 +90,7 @@ count-packets-spec =
     Inv-loop
     μ-loop
     loop-holds
-    mul-n
-    shared-slice-read-n
-    add-end
+    packet-end-requires
     sub-readable
     part-readable-start
     part-readable-end

@@ -5,8 +5,8 @@ use mathlib.Core.List.{List}
 use lib.ListN.{length}
 use borrow.Author.Tests.{not-true, not-false}
 use Rattle.work_memory.specs.Memory.{memory}
-use Rattle.decoding.specs.Answer.{done}
-use Rattle.changed_tiles.proofs.Calls.{call-20, call-1, call-made, call-lent}
+use Rattle.asked_frame.specs.Answer.{done}
+use Rattle.tile_calls.proofs.Calls.{call-20, call-1, call-made, call-lent}
 use borrow.Author.Needs.{needs}
 use Rattle.changed_tiles.proofs.frame.Statement.{statement}
 use Rattle.changed_tiles.proofs.frame.Tie as tie

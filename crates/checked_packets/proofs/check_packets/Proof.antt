@@ -4,7 +4,7 @@ use native.Mathlib.Omega.{arith}
 use mathlib.Core.Path.{_≡_, sym, ap, _∙_}
 use mathlib.Core.List.{List, [], _∷_, _++_}
 use borrow.Author.Needs.{needs}
-use lib.ListN.{length, getD, take, drop}
+use lib.ListN.{length, take}
 use borrow.Rule.Slice.PartMut.{mid-len, postOf}
 use Rattle.work_memory.specs.Memory.{Memory, memory}
 use Rattle.kept_matrices.specs.Kept.{Keeps}
@@ -31,23 +31,17 @@ loop-holds c =
     let q = c .before .before .before .before .before .before .before .before .before .before .before .before .before .before .before .before .before .pre in
     (watching-first (a .table .now) (a .lengths .now) (a .packets .now) (a .file .now) (a .s) (a .names) _ (a .begun) (a .first .now) (a .second .now) (a .third .now) (a .answers .now) (q .1 .1 .0) (q .0 .0) (q .0 .1) (q .1 .0 .0) (q .1 .0 .1) (q .1 .0 .2) (q .1 .0 .3) (q .1 .1 .1) (q .1 .1 .2), c .none .ensures (a .table .now) (a .loaded .parameters))
 
-mul-n : tie.Need-mul-n Inv-loop μ-loop
-mul-n c = let q = c .before .before .before .before .before .before .before .before .before .before .before .before .before .before .before .before .before .before .before .good .1 .1 .0 in omega (arith, c .loop-test .taken, q .0, q .1)
-
-shared-slice-read-n : tie.Need-shared-slice-read-n Inv-loop μ-loop
-shared-slice-read-n c = c .before .loop-test .taken
-
-add-end : tie.Need-add-end Inv-loop μ-loop
-add-end c = let q = c .before .before .before .before .before .before .before .before .before .before .before .before .before .before .before .before .before .before .before .before .good .1 .1 .1 .0 in omega (arith, end-few (c .before .before .loop .inv .0 .going) (c .before .loop-test .taken), q .0, q .1)
+packet-end-requires : tie.Need-packet-end-requires Inv-loop μ-loop
+packet-end-requires c κs = let q = c .before .before .before .before .before .before .before .before .before .before .before .before .before .before .before .before .before .before .before .good .1 .1 .1 .0 in (c .loop-test .taken, omega (arith, end-few (c .before .loop .inv .0 .going) (c .loop-test .taken), q .0, q .1))
 
 sub-play-packet : tie.Need-sub-play-packet Inv-loop μ-loop
-sub-play-packet c = omega arith
+sub-play-packet c = omega (arith, c .packet-end .ensures)
 
 part-play-packet-start : tie.Need-part-play-packet-start Inv-loop μ-loop
-part-play-packet-start c = omega (arith, end-few (c .before .before .loop .inv .0 .going) (c .before .loop-test .taken))
+part-play-packet-start c = omega (arith, end-few (c .before .before .loop .inv .0 .going) (c .before .loop-test .taken), c .packet-end .ensures)
 
 part-play-packet-end : tie.Need-part-play-packet-end Inv-loop μ-loop
-part-play-packet-end c = omega (arith, end-few (c .before .before .loop .inv .0 .going) (c .before .loop-test .taken))
+part-play-packet-end c = omega (arith, end-few (c .before .before .loop .inv .0 .going) (c .before .loop-test .taken), c .packet-end .ensures)
 
 play-packet-requires : tie.Need-play-packet-requires Inv-loop μ-loop
 play-packet-requires c κs =
@@ -94,10 +88,9 @@ loop-again c =
     let a = c .before .before .before .before .before .before .before .before .before .before .before .before .before .before .before .before .before .before .before .before .before .before .before .before .before .before .before .before .before .before .before .before .before .before .before .before .before .before .before .before .before .before .before .before .before .before .before .before .before .before .before .before .before .before .before .before .before .before .before .before .before .before .before .before .before .before .before .before .before .before .before .before .args in
     let l = c .before .before .before .before .before .before .before .before .before .before .before .before .before .before .before .before .before .before .before .before .before .before .before .before .before .before .before .before .before .before .before .before .before .before .before .before .before .before .before .before .before .before .before .before .before .before .before .before .before .before .before .before .before .before .loop in
     let r = c .before .before .before .before .before .before .before .before .before .before .before .before .before .before .before .before .before .before .before .before .before .before .before .before .before .before .before .before .before .before .before .before .before .before .before .before .before .play-packet in
-    let n = getD (a .lengths .now) (l .i) 0 in
-    let k : l .at + n - l .at ≡ n = omega arith in (
+    let ended = c .before .before .before .before .before .before .before .before .before .before .before .before .before .before .before .before .before .before .before .before .before .before .before .before .before .before .before .before .before .before .before .before .before .before .before .before .before .before .before .before .before .before .before .before .before .before .before .before .before .before .before .before .packet-end in (
       watching-on (a .table .now) (a .lengths .now) (a .packets .now) (a .file .now) (a .s) (a .names) _ (a .begun) _ (loaded-whole (a .table .now) (c .before .before .before .before .before .before .before .before .before .before .before .before .before .before .before .before .before .before .before .before .before .before .before .before .before .before .before .before .before .before .before .before .before .before .before .before .before .before .before .before .before .before .before .before .before .before .before .before .before .before .before .before .before .before .before .before .before .before .before .before .before .before .before .before .before .before .before .before .before .before .before .before .pre .0 .2)) (l .session) (l .first) (l .second) (l .third) (l .both) _ (l .answers) (l .seen) (l .at) (l .i) (l .inv .0)
-          (c .before .before .before .before .before .before .before .before .before .before .before .before .before .before .before .before .before .before .before .before .before .before .before .before .before .before .before .before .before .before .before .before .before .before .before .before .before .before .before .before .before .before .before .before .before .before .before .before .before .before .before .before .before .loop-test .taken) _ (ap (λ (k : ℕ). take k (drop (l .at) (a .packets .now))) k) (r .result .answer) _ _ _ (r .result .names) _ (r .ensures .0) (c .before .before .before .before .before .before .before .before .before .before .before .before .before .before .before .before .before .before .first .given) (c .before .before .before .before .before .before .before .before .before .before .before .before .before .before .before .before .second .given) (c .before .before .before .before .before .before .before .before .before .before .before .before .before .before .third .given)
+          (c .before .before .before .before .before .before .before .before .before .before .before .before .before .before .before .before .before .before .before .before .before .before .before .before .before .before .before .before .before .before .before .before .before .before .before .before .before .before .before .before .before .before .before .before .before .before .before .before .before .before .before .before .before .loop-test .taken) (ended .result) (ended .ensures) (r .result .answer) _ _ _ (r .result .names) _ (r .ensures .0) (c .before .before .before .before .before .before .before .before .before .before .before .before .before .before .before .before .before .before .first .given) (c .before .before .before .before .before .before .before .before .before .before .before .before .before .before .before .before .second .given) (c .before .before .before .before .before .before .before .before .before .before .before .before .before .before .third .given)
           (c .watch-named .result) (c .watch-named .ensures .0) (c .watch-named .ensures .1)
           _ _ (ap (λ (v : List ℕ). take (8 * l .i) (l .answers) ++ (v ++ postOf (8 * l .i) (8 * l .i + 8 - 8 * l .i) (l .answers))) (c .before .before .before .before .before .before .before .before .before .store-answer .ensures)) (c .before .before .before .before .before .before .before .before .answers .given .1),
       r .ensures .1,
@@ -159,9 +152,7 @@ check-packets-spec =
     μ-loop
     none-requires
     loop-holds
-    mul-n
-    shared-slice-read-n
-    add-end
+    packet-end-requires
     sub-play-packet
     part-play-packet-start
     part-play-packet-end

@@ -22,16 +22,16 @@ use Rattle.reconstruct.proofs.write_coded.Statement.{statement}
 use Rattle.reconstruct.proofs.write_coded.Tie as tie
 
 module _ (c : tie.After-unpack) where
-  in-frame : InFrame (c .before .before .before .before .before .before .args .format) (c .before .before .before .before .before .before .args .w) (c .before .before .before .before .before .before .args .h) (c .before .raster-block .result)
+  in-frame : InFrame (c .before .before .before .before .before .before .args .format) (c .before .before .before .before .before .before .args .w) (c .before .before .before .before .before .before .args .h) (c .before .block-in .result)
   in-frame =
       let a = c .before .before .before .before .before .before .args in
-      subst (InFrame (a .format) (a .w) (a .h)) (sym (c .before .raster-block .ensures)) (number-of-block (a .format) (a .w) (a .h) (a .n) (c .before .before .before .before .before .before .pre .2) .0)
+      subst (InFrame (a .format) (a .w) (a .h)) (sym (c .before .block-in .ensures)) (number-of-block (a .format) (a .w) (a .h) (a .n) (c .before .before .before .before .before .before .pre .2) .0)
 
   in-range : InRange (c .unpack .result)
-  in-range = subst InRange (sym (c .unpack .ensures)) (c .before .before .before .before .before .before .pre .3)
+  in-range = subst InRange (sym (c .unpack .ensures)) (c .before .before .before .before .before .before .pre .4)
 
-raster-block-requires : tie.Need-raster-block-requires
-raster-block-requires c κs = search needs
+block-in-requires : tie.Need-block-in-requires
+block-in-requires c κs = search needs
 
 unpack-requires : tie.Need-unpack-requires
 unpack-requires c κs = search needs
@@ -40,13 +40,13 @@ slice-aggregate-residual-of : tie.Need-slice-aggregate-residual-of
 slice-aggregate-residual-of c = search needs
 
 residual-of-requires : tie.Need-residual-of-requires
-residual-of-requires c κs = let p = c .before .before .before .before .before .before .before .pre in (p .4, p .5, in-frame (c .before) .of-three, in-range (c .before) .qi-index, search needs)
+residual-of-requires c κs = let p = c .before .before .before .before .before .before .before .pre in (p .5, p .6, in-frame (c .before) .of-three, in-range (c .before) .qi-index, search needs)
 
 slice-aggregate-write-block : tie.Need-slice-aggregate-write-block
 slice-aggregate-write-block c = search needs
 
 write-block-requires : tie.Need-write-block-requires
-write-block-requires c κs = let p = c .before .before .before .before .before .before .before .before .before .before .before .pre in (p .0, p .1, in-frame (c .before .before .before .before .before), in-range (c .before .before .before .before .before) .prediction, p .6, p .7, p .8, c .before .before .before .residual-of .kept .1 .1 .1 .1 .1 .1 .1 .1 .0)
+write-block-requires c κs = let p = c .before .before .before .before .before .before .before .before .before .before .before .pre in (p .0, p .1, in-frame (c .before .before .before .before .before), in-range (c .before .before .before .before .before) .prediction, p .7, p .8, p .9, c .before .before .before .residual-of .kept .1 .1 .1 .1 .1 .1 .1 .1 .0)
 
 same-length : tie.Need-same-length
 same-length c = search needs
@@ -56,9 +56,9 @@ unfolding blockResidual
 returns c =
     let s = c .before .before .before .before .before .before .before .before .before .before .before .before .before .before in
     let a = s .args in
-    let e = c .before .before .before .before .before .before .before .before .before .raster-block .ensures in
+    let e = c .before .before .before .before .before .before .before .before .before .block-in .ensures in
     let u = c .before .before .before .before .before .before .before .before .unpack .ensures in
-    let b = c .before .before .before .before .before .before .before .before .before .raster-block .result in
+    let b = c .before .before .before .before .before .before .before .before .before .block-in .result in
     let r = c .before .before .before .before .before .before .before .before .unpack .result in
     let m = matrixIn (a .matrices .now) in
     let l = c .before .before .before .before .before .before .residual-of .ensures
@@ -73,7 +73,7 @@ pub write-coded-spec : {M : Type 1} → statement M
 write-coded-spec =
     tie.close
     (tie.spec
-    raster-block-requires
+    block-in-requires
     unpack-requires
     slice-aggregate-residual-of
     residual-of-requires

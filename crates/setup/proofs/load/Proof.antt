@@ -9,7 +9,7 @@ use Rattle.quantization.specs.Parameters.{Quantization, quantization}
 use Rattle.quantization.proofs.Loops.{filled-is}
 use Rattle.bitstream.proofs.Ends.{end-refused, end-at}
 use Rattle.setup.specs.Header.{Setup, loopLimits, setupHeader}
-use Rattle.setup.specs.Answer.{told}
+use Rattle.setup_trees.specs.Answer.{told}
 use Rattle.setup.specs.Loaded.{asSetupRead}
 use Rattle.setup.proofs.Steps.{parameters-read, parameters-refused, header-common, header-limits, header-parameters, header-told, header-inside, header-got, told-got, told-same, load-read}
 use borrow.Author.Needs.{needs}

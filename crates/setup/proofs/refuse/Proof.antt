@@ -2,7 +2,7 @@
 use mathlib.Core.Path.{_∙_, sym, ap}
 use mathlib.Core.Bool.{Bool}
 use Rattle.bitstream.specs.Reading.{refused}
-use Rattle.setup.specs.Answer.{told}
+use Rattle.setup_trees.specs.Answer.{told}
 use Rattle.setup.specs.Loaded.{asSetupRead}
 use borrow.Author.Needs.{needs}
 use Rattle.setup.proofs.refuse.Statement.{statement}

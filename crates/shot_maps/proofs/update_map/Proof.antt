@@ -7,7 +7,7 @@ use lib.ListN.{length}
 use Rattle.buffer_names.specs.Names.{free}
 use Rattle.frame_into.specs.Buffers.{bufferOf}
 use Rattle.shot_packets.proofs.Packet.{buffer-long}
-use Rattle.changed_tiles.specs.Call.{mapAfter}
+use Rattle.tile_calls.specs.Call.{mapAfter}
 use Rattle.shot_maps.proofs.Fits.{if-any}
 use mathlib.Core.List.{List, [], _∷_}
 use Rattle.shot_maps.proofs.Parts.{part-long, part-changed}

@@ -4,7 +4,7 @@ use Prim.Native.Nat.{ℕ, _+_, _-_, _*_}
 use native.Mathlib.Omega.{arith}
 use mathlib.Core.Path.{_≡_, sym, ap, _∙_}
 use mathlib.Core.List.{List, [], _∷_, _++_}
-use lib.ListN.{length, getD, take, drop}
+use lib.ListN.{length, take}
 use borrow.Rule.Slice.PartMut.{mid-len, postOf}
 use Rattle.work_memory.specs.Memory.{Memory, memory}
 use Rattle.kept_matrices.specs.Kept.{Keeps}
@@ -33,23 +33,17 @@ loop-holds c =
       c .none .ensures (a .table .now) (a .loaded .parameters),
     )
 
-mul-n : tie.Need-mul-n Inv-loop μ-loop
-mul-n c = omega (arith, c .loop-test .taken)
-
-shared-slice-read-n : tie.Need-shared-slice-read-n Inv-loop μ-loop
-shared-slice-read-n c = c .before .loop-test .taken
-
-add-end : tie.Need-add-end Inv-loop μ-loop
-add-end c = let q = c .before .before .before .before .before .before .before .before .before .before .before .before .before .before .before .before .before .before .before .good .1 .1 .1 .0 in omega (arith, end-few (c .before .before .loop .inv .0) (c .before .loop-test .taken), q .0, q .1)
+packet-end-requires : tie.Need-packet-end-requires Inv-loop μ-loop
+packet-end-requires c κs = let q = c .before .before .before .before .before .before .before .before .before .before .before .before .before .before .before .before .before .before .good .1 .1 .1 .0 in (c .loop-test .taken, omega (arith, end-few (c .before .loop .inv .0) (c .loop-test .taken), q .0, q .1))
 
 sub-play-packet : tie.Need-sub-play-packet Inv-loop μ-loop
-sub-play-packet c = omega arith
+sub-play-packet c = omega (arith, c .packet-end .ensures)
 
 part-play-packet-start : tie.Need-part-play-packet-start Inv-loop μ-loop
-part-play-packet-start c = omega (arith, end-few (c .before .before .loop .inv .0) (c .before .loop-test .taken))
+part-play-packet-start c = omega (arith, end-few (c .before .before .loop .inv .0) (c .before .loop-test .taken), c .packet-end .ensures)
 
 part-play-packet-end : tie.Need-part-play-packet-end Inv-loop μ-loop
-part-play-packet-end c = omega (arith, end-few (c .before .before .loop .inv .0) (c .before .loop-test .taken))
+part-play-packet-end c = omega (arith, end-few (c .before .before .loop .inv .0) (c .before .loop-test .taken), c .packet-end .ensures)
 
 play-packet-requires : tie.Need-play-packet-requires Inv-loop μ-loop
 play-packet-requires c κs =
@@ -92,10 +86,9 @@ loop-again c =
     let a = z .args in
     let l = c .before .before .before .before .before .before .before .before .before .before .before .before .before .before .before .before .before .before .before .before .before .before .before .before .before .before .before .before .before .before .before .before .before .before .before .before .before .before .before .before .before .before .before .before .before .before .before .before .before .before .loop in
     let r = c .before .before .before .before .before .before .before .before .before .before .before .before .before .before .before .before .before .before .before .before .before .before .before .before .before .before .before .before .before .before .before .before .before .play-packet in
-    let n = getD (a .lengths .now) (l .i) 0 in
-    let k : l .at + n - l .at ≡ n = omega arith in (
+    let p = c .before .before .before .before .before .before .before .before .before .before .before .before .before .before .before .before .before .before .before .before .before .before .before .before .before .before .before .before .before .before .before .before .before .before .before .before .before .before .before .before .before .before .before .before .before .before .before .before .packet-end in (
       going-on (a .table .now) (a .lengths .now) (a .packets .now) (a .s) (a .names) _ _ (loaded-whole (a .table .now) (z .pre .0 .2)) (l .session) (l .first) (l .second) (l .third) (l .both) _ (l .answers) (l .at) (l .i) (l .inv .0)
-          (c .before .before .before .before .before .before .before .before .before .before .before .before .before .before .before .before .before .before .before .before .before .before .before .before .before .before .before .before .before .before .before .before .before .before .before .before .before .before .before .before .before .before .before .before .before .before .before .before .before .loop-test .taken) _ (ap (λ (k : ℕ). take k (drop (l .at) (a .packets .now))) k) (r .result .answer) _ _ _ (r .result .names) _ (r .ensures .0) (c .before .before .before .before .before .before .before .before .before .before .before .before .before .before .first .given) (c .before .before .before .before .before .before .before .before .before .before .before .before .second .given) (c .before .before .before .before .before .before .before .before .before .before .third .given)
+          (c .before .before .before .before .before .before .before .before .before .before .before .before .before .before .before .before .before .before .before .before .before .before .before .before .before .before .before .before .before .before .before .before .before .before .before .before .before .before .before .before .before .before .before .before .before .before .before .before .before .loop-test .taken) (p .result) (p .ensures) (r .result .answer) _ _ _ (r .result .names) _ (r .ensures .0) (c .before .before .before .before .before .before .before .before .before .before .before .before .before .before .first .given) (c .before .before .before .before .before .before .before .before .before .before .before .before .second .given) (c .before .before .before .before .before .before .before .before .before .before .third .given)
           _ _ (ap (λ (v : List ℕ). take (8 * l .i) (l .answers) ++ (v ++ postOf (8 * l .i) (8 * l .i + 8 - 8 * l .i) (l .answers))) (c .before .before .before .before .before .store-answer .ensures)) (c .before .before .before .before .answers .given .1),
       r .ensures .1,
     )
@@ -157,9 +150,7 @@ play-packets-spec =
     μ-loop
     none-requires
     loop-holds
-    mul-n
-    shared-slice-read-n
-    add-end
+    packet-end-requires
     sub-play-packet
     part-play-packet-start
     part-play-packet-end

@@ -4,7 +4,7 @@ use native.Mathlib.Omega.{arith}
 use mathlib.Core.Path.{_≡_, refl, sym, ap, _∙_}
 use mathlib.Core.List.{[], _∷_}
 use borrow.Author.Needs.{needs}
-use lib.ListN.{length, getD, take, drop}
+use lib.ListN.{length}
 use Rattle.work_memory.specs.Memory.{Memory, memory}
 use Rattle.kept_matrices.specs.Kept.{Keeps}
 use Rattle.shot_packets.specs.Play.{shot}
@@ -35,23 +35,17 @@ loop-holds c =
       c .none .ensures (a .table .now) (a .loaded .parameters),
     )
 
-mul-n : tie.Need-mul-n Inv-loop μ-loop
-mul-n c = let q = c .before .before .before .before .before .before .before .before .before .before .before .before .before .before .before .before .before .before .before .good .1 .1 .1 .0 in omega (arith, c .loop-test .taken, q .0, q .1)
-
-shared-slice-read-n : tie.Need-shared-slice-read-n Inv-loop μ-loop
-shared-slice-read-n c = c .before .loop-test .taken
-
-add-end : tie.Need-add-end Inv-loop μ-loop
-add-end c = let q = c .before .before .before .before .before .before .before .before .before .before .before .before .before .before .before .before .before .before .before .before .good .1 .1 .1 .1 .0 in omega (arith, end-few (c .before .before .loop .inv .0) (c .before .loop-test .taken), q .0, q .1)
+packet-end-requires : tie.Need-packet-end-requires Inv-loop μ-loop
+packet-end-requires c κs = let q = c .before .before .before .before .before .before .before .before .before .before .before .before .before .before .before .before .before .before .before .good .1 .1 .1 .1 .0 in (c .loop-test .taken, omega (arith, end-few (c .before .loop .inv .0) (c .loop-test .taken), q .0, q .1))
 
 sub-play-packet : tie.Need-sub-play-packet Inv-loop μ-loop
-sub-play-packet c = omega arith
+sub-play-packet c = omega (arith, c .packet-end .ensures)
 
 part-play-packet-start : tie.Need-part-play-packet-start Inv-loop μ-loop
-part-play-packet-start c = omega (arith, end-few (c .before .before .loop .inv .0) (c .before .loop-test .taken))
+part-play-packet-start c = omega (arith, end-few (c .before .before .loop .inv .0) (c .before .loop-test .taken), c .packet-end .ensures)
 
 part-play-packet-end : tie.Need-part-play-packet-end Inv-loop μ-loop
-part-play-packet-end c = omega (arith, end-few (c .before .before .loop .inv .0) (c .before .loop-test .taken))
+part-play-packet-end c = omega (arith, end-few (c .before .before .loop .inv .0) (c .before .loop-test .taken), c .packet-end .ensures)
 
 play-packet-requires : tie.Need-play-packet-requires Inv-loop μ-loop
 play-packet-requires c κs = let g = c .before .before .before .before .before .before .before .before .before .before .before .before .before .before .before .before .loop .inv .0 in ((g .fits, g .sound, c .before .before .before .before .before .before .before .before .before .before .before .before .before .before .before .before .before .before .before .before .before .before .before .before .before .before .before .before .before .before .before .before .before .before .pre .0 .2, c .before .before .before .before .before .before .before .before .before .before .before .before .before .before .before .before .loop .inv .2), (g .work, g .long-first, g .long-second, g .long-third))
@@ -75,14 +69,12 @@ loop-again c =
     let l = c .before .before .before .before .before .before .before .before .before .before .before .before .before .before .before .before .before .before .before .before .before .before .before .before .before .before .before .before .before .before .before .before .before .before .before .before .before .before .before .before .before .before .before .before .before .before .before .before .before .before .before .before .before .before .before .before .loop in
     let r = c .before .before .before .before .before .before .before .before .before .before .before .before .before .before .before .before .before .before .before .before .before .before .before .before .before .before .before .before .before .before .before .before .before .before .before .before .before .before .before .play-packet in
     let t = c .before .before .before .before .before .before .before .before .before .before .before .before .before .before .before .before .before .before .before .before .before .before .before .before .before .before .before .before .before .before .before .before .before .before .before .before .before .before .before .before .before .before .before .before .before .before .before .before .before .before .before .before .before .before .before .loop-test .taken in
-    let n = getD (a .lengths .now) (l .i) 0 in
-    let k : l .at + n - l .at ≡ n = omega arith in
-    let e = ap (λ (k : ℕ). take k (drop (l .at) (a .packets .now))) k in
+    let ended = c .before .before .before .before .before .before .before .before .before .before .before .before .before .before .before .before .before .before .before .before .before .before .before .before .before .before .before .before .before .before .before .before .before .before .before .before .before .before .before .before .before .before .before .before .before .before .before .before .before .before .before .before .before .before .packet-end in
     let stored = c .before .before .before .before .before .before .before .store-packet .ensures in (
       going-on (a .table .now) (a .lengths .now) (a .packets .now) (a .s) (a .names) _ _ (loaded-whole (a .table .now) (p .0 .2)) (l .session) (l .first) (l .second) (l .third) (l .both) _ (l .answers) (l .at) (l .i) (l .inv .0)
-          t _ e (r .result .answer) _ _ _ (r .result .names) _ (r .ensures .0) (c .before .before .before .before .before .before .before .before .before .before .before .before .before .before .before .before .before .before .before .before .first .given) (c .before .before .before .before .before .before .before .before .before .before .before .before .before .before .before .before .before .before .second .given) (c .before .before .before .before .before .before .before .before .before .before .before .before .before .before .before .before .third .given) _ _ (stored .0) (c .before .before .before .before .before .before .answers .given),
+          t (ended .result) (ended .ensures) (r .result .answer) _ _ _ (r .result .names) _ (r .ensures .0) (c .before .before .before .before .before .before .before .before .before .before .before .before .before .before .before .before .before .before .before .before .first .given) (c .before .before .before .before .before .before .before .before .before .before .before .before .before .before .before .before .before .before .second .given) (c .before .before .before .before .before .before .before .before .before .before .before .before .before .before .before .before .third .given) _ _ (stored .0) (c .before .before .before .before .before .before .answers .given),
       maps-on (a .set) (a .table .now) (a .lengths .now) (a .packets .now) _ (a .maps .now) (l .session) (l .first) (l .second) (l .third) (l .both) _ (l .maps) (l .at) (l .i) (l .inv .1)
-          (l .inv .0 .sound) (l .inv .0 .fits) (p .1 .1 .2) t _ e (r .result .answer) _ _ _ (r .result .names) _ (r .ensures .0 []) _ (stored .1) (c .before .before .before .before .maps .given),
+          (l .inv .0 .sound) (l .inv .0 .fits) (p .1 .1 .2) t (ended .result) (ended .ensures) (r .result .answer) _ _ _ (r .result .names) _ (r .ensures .0 []) _ (stored .1) (c .before .before .before .before .maps .given),
       r .ensures .1,
     )
 
@@ -150,9 +142,7 @@ play-packets-spec =
     μ-loop
     none-requires
     loop-holds
-    mul-n
-    shared-slice-read-n
-    add-end
+    packet-end-requires
     sub-play-packet
     part-play-packet-start
     part-play-packet-end

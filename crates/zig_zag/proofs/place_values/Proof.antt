@@ -1,49 +1,44 @@
 -- `zig_zag::place_values` meets its contract. Assumes nothing.
-use borrow.Author.Needs.{needs}
-use mathlib.Core.Path.{_∙_}
+use mathlib.Core.Path.{refl, _∙_}
 use native.Mathlib.Omega.{arith}
+use Rattle.zig_zag.specs.Values.{zigZag}
 use Rattle.zig_zag.proofs.Placed.{all-turned}
 use Rattle.zig_zag.proofs.place_values.Statement.{statement}
 use Rattle.zig_zag.proofs.place_values.Tie as tie
 
 place-requires : tie.Need-place-requires
-place-requires c κs = search needs
+unfolding zigZag
+place-requires c κs = (c .before .before .pre .0, c .before .before .pre .1, c .before .before .pre .2, omega arith, (omega arith, refl))
 
 place-requires-2 : tie.Need-place-requires-2
-place-requires-2 c κs = search needs
+unfolding zigZag
+place-requires-2 c κs = (c .before .before .before .before .before .pre .0, c .before .before .before .before .before .pre .1, c .before .before .place .kept .1 .1 .1 .1 .1 .0 ∙ c .before .before .before .before .before .pre .2, omega arith, (omega arith, refl))
 
 place-requires-3 : tie.Need-place-requires-3
-place-requires-3 c κs = search needs
+unfolding zigZag
+place-requires-3 c κs = (c .before .before .before .before .before .before .before .before .pre .0, c .before .before .before .before .before .before .before .before .pre .1, c .before .before .place2 .kept .1 .1 .1 .1 .1 .0 ∙ c .before .before .before .before .before .place .kept .1 .1 .1 .1 .1 .0 ∙ c .before .before .before .before .before .before .before .before .pre .2, omega arith, (omega arith, refl))
 
-place-requires-4 : tie.Need-place-requires-4
-place-requires-4 c κs = search needs
+place-four-requires : tie.Need-place-four-requires
+unfolding zigZag
+place-four-requires c κs = (c .before .before .before .before .before .before .before .before .before .before .before .pre .0, c .before .before .before .before .before .before .before .before .before .before .before .pre .1, c .before .before .place3 .kept .1 .1 .1 .1 .1 .0 ∙ c .before .before .before .before .before .place2 .kept .1 .1 .1 .1 .1 .0 ∙ c .before .before .before .before .before .before .before .before .place .kept .1 .1 .1 .1 .1 .0 ∙ c .before .before .before .before .before .before .before .before .before .before .before .pre .2, omega arith, ((omega arith, refl), (omega arith, refl), (omega arith, refl), (omega arith, refl)))
 
-place-requires-5 : tie.Need-place-requires-5
-place-requires-5 c κs = search needs
-
-place-requires-6 : tie.Need-place-requires-6
-place-requires-6 c κs = search needs
-
-place-requires-7 : tie.Need-place-requires-7
-place-requires-7 c κs = search needs
-
-place-from-8-requires : tie.Need-place-from-8-requires
-place-from-8-requires c κs = (c .before .before .before .before .before .before .before .before .before .before .before .before .before .before .before .before .before .before .before .before .before .before .before .before .pre .0, c .before .before .before .before .before .before .before .before .before .before .before .before .before .before .before .before .before .before .before .before .before .before .before .before .pre .1, c .before .before .before .place7 .kept .1 .1 .1 .1 .0 ∙ c .before .before .before .before .before .before .place6 .kept .1 .1 .1 .1 .0 ∙ c .before .before .before .before .before .before .before .before .before .place5 .kept .1 .1 .1 .1 .0 ∙ c .before .before .before .before .before .before .before .before .before .before .before .before .place4 .kept .1 .1 .1 .1 .0 ∙ c .before .before .before .before .before .before .before .before .before .before .before .before .before .before .before .place3 .kept .1 .1 .1 .1 .0 ∙ c .before .before .before .before .before .before .before .before .before .before .before .before .before .before .before .before .before .before .place2 .kept .1 .1 .1 .1 .0 ∙ c .before .before .before .before .before .before .before .before .before .before .before .before .before .before .before .before .before .before .before .before .before .place .kept .1 .1 .1 .1 .0 ∙ c .before .before .before .before .before .before .before .before .before .before .before .before .before .before .before .before .before .before .before .before .before .before .before .before .pre .2)
+place-rest-requires : tie.Need-place-rest-requires
+place-rest-requires c κs = (c .before .before .before .before .before .before .before .before .before .before .before .before .before .before .before .pre .0, c .before .before .before .before .before .before .before .before .before .before .before .before .before .before .before .pre .1, c .before .before .before .place-four .kept .1 .1 .1 .1 .1 .1 .1 .1 .0 ∙ c .before .before .before .before .before .before .place3 .kept .1 .1 .1 .1 .1 .0 ∙ c .before .before .before .before .before .before .before .before .before .place2 .kept .1 .1 .1 .1 .1 .0 ∙ c .before .before .before .before .before .before .before .before .before .before .before .before .place .kept .1 .1 .1 .1 .1 .0 ∙ c .before .before .before .before .before .before .before .before .before .before .before .before .before .before .before .pre .2)
 
 same-length : tie.Need-same-length
-same-length c = c .before .place-from-8 .kept .1 .1 .1 .1 .0 ∙ c .before .before .before .before .before .place7 .kept .1 .1 .1 .1 .0 ∙ c .before .before .before .before .before .before .before .before .place6 .kept .1 .1 .1 .1 .0 ∙ c .before .before .before .before .before .before .before .before .before .before .before .place5 .kept .1 .1 .1 .1 .0 ∙ c .before .before .before .before .before .before .before .before .before .before .before .before .before .before .place4 .kept .1 .1 .1 .1 .0 ∙ c .before .before .before .before .before .before .before .before .before .before .before .before .before .before .before .before .before .place3 .kept .1 .1 .1 .1 .0 ∙ c .before .before .before .before .before .before .before .before .before .before .before .before .before .before .before .before .before .before .before .before .place2 .kept .1 .1 .1 .1 .0 ∙ c .before .before .before .before .before .before .before .before .before .before .before .before .before .before .before .before .before .before .before .before .before .before .before .place .kept .1 .1 .1 .1 .0
+same-length c = c .before .place-rest .kept .1 .1 .1 .1 .0 ∙ c .before .before .before .before .before .place-four .kept .1 .1 .1 .1 .1 .1 .1 .1 .0 ∙ c .before .before .before .before .before .before .before .before .place3 .kept .1 .1 .1 .1 .1 .0 ∙ c .before .before .before .before .before .before .before .before .before .before .before .place2 .kept .1 .1 .1 .1 .1 .0 ∙ c .before .before .before .before .before .before .before .before .before .before .before .before .before .before .place .kept .1 .1 .1 .1 .1 .0
 
 returns : tie.Need-returns
-returns c dc q z e = c .before .place-from-8 .ensures dc q z (c .before .before .before .before .before .place7 .ensures dc q (c .before .before .before .before .before .before .before .before .place6 .ensures dc q (c .before .before .before .before .before .before .before .before .before .before .before .place5 .ensures dc q (c .before .before .before .before .before .before .before .before .before .before .before .before .before .before .place4 .ensures dc q (c .before .before .before .before .before .before .before .before .before .before .before .before .before .before .before .before .before .place3 .ensures dc q (c .before .before .before .before .before .before .before .before .before .before .before .before .before .before .before .before .before .before .before .before .place2 .ensures dc q (c .before .before .before .before .before .before .before .before .before .before .before .before .before .before .before .before .before .before .before .before .before .before .before .place .ensures dc q e)))))))
+returns c dc q z e = c .before .place-rest .ensures dc q z (c .before .before .before .before .before .place-four .ensures dc q 8 refl (c .before .before .before .before .before .before .before .before .place3 .ensures dc q 4 refl (c .before .before .before .before .before .before .before .before .before .before .before .place2 .ensures dc q 3 refl (c .before .before .before .before .before .before .before .before .before .before .before .before .before .before .place .ensures dc q 2 refl e))))
 
 same-length-2 : tie.Need-same-length-2
-same-length-2 c = c .before .before .place7 .kept .1 .1 .1 .1 .0 ∙ c .before .before .before .before .before .place6 .kept .1 .1 .1 .1 .0 ∙ c .before .before .before .before .before .before .before .before .place5 .kept .1 .1 .1 .1 .0 ∙ c .before .before .before .before .before .before .before .before .before .before .before .place4 .kept .1 .1 .1 .1 .0 ∙ c .before .before .before .before .before .before .before .before .before .before .before .before .before .before .place3 .kept .1 .1 .1 .1 .0 ∙ c .before .before .before .before .before .before .before .before .before .before .before .before .before .before .before .before .before .place2 .kept .1 .1 .1 .1 .0 ∙ c .before .before .before .before .before .before .before .before .before .before .before .before .before .before .before .before .before .before .before .before .place .kept .1 .1 .1 .1 .0
+same-length-2 c = c .before .before .place-four .kept .1 .1 .1 .1 .1 .1 .1 .1 .0 ∙ c .before .before .before .before .before .place3 .kept .1 .1 .1 .1 .1 .0 ∙ c .before .before .before .before .before .before .before .before .place2 .kept .1 .1 .1 .1 .1 .0 ∙ c .before .before .before .before .before .before .before .before .before .before .before .place .kept .1 .1 .1 .1 .1 .0
 
 returns-2 : tie.Need-returns-2
 returns-2 c dc q z e =
-    let b = c .before .before .before .before .before .before .before .before .before .before .before .before .before .before .before .before .before .before .before .before .before .before .before .args in
+    let b = c .before .before .before .before .before .before .before .before .before .before .before .before .before .before .args in
     all-turned (b .coefs .now) (b .at) dc q (b .matrix .now) _ 8 (b .n) (omega arith) (omega arith) z
-    (c .before .before .place7 .ensures dc q (c .before .before .before .before .before .place6 .ensures dc q (c .before .before .before .before .before .before .before .before .place5 .ensures dc q (c .before .before .before .before .before .before .before .before .before .before .before .place4 .ensures dc q (c .before .before .before .before .before .before .before .before .before .before .before .before .before .before .place3 .ensures dc q (c .before .before .before .before .before .before .before .before .before .before .before .before .before .before .before .before .before .place2 .ensures dc q (c .before .before .before .before .before .before .before .before .before .before .before .before .before .before .before .before .before .before .before .before .place .ensures dc q e)))))))
+    (c .before .before .place-four .ensures dc q 8 refl (c .before .before .before .before .before .place3 .ensures dc q 4 refl (c .before .before .before .before .before .before .before .before .place2 .ensures dc q 3 refl (c .before .before .before .before .before .before .before .before .before .before .before .place .ensures dc q 2 refl e))))
 
 pub place-values-spec : {M : Type 1} → statement M
 place-values-spec =
@@ -52,11 +47,8 @@ place-values-spec =
     place-requires
     place-requires-2
     place-requires-3
-    place-requires-4
-    place-requires-5
-    place-requires-6
-    place-requires-7
-    place-from-8-requires
+    place-four-requires
+    place-rest-requires
     same-length
     returns
     same-length-2

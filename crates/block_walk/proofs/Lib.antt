@@ -1,0 +1,2 @@
+-- Bands: what a band says of its blocks.
+pub mod Bands
