@@ -7,7 +7,7 @@ ghost use Rattle.geometry.specs.Sizes.{across, up, blocksBefore, blocksOf, larg
 ghost use Rattle.ways.specs.Ways.{filterAll};
 ghost use Rattle.edge_filter.specs.Filter.{filtered};
 ghost use Rattle.block_edges.specs.Flags.{codedBy};
-ghost use Rattle.loop_filter.specs.Plane.{blockStep, rowSteps, planeSteps};
+ghost use Rattle.loop_filter.specs.Plane.{NoneCoded, blockStep, rowSteps, planeSteps};
 
 // Block (x, y) of a plane of u rows of a blocks, the first of which has number `first`.
 fn filter_block_at(
@@ -34,12 +34,29 @@ fn filter_block_at(
     block_edges::filter_block(s, corner, row, 0 < x, 0 < y, right, upper, limit);
 }
 
-// A row of blocks.
+// How many of the a blocks from number n on stand before the first coded one.
+fn uncoded_before(records: &[u32], n: usize, a: usize) -> usize
+    requires { ⌜ n + a ≤ length (now records) ⌝ }
+    ensures { λ r. ⌜ (r ≤ a) × NoneCoded (now (records .entry)) n r ⌝ }
+{
+    let mut x: usize = 0;
+    while x < a {
+        let block = n + x;
+        if block_edges::is_coded(records, block) {
+            return x;
+        }
+        x += 1;
+    }
+    a
+}
+
+// A row of blocks, from its first coded one on: a row in which nothing is coded is passed over.
 fn filter_row(s: &mut [u8], records: &[u32], limit: u32, first: usize, a: usize, u: usize, y: usize)
     requires { ⌜ (y < u) × (64 * (first + u * a) ≤ length (now s)) × (first + u * a ≤ length (now records)) × (limit ≤ 127) ⌝ }
     ensures { λ _. ⌜ now (s .exit) ≡ rowSteps (now (records .entry)) limit first a u y (now (s .entry)) ⌝ }
 {
-    let mut x: usize = 0;
+    let start = first + y * a;
+    let mut x = uncoded_before(records, start, a);
     while x < a {
         filter_block_at(s, records, limit, first, a, u, y, x);
         x += 1;
