@@ -176,18 +176,17 @@ module _ (n : ℕ) (p : List ℕ) (at : ℕ) where
           let e : new ≡ laid nodesOf (o .0) = rw (o .1) at f in
           let c : 2 ≡ length (o .0) = sym (ap length (t .both)) in
           let x : k + 1 + 1 ≡ k + 2 = omega arith in
-          let y : (g .done ++ t .first ∷ []) ++ t .second ∷ [] ≡ g .done ++ o .0 = append-assoc (g .done) (t .first ∷ []) (t .second ∷ []) ∙ ap (λ (s : List Tree). g .done ++ s) (sym (t .both)) in
-          (
+          let y : (g .done ++ t .first ∷ []) ++ t .second ∷ [] ≡ g .done ++ o .0 = append-assoc (g .done) (t .first ∷ []) (t .second ∷ []) ∙ ap (λ (s : List Tree). g .done ++ s) (sym (t .both)) in (
             huffman-lawful .moves p (t .between) (t .second) d m (t .behind) .1,
             record {
               done = g .done ++ o .0;
               long = length-append (g .done) (o .0) ∙ omega (arith, g .long, c);
               held = ap (λ (x : ℕ). putMid (x * 64) w nodes new) (sym (g .long)) ∙ put-all nodesOf (64 * n) (g .done) nodes (g .held) (o .0) new w (omega (arith, z, c)) (omega (arith, g .long, h, z)) e;
               goes =
-                g .goes
-                ∙ (times-got huffmanTree p place n k (g .done) (omega arith) (t .here)
-                ∙ (times-got huffmanTree p (t .between) n (k + 1) (g .done ++ t .first ∷ []) (omega arith) (t .behind)
-                ∙ (ap (λ (s : ℕ). times (n - s) huffmanTree ((g .done ++ t .first ∷ []) ++ t .second ∷ []) p d) x ∙ ap (λ (s : List Tree). times (n - (k + 2)) huffmanTree s p d) y)));
+                  g .goes
+                  ∙ (times-got huffmanTree p place n k (g .done) (omega arith) (t .here)
+                  ∙ (times-got huffmanTree p (t .between) n (k + 1) (g .done ++ t .first ∷ []) (omega arith) (t .behind)
+                  ∙ (ap (λ (s : ℕ). times (n - s) huffmanTree ((g .done ++ t .first ∷ []) ++ t .second ∷ []) p d) x ∙ ap (λ (s : List Tree). times (n - (k + 2)) huffmanTree s p d) y)));
             },
           )
 

@@ -186,9 +186,9 @@ module _ (p : List ℕ) (at a b : ℕ) (first second nodes : List ℕ) (ha : 2 ^
       let v = s .0 .shown in
       let w = s .1 .shown in
       let x = half-end p at first (take 64 nodes) t (g .one) (ap (bitAt p) (sym q) ∙ top-bit p (at + 0 + 7 * 31) a v (s .0 .window) (omega (arith, s .0 .enough)) ha)
-          (top-token p (at + 0 + 7 * 31) a v (s .0 .window) (omega (arith, s .0 .enough)) ∙ ap (λ (n : ℕ). number p (n + 1) 5) q) (omega (arith, d)) in
+      (top-token p (at + 0 + 7 * 31) a v (s .0 .window) (omega (arith, s .0 .enough)) ∙ ap (λ (n : ℕ). number p (n + 1) 5) q) (omega (arith, d)) in
       let y = half-end p (at + 223) second (drop 64 nodes) u (g .two) (ap (bitAt p) (sym r) ∙ top-bit p (at + 223 + 0 + 7 * 31) b w (s .1 .window) (omega (arith, s .1 .enough)) hb)
-          (top-token p (at + 223 + 0 + 7 * 31) b w (s .1 .window) (omega (arith, s .1 .enough)) ∙ ap (λ (n : ℕ). number p (n + 1) 5) r) (omega (arith, d)) in
+      (top-token p (at + 223 + 0 + 7 * 31) b w (s .1 .window) (omega (arith, s .1 .enough)) ∙ ap (λ (n : ℕ). number p (n + 1) 5) r) (omega (arith, d)) in
       let m = front-set nodes 62 t (omega arith) in
       let n = rear-set (set nodes 62 t) 62 u (omega arith) in
       let new = set (set nodes 62 t) 126 u in

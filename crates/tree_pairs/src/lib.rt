@@ -109,7 +109,11 @@ pub fn load_pair(packet: &[u8], at: usize, zeros: &[u8], nodes: &mut [u8]) -> bo
         leaves += 1;
     }
     let ends = at + 446;
-    if (i + j != 0) | (packet.len() * 8 < ends) | (a < 0x8000000000000000) | (b < 0x8000000000000000) {
+    if (i + j != 0)
+        | (packet.len() * 8 < ends)
+        | (a < 0x8000000000000000)
+        | (b < 0x8000000000000000)
+    {
         return false;
     }
     nodes[62] = token_in(a);

@@ -282,11 +282,12 @@ loop-again c =
     let d = (l .i + getD (a .zeros .now) (c .before .before .before .before .before .before .before .before .before .before .before .before .before .before .before .before .before .before .before .before .before .before .before .before .if1 .a / 2 ^ 56) 0) - 1 in
     let e = (l .j + getD (a .zeros .now) (c .before .before .before .before .before .before .before .before .before .before .before .before .before .before .before .before .before .before .before .before .before .before .before .before .if1 .b / 2 ^ 56) 0) - 1 in
     let s1 = c .before .before .before .before .before .before .before .before .before .before .before .before .before .before .before .before .before .before .push .last .0 in
-    let s2 = c .before .before .before .before .before .before .before .before .before .before .before .before .before .before .before .push2 .last .0 in
-    (both-more (a .packet .now) (a .at) (l .leaves) (c .before .before .before .before .before .before .before .before .before .before .before .before .before .before .before .before .before .before .before .before .before .before .before .before .if1 .a) (c .before .before .before .before .before .before .before .before .before .before .before .before .before .before .before .before .before .before .before .before .before .before .before .before .if1 .b) (l .i) (l .j) (l .first) (l .second) (l .nodes) (a .zeros .now) (c .before .before .before .before .before .before .before .before .before .before .before .before .before .before .before .before .before .before .before .before .before .before .before .before .before .before .before .before .before .before .pre .2) (c .before .before .before .before .before .before .before .before .before .before .before .before .before .before .before .before .before .before .push .last .0) (c .before .before .before .before .before .before .before .before .before .before .before .before .before .before .before .push2 .last .0) (same-both (c .before .before .before .before .before .before .before .before .before .before .before .before .before .before .before .before .before .before .before .before .before .before .before .before .if1 .a) (c .before .before .before .before .before .before .before .before .before .before .before .before .before .before .before .before .before .before .before .before .before .before .before .before .if1 .b) g) s (c .before .before .before .before .before .before .before .before .before .before .before .before .before .before .before .before .before .before .push .ensures) (o .0) (o .1) (c .before .before .before .before .before .before .before .before .before .before .before .before .before .before .before .push2 .ensures) (t .0) (t .1) mid (c .before .before .put-leaf2 .last .1 .1 .1 .1 .0) (c .before .before .before .before .before .before .before .before .before .before .before .before .before .before .before .before .before .before .before .before .before .before .before .before .before .loop-test .taken) (c .before .before .before .before .before .before .before .before .before .before .before .before .before .before .before .before .before .first2 .given) (c .before .before .before .before .before .before .before .before .before .before .before .before .before .before .second2 .given)
-    (c .before .before .before .before .before .before .before .before .put-leaf .ensures ∙ ap (λ (t : ℕ). put (l .nodes) 0 (2 * l .leaves + d + 1) t (d + getD s1 d 0) (129 + (2 * l .leaves + d + 1))) (c .before .before .before .before .before .before .before .before .before .before .before .token-in .ensures))
-    (c .before .before .put-leaf2 .ensures ∙ ap (λ (t : ℕ). put mid 64 (2 * l .leaves + e + 1) t (e + getD s2 e 0) (129 + (2 * l .leaves + e + 1))) (c .before .before .before .before .before .token-in2 .ensures)),
-     shown-more (a .packet .now) (a .at) (l .leaves) (c .before .before .before .before .before .before .before .before .before .before .before .before .before .before .before .before .before .before .before .before .before .before .before .before .if1 .a) (c .before .before .before .before .before .before .before .before .before .before .before .before .before .before .before .before .before .before .before .before .before .before .before .before .if1 .b) (l .i) (l .j) (l .first) (l .second) (l .nodes) (a .zeros .now) (c .before .before .before .before .before .before .before .before .before .before .before .before .before .before .before .before .before .before .before .before .before .before .before .before .before .before .before .before .before .before .pre .2) (c .before .before .before .before .before .before .before .before .before .before .before .before .before .before .before .before .before .before .push .last .0) (c .before .before .before .before .before .before .before .before .before .before .before .before .before .before .before .push2 .last .0) (same-both (c .before .before .before .before .before .before .before .before .before .before .before .before .before .before .before .before .before .before .before .before .before .before .before .before .if1 .a) (c .before .before .before .before .before .before .before .before .before .before .before .before .before .before .before .before .before .before .before .before .before .before .before .before .if1 .b) g) s (c .before .before .before .before .before .before .before .before .before .before .before .before .before .before .before .before .before .before .push .ensures) (o .0) (o .1) (c .before .before .before .before .before .before .before .before .before .before .before .before .before .before .before .push2 .ensures) (t .0) (t .1))
+    let s2 = c .before .before .before .before .before .before .before .before .before .before .before .before .before .before .before .push2 .last .0 in (
+      both-more (a .packet .now) (a .at) (l .leaves) (c .before .before .before .before .before .before .before .before .before .before .before .before .before .before .before .before .before .before .before .before .before .before .before .before .if1 .a) (c .before .before .before .before .before .before .before .before .before .before .before .before .before .before .before .before .before .before .before .before .before .before .before .before .if1 .b) (l .i) (l .j) (l .first) (l .second) (l .nodes) (a .zeros .now) (c .before .before .before .before .before .before .before .before .before .before .before .before .before .before .before .before .before .before .before .before .before .before .before .before .before .before .before .before .before .before .pre .2) (c .before .before .before .before .before .before .before .before .before .before .before .before .before .before .before .before .before .before .push .last .0) (c .before .before .before .before .before .before .before .before .before .before .before .before .before .before .before .push2 .last .0) (same-both (c .before .before .before .before .before .before .before .before .before .before .before .before .before .before .before .before .before .before .before .before .before .before .before .before .if1 .a) (c .before .before .before .before .before .before .before .before .before .before .before .before .before .before .before .before .before .before .before .before .before .before .before .before .if1 .b) g) s (c .before .before .before .before .before .before .before .before .before .before .before .before .before .before .before .before .before .before .push .ensures) (o .0) (o .1) (c .before .before .before .before .before .before .before .before .before .before .before .before .before .before .before .push2 .ensures) (t .0) (t .1) mid (c .before .before .put-leaf2 .last .1 .1 .1 .1 .0) (c .before .before .before .before .before .before .before .before .before .before .before .before .before .before .before .before .before .before .before .before .before .before .before .before .before .loop-test .taken) (c .before .before .before .before .before .before .before .before .before .before .before .before .before .before .before .before .before .first2 .given) (c .before .before .before .before .before .before .before .before .before .before .before .before .before .before .second2 .given)
+          (c .before .before .before .before .before .before .before .before .put-leaf .ensures ∙ ap (λ (t : ℕ). put (l .nodes) 0 (2 * l .leaves + d + 1) t (d + getD s1 d 0) (129 + (2 * l .leaves + d + 1))) (c .before .before .before .before .before .before .before .before .before .before .before .token-in .ensures))
+          (c .before .before .put-leaf2 .ensures ∙ ap (λ (t : ℕ). put mid 64 (2 * l .leaves + e + 1) t (e + getD s2 e 0) (129 + (2 * l .leaves + e + 1))) (c .before .before .before .before .before .token-in2 .ensures)),
+      shown-more (a .packet .now) (a .at) (l .leaves) (c .before .before .before .before .before .before .before .before .before .before .before .before .before .before .before .before .before .before .before .before .before .before .before .before .if1 .a) (c .before .before .before .before .before .before .before .before .before .before .before .before .before .before .before .before .before .before .before .before .before .before .before .before .if1 .b) (l .i) (l .j) (l .first) (l .second) (l .nodes) (a .zeros .now) (c .before .before .before .before .before .before .before .before .before .before .before .before .before .before .before .before .before .before .before .before .before .before .before .before .before .before .before .before .before .before .pre .2) (c .before .before .before .before .before .before .before .before .before .before .before .before .before .before .before .before .before .before .push .last .0) (c .before .before .before .before .before .before .before .before .before .before .before .before .before .before .before .push2 .last .0) (same-both (c .before .before .before .before .before .before .before .before .before .before .before .before .before .before .before .before .before .before .before .before .before .before .before .before .if1 .a) (c .before .before .before .before .before .before .before .before .before .before .before .before .before .before .before .before .before .before .before .before .before .before .before .before .if1 .b) g) s (c .before .before .before .before .before .before .before .before .before .before .before .before .before .before .before .before .before .before .push .ensures) (o .0) (o .1) (c .before .before .before .before .before .before .before .before .before .before .before .before .before .before .before .push2 .ensures) (t .0) (t .1),
+    )
 
 add-ends : tie.Need-add-ends Inv-loop μ-loop
 add-ends c = record { fits = omega (arith, c .before .before .before .before .before .pre .0, c .before .before .before .before .before .pre .1) }
