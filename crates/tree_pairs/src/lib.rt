@@ -1,5 +1,5 @@
 // Huffman trees out of table memory, two at a time. Nearly every tree has all 32 tokens, and so 223 bits: where the second one begins is known before the first one is read, and both are read leaf by leaf in one loop.
-// How many forks stand before a leaf comes out of a table and not out of a branch: a processor foretells few of these branches where other work came in between, and reads 80 trees in 6 us so, not in 18.
+// How many forks stand before a leaf comes out of a table and not out of a branch. A processor foretells few such branches where other work came in between: 80 trees take 6 us then, and took 18 (Zen 4). Two at once, since each leaf waits for the one before: one at a time took 7 to 9.
 ghost use mathlib.Core.Path.{_≡_};
 ghost use mathlib.Core.Bool.{true};
 ghost use Prim.Native.Nat.{ℕ, _+_, _*_, _/_, _%_, _^_, _≤_, _<_};
@@ -70,6 +70,7 @@ pub fn load_pair(packet: &[u8], at: usize, zeros: &[u8], nodes: &mut [u8]) -> bo
     requires { ⌜ (length (now packet) ≤ longest) × (at ≤ bits (now packet)) × Leads (now zeros) × (now nodes ≡ replicate 128 0) ⌝ }
     ensures { λ r. ⌜ (r ≡ true → Pair (now (packet .entry)) at (now (nodes .exit))) ⌝ }
 {
+    // of each tree: the forks that are open, the bits that follow, and how many forks are open
     let mut first = [0u8; 72];
     let mut second = [0u8; 72];
     let mut a: u64 = 0;
@@ -78,6 +79,7 @@ pub fn load_pair(packet: &[u8], at: usize, zeros: &[u8], nodes: &mut [u8]) -> bo
     let mut j: usize = 0;
     let mut leaves: usize = 0;
     while leaves < 31 {
+        // 4 leaves of at most 13 bits: filled at each leaf, the windows would be waited for
         if leaves % 4 == 0 {
             let before = at + 7 * leaves;
             let one = before + i;
@@ -85,6 +87,7 @@ pub fn load_pair(packet: &[u8], at: usize, zeros: &[u8], nodes: &mut [u8]) -> bo
             a = bits_at(packet, one);
             b = bits_at(packet, two);
         }
+        // the forks before the next leaf of each
         let twice = 2 * leaves;
         let y = zeros[(a >> 56) as usize] as usize;
         let z = zeros[(b >> 56) as usize] as usize;
