@@ -8,7 +8,6 @@ ghost use Rattle.bitstream.specs.Bits.{bits, longest};
 ghost use Rattle.bitstream.specs.Reading.{many};
 ghost use Rattle.bitstream.specs.Answer.{asEnd};
 ghost use Rattle.huffman.specs.Tree.{huffmanTree};
-ghost use Rattle.tree_pairs.specs.Pair.{Leads};
 ghost use Rattle.setup_trees.specs.Answer.{TreesFilled, told};
 
 // The 80 Huffman trees, 64 nodes each.
@@ -59,12 +58,12 @@ fn load_each(packet: &[u8], at: usize, count: usize, nodes: &mut [u8]) -> End
 }
 
 // Two trees out of table memory, at once if they are as nearly all are.
-fn load_two(packet: &[u8], at: usize, zeros: &[u8], nodes: &mut [u8]) -> End
-    requires { ⌜ (length (now packet) ≤ longest) × (at ≤ bits (now packet)) × Leads (now zeros) × (now nodes ≡ replicate 128 0) ⌝ }
+fn load_two(packet: &[u8], at: usize, nodes: &mut [u8]) -> End
+    requires { ⌜ (length (now packet) ≤ longest) × (at ≤ bits (now packet)) × (now nodes ≡ replicate 128 0) ⌝ }
     ensures { λ r. ⌜ r ≡ asEnd (told false (many 2 huffmanTree (now (packet .entry)) at)) ⌝ }
     ensures { λ r. ⌜ TreesFilled (many 2 huffmanTree (now (packet .entry)) at) (now (nodes .exit)) ⌝ }
 {
-    if tree_pairs::load_pair(packet, at, zeros, nodes) {
+    if tree_pairs::load_pair(packet, at, nodes) {
         let behind = at + 446;
         return End::At(behind);
     }
@@ -78,14 +77,12 @@ fn load_trees(packet: &[u8], at: usize, nodes: &mut [u8]) -> End
     ensures { λ r. ⌜ r ≡ asEnd (told false (many 80 huffmanTree (now (packet .entry)) at)) ⌝ }
     ensures { λ r. ⌜ TreesFilled (many 80 huffmanTree (now (packet .entry)) at) (now (nodes .exit)) ⌝ }
 {
-    let mut zeros = [0u8; 256];
-    tree_pairs::leading_zeros(&mut zeros);
     let mut place = at;
     let mut k: usize = 0;
     while k < 80 {
         let start = k * 64;
         let end = start + 128;
-        let both = load_two(packet, place, &zeros, &mut nodes[start..end]);
+        let both = load_two(packet, place, &mut nodes[start..end]);
         match both {
             End::Refused(number, fault) => {
                 return End::Refused(number, fault);

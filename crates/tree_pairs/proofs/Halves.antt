@@ -3,15 +3,15 @@ use Prim.Native.Nat.{ℕ, zero, suc, _+_, _-_, _*_, _/_, _%_, _^_, _≤_, _<_}
 use native.Mathlib.Omega.{arith}
 use mathlib.Core.Path.{_≡_, refl, sym, ap, ap₂, _∙_, subst}
 use mathlib.Core.List.{List, [], _∷_}
+use lib.Count.{leadingZeros}
 use lib.ListN.{length, getD, set, replicate, length-set, length-replicate}
 use lib.Seq.{set-getD}
 use Rattle.bitstream.specs.Bits.{bits, bitAt, number}
 use Rattle.bitstream.specs.Reading.{got}
-use Rattle.bitstream.proofs.Numbers.{number-lt}
 use Rattle.huffman.specs.Tree.{Tree, huffmanTree, nodesOf}
 use Rattle.stored_trees.proofs.Loads.{Rest, fork-back, leaf-back, last-leaf, rest-whole}
-use Rattle.tree_pairs.specs.Pair.{ZerosOf, Leads, Pushed}
-use Rattle.tree_pairs.proofs.Windows.{Window, Seen, shifted, zero-bits, byte-zeros, byte-one, top-byte, top-bit, top-token}
+use Rattle.tree_pairs.specs.Pair.{Pushed}
+use Rattle.tree_pairs.proofs.Windows.{Window, Seen, shifted, zero-bits, front-zeros, front-one, top-token}
 
 -- ---- the open forks, the innermost first: the j-th from outside stands so many nodes behind j as the stack's entry says, and all stand before the node n
 abbrev Stacked : List ℕ → ℕ → List ℕ → Type 0
@@ -139,34 +139,21 @@ half-end p at s ns t g b is d = go (g .forks) (g .back) (g .stacked)
         (w .0, w .1 ∙ ap (got (w .0)) e, w .3)
 
 -- ---- a turn of the loop
-module _ (p : List ℕ) (at i L : ℕ) (s t ns zs : List ℕ) (w y : ℕ) (leads : Leads zs) (g : Half p at i L s ns) (seen : Seen p (at + i + 7 * L) w L) (is : y ≡ getD zs (w / 2 ^ 56) 0)
+module _ (p : List ℕ) (at i L : ℕ) (s t ns : List ℕ) (w y : ℕ) (g : Half p at i L s ns) (seen : Seen p (at + i + 7 * L) w L) (is : y ≡ leadingZeros 64 w) (few : y ≤ 8)
     (pushed : Pushed s t i 8 (2 * L)) (fits : i + y + 2 * L < 64) where
   abbrev q : ℕ
   q = at + i + 7 * L
 
-  bits-left : 18 ≤ seen .shown
+  bits-left : 15 ≤ seen .shown
   bits-left = omega (arith, seen .enough)
-
-  byte : w / 2 ^ 56 ≡ number p q 8
-  byte = top-byte p q w (seen .shown) (seen .window) (omega (arith, bits-left))
-
-  its-zeros : ZerosOf (number p q 8) y
-  its-zeros = go (number p q 8) (number-lt p q 8) byte
-    where
-      go : (b : ℕ) → b < 2 ^ 8 → w / 2 ^ 56 ≡ b → ZerosOf b y
-      go zero l e = let x : y ≡ 64 = is ∙ (ap (λ (k : ℕ). getD zs k 0) e ∙ leads .none) in absurd (omega (arith, x, fits))
-      go (suc b) l e = let x : getD zs (suc b) 0 ≡ y = sym (is ∙ ap (λ (k : ℕ). getD zs k 0) e) in subst (ZerosOf (suc b)) x (leads .each (suc b) (omega arith) (omega (arith, l)))
-
-  pub turn-shift : y ≤ 7
-  turn-shift = its-zeros .few
 
   pub turn-forks : Half p at (i + y) L t ns
   turn-forks =
-      half-forks p at L ns i t y (λ k h. zero-bits p q y (byte-zeros p q y its-zeros) k h) (λ k a b. pushed .there k a (omega (arith, b, turn-shift))) (omega (arith, fits))
+      half-forks p at L ns i t y (λ k h. zero-bits p q y (front-zeros p q w (seen .shown) (seen .window) y is few (omega (arith, bits-left, few))) k h) (λ k a b. pushed .there k a (omega (arith, b, few))) (omega (arith, fits))
       (half-same p at L ns i s t (pushed .before) g)
 
   window : Window p (q + y) (w * 2 ^ y % 2 ^ 64) (seen .shown - y)
-  window = shifted p q w (seen .shown) y (omega (arith, bits-left, turn-shift)) (seen .window)
+  window = shifted p q w (seen .shown) y (omega (arith, bits-left, few)) (seen .window)
 
   module _ (j : ℕ) (e : i + y ≡ j + 1) where
     place : q + y ≡ at + (j + 1) + 7 * L
@@ -180,14 +167,14 @@ module _ (p : List ℕ) (at i L : ℕ) (s t ns zs : List ℕ) (w y : ℕ) (leads
 
     pub turn-leaf : Half p at j (L + 1) t (set (set ns (2 * L + j + 1) (w * 2 ^ y % 2 ^ 64 / 2 ^ 58 % 32)) (j + getD t j 0) (129 + (2 * L + j + 1)))
     turn-leaf =
-        half-leaf p at L ns j t forks-open (w * 2 ^ y % 2 ^ 64 / 2 ^ 58 % 32) (ap (bitAt p) (sym place) ∙ byte-one p q y its-zeros)
-        (top-token p (q + y) (w * 2 ^ y % 2 ^ 64) (seen .shown - y) window (omega (arith, bits-left, turn-shift)) ∙ ap (λ (k : ℕ). number p (k + 1) 5) place) (omega (arith, e, fits))
+        half-leaf p at L ns j t forks-open (w * 2 ^ y % 2 ^ 64 / 2 ^ 58 % 32) (ap (bitAt p) (sym place) ∙ front-one p q w (seen .shown) (seen .window) y is few (omega (arith, bits-left, few)))
+        (top-token p (q + y) (w * 2 ^ y % 2 ^ 64) (seen .shown - y) window (omega (arith, bits-left, few)) ∙ ap (λ (k : ℕ). number p (k + 1) 5) place) (omega (arith, e, fits))
 
     pub turn-seen : ((L + 1) % 4 ≡ 0 → ⊥) → Seen p (at + j + 7 * (L + 1)) (w * 2 ^ y % 2 ^ 64 * 2 ^ 6 % 2 ^ 64) (L + 1)
     turn-seen h =
         let x : q + y + 6 ≡ at + j + 7 * (L + 1) = omega (arith, e) in
         record {
           shown = seen .shown - y - 6;
-          window = subst (λ (k : ℕ). Window p k (w * 2 ^ y % 2 ^ 64 * 2 ^ 6 % 2 ^ 64) (seen .shown - y - 6)) x (shifted p (q + y) (w * 2 ^ y % 2 ^ 64) (seen .shown - y) 6 (omega (arith, bits-left, turn-shift)) window);
-          enough = omega (arith, seen .enough, turn-shift, h);
+          window = subst (λ (k : ℕ). Window p k (w * 2 ^ y % 2 ^ 64 * 2 ^ 6 % 2 ^ 64) (seen .shown - y - 6)) x (shifted p (q + y) (w * 2 ^ y % 2 ^ 64) (seen .shown - y) 6 (omega (arith, bits-left, few)) window);
+          enough = omega (arith, seen .enough, few, h);
         }

@@ -4,15 +4,16 @@ use native.Mathlib.Omega.{arith}
 use mathlib.Core.Path.{_≡_, refl, sym, ap, ap₂, _∙_, subst}
 use mathlib.Core.Bool.{Bool, true, false, not, _||_, false≢true}
 use mathlib.Core.List.{List, _++_}
+use lib.Count.{leadingZeros}
 use lib.Dec.{eqb, leb, ltb}
 use lib.ListN.{length, getD, take, drop, set, replicate, length-set, length-replicate, take-append-drop}
 use lib.Seq.{take-set-lt, take-set-le, drop-set-lt, drop-set-add}
 use borrow.Author.Tests.{eqb-true, eqb-false, leb-false, ltb-false, not-false}
 use Rattle.bitstream.specs.Bits.{bits, bitAt, number}
 use Rattle.bitstream.specs.Reading.{got}
-use Rattle.tree_pairs.specs.Pair.{Leads, Pushed, Pair}
+use Rattle.tree_pairs.specs.Pair.{Pushed, Pair}
 use Rattle.tree_pairs.proofs.Windows.{Seen, seen-filled, top-bit, top-token}
-use Rattle.tree_pairs.proofs.Halves.{Half, half-start, half-end, turn-shift, turn-open, turn-leaf, turn-seen}
+use Rattle.tree_pairs.proofs.Halves.{Half, half-start, half-end, turn-open, turn-leaf, turn-seen}
 
 -- ---- the first 64 nodes and the others, where one of them is set
 module _ (ns : List ℕ) (n x : ℕ) (h : n < 64) where
@@ -86,6 +87,9 @@ or-none : (a b : Bool) → (a || b) ≡ false → (a ≡ false) × (b ≡ false)
 or-none false b e = (refl, e)
 or-none true b e = absurd (false≢true (sym e))
 
+pub at-most : (y z : ℕ) → (ltb 8 y || ltb 8 z) ≡ false → (y ≤ 8) × (z ≤ 8)
+at-most y z e = let x = or-none (ltb 8 y) (ltb 8 z) e in (ltb-false 8 y (x .0), ltb-false 8 z (x .1))
+
 pub fits : (n k : ℕ) → (eqb n 0 || leb 64 k) ≡ false → (1 ≤ n) × (k < 64)
 fits n k e = let x = or-none (eqb n 0) (leb 64 k) e in (omega (arith, eqb-false n 0 (x .0)), leb-false 64 k (x .1))
 
@@ -97,12 +101,12 @@ ended n l e a b h =
     (eqb-true n 0 (not-false (eqb n 0) (z .0)), ltb-false l e (z .1), ltb-false a (2 ^ 63) (y .1), ltb-false b (2 ^ 63) (x .1))
 
 -- ---- a turn: y forks and a leaf of the first tree, z forks and a leaf of the second
-module _ (p : List ℕ) (at L a b i j : ℕ) (first second nodes zs : List ℕ) (leads : Leads zs) (first′ second′ : List ℕ) where
+module _ (p : List ℕ) (at L a b i j : ℕ) (first second nodes first′ second′ : List ℕ) where
   abbrev y : ℕ
-  y = getD zs (a / 2 ^ 56) 0
+  y = leadingZeros 64 a
 
   abbrev z : ℕ
-  z = getD zs (b / 2 ^ 56) 0
+  z = leadingZeros 64 b
 
   abbrev a′ : ℕ
   a′ = a * 2 ^ y % 2 ^ 64
@@ -117,55 +121,49 @@ module _ (p : List ℕ) (at L a b i j : ℕ) (first second nodes zs : List ℕ) 
   e = j + z - 1
 
   module _ (g : Both p at L a b i j first second nodes) (s : Shown p at L a b i j) where
-    module _ (pushed : Pushed first first′ i 8 (2 * L)) (some : 1 ≤ i + y) (room : i + y + 2 * L < 64) where
+    module _ (few : y ≤ 8) (pushed : Pushed first first′ i 8 (2 * L)) (some : 1 ≤ i + y) (room : i + y + 2 * L < 64) where
       back-one : i + y ≡ d + 1
       back-one = omega (arith, some)
 
-      pub one-shift : y ≤ 7
-      one-shift = turn-shift p at i L first first′ (take 64 nodes) zs a y leads (g .one) (s .0) refl pushed room
-
       pub one-open : d + getD first′ d 0 < 64
-      one-open = turn-open p at i L first first′ (take 64 nodes) zs a y leads (g .one) (s .0) refl pushed room d back-one
+      one-open = turn-open p at i L first first′ (take 64 nodes) a y (g .one) (s .0) refl few pushed room d back-one
 
       one-leaf : Half p at d (L + 1) first′ (set (set (take 64 nodes) (2 * L + d + 1) (a′ / 2 ^ 58 % 32)) (d + getD first′ d 0) (129 + (2 * L + d + 1)))
-      one-leaf = turn-leaf p at i L first first′ (take 64 nodes) zs a y leads (g .one) (s .0) refl pushed room d back-one
+      one-leaf = turn-leaf p at i L first first′ (take 64 nodes) a y (g .one) (s .0) refl few pushed room d back-one
 
       one-seen : ((L + 1) % 4 ≡ 0 → ⊥) → Seen p (at + d + 7 * (L + 1)) (a′ * 2 ^ 6 % 2 ^ 64) (L + 1)
-      one-seen h = turn-seen p at i L first first′ (take 64 nodes) zs a y leads (g .one) (s .0) refl pushed room d back-one h
+      one-seen h = turn-seen p at i L first first′ (take 64 nodes) a y (g .one) (s .0) refl few pushed room d back-one h
 
-    module _ (pushed : Pushed second second′ j 8 (2 * L)) (some : 1 ≤ j + z) (room : j + z + 2 * L < 64) where
+    module _ (few : z ≤ 8) (pushed : Pushed second second′ j 8 (2 * L)) (some : 1 ≤ j + z) (room : j + z + 2 * L < 64) where
       back-two : j + z ≡ e + 1
       back-two = omega (arith, some)
 
-      pub two-shift : z ≤ 7
-      two-shift = turn-shift p (at + 223) j L second second′ (drop 64 nodes) zs b z leads (g .two) (s .1) refl pushed room
-
       pub two-open : e + getD second′ e 0 < 64
-      two-open = turn-open p (at + 223) j L second second′ (drop 64 nodes) zs b z leads (g .two) (s .1) refl pushed room e back-two
+      two-open = turn-open p (at + 223) j L second second′ (drop 64 nodes) b z (g .two) (s .1) refl few pushed room e back-two
 
       two-leaf : Half p (at + 223) e (L + 1) second′ (set (set (drop 64 nodes) (2 * L + e + 1) (b′ / 2 ^ 58 % 32)) (e + getD second′ e 0) (129 + (2 * L + e + 1)))
-      two-leaf = turn-leaf p (at + 223) j L second second′ (drop 64 nodes) zs b z leads (g .two) (s .1) refl pushed room e back-two
+      two-leaf = turn-leaf p (at + 223) j L second second′ (drop 64 nodes) b z (g .two) (s .1) refl few pushed room e back-two
 
       two-seen : ((L + 1) % 4 ≡ 0 → ⊥) → Seen p (at + 223 + e + 7 * (L + 1)) (b′ * 2 ^ 6 % 2 ^ 64) (L + 1)
-      two-seen h = turn-seen p (at + 223) j L second second′ (drop 64 nodes) zs b z leads (g .two) (s .1) refl pushed room e back-two h
+      two-seen h = turn-seen p (at + 223) j L second second′ (drop 64 nodes) b z (g .two) (s .1) refl few pushed room e back-two h
 
-    module _ (pa : Pushed first first′ i 8 (2 * L)) (sa : 1 ≤ i + y) (ra : i + y + 2 * L < 64) (pb : Pushed second second′ j 8 (2 * L)) (sb : 1 ≤ j + z) (rb : j + z + 2 * L < 64) where
+    module _ (fa : y ≤ 8) (pa : Pushed first first′ i 8 (2 * L)) (sa : 1 ≤ i + y) (ra : i + y + 2 * L < 64) (fb : z ≤ 8) (pb : Pushed second second′ j 8 (2 * L)) (sb : 1 ≤ j + z) (rb : j + z + 2 * L < 64) where
       pub shown-more : ((L + 1) % 4 ≡ 0 → ⊥) → Shown p at (L + 1) (a′ * 2 ^ 6 % 2 ^ 64) (b′ * 2 ^ 6 % 2 ^ 64) d e
-      shown-more h = (one-seen pa sa ra h, two-seen pb sb rb h)
+      shown-more h = (one-seen fa pa sa ra h, two-seen fb pb sb rb h)
 
       pub both-more : (mid new : List ℕ) → L < 31 → length first′ ≡ 72 → length second′ ≡ 72
           → mid ≡ put nodes 0 (2 * L + d + 1) (a′ / 2 ^ 58 % 32) (d + getD first′ d 0) (129 + (2 * L + d + 1))
           → new ≡ put mid 64 (2 * L + e + 1) (b′ / 2 ^ 58 % 32) (e + getD second′ e 0) (129 + (2 * L + e + 1))
           → Both p at (L + 1) (a′ * 2 ^ 6 % 2 ^ 64) (b′ * 2 ^ 6 % 2 ^ 64) d e first′ second′ new
       both-more mid new l lf ls hm hn =
-          let x = front-put nodes (2 * L + d + 1) (a′ / 2 ^ 58 % 32) (d + getD first′ d 0) (129 + (2 * L + d + 1)) (omega (arith, sa, ra)) (one-open pa sa ra) in
-          let u = rear-put mid (2 * L + e + 1) (b′ / 2 ^ 58 % 32) (e + getD second′ e 0) (129 + (2 * L + e + 1)) (omega (arith, sb, rb)) (two-open pb sb rb) in
+          let x = front-put nodes (2 * L + d + 1) (a′ / 2 ^ 58 % 32) (d + getD first′ d 0) (129 + (2 * L + d + 1)) (omega (arith, sa, ra)) (one-open fa pa sa ra) in
+          let u = rear-put mid (2 * L + e + 1) (b′ / 2 ^ 58 % 32) (e + getD second′ e 0) (129 + (2 * L + e + 1)) (omega (arith, sb, rb)) (two-open fb pb sb rb) in
           let v : take 64 new ≡ set (set (take 64 nodes) (2 * L + d + 1) (a′ / 2 ^ 58 % 32)) (d + getD first′ d 0) (129 + (2 * L + d + 1)) = ap (take 64) hn ∙ (u .0 ∙ (ap (take 64) hm ∙ x .0)) in
           let w : drop 64 new ≡ set (set (drop 64 nodes) (2 * L + e + 1) (b′ / 2 ^ 58 % 32)) (e + getD second′ e 0) (129 + (2 * L + e + 1)) =
           ap (drop 64) hn ∙ (u .1 ∙ ap (λ (m : List ℕ). set (set m (2 * L + e + 1) (b′ / 2 ^ 58 % 32)) (e + getD second′ e 0) (129 + (2 * L + e + 1))) (ap (drop 64) hm ∙ x .1)) in
           record {
-            one = subst (Half p at d (L + 1) first′) (sym v) (one-leaf pa sa ra);
-            two = subst (Half p (at + 223) e (L + 1) second′) (sym w) (two-leaf pb sb rb);
+            one = subst (Half p at d (L + 1) first′) (sym v) (one-leaf fa pa sa ra);
+            two = subst (Half p (at + 223) e (L + 1) second′) (sym w) (two-leaf fb pb sb rb);
             long = ap length hn ∙ (simp length-set (ap length hm ∙ simp length-set (g .long)));
             first-long = lf;
             second-long = ls;

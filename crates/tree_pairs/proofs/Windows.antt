@@ -2,25 +2,24 @@
 use Prim.Native.Nat.{ℕ, zero, suc, _+_, _-_, _*_, _/_, _%_, _^_, _≤_, _<_}
 use native.Mathlib.Omega.{arith}
 use native.Mathlib.Nat.{add-mul, mul-assoc, mul-le-mul-right}
-use mathlib.Core.Path.{_≡_, refl, sym, ap, _∙_, subst}
+use mathlib.Core.Path.{_≡_, refl, sym, ap, ap₂, _∙_, subst}
 use mathlib.Core.List.{List}
-use lib.ListN.{getD}
+use lib.Count.{leadingZeros, leading-of-zero, leading-top}
 use lib.Pow.{pow-add, shl-lt, low}
 use Rattle.bitstream.specs.Bits.{bitAt, number}
 use Rattle.bitstream.proofs.Numbers.{bit-lt, number-lt, number-one, number-add}
 use Rattle.stored_trees.proofs.Loads.{parted, shows-filled}
-use Rattle.tree_pairs.specs.Pair.{ZerosOf, Leads}
 
 -- ---- the upper v bits of w are those of the packet from the place q on
 pub record Window (p : List ℕ) (q w v : ℕ) : Type 0 where
   pub most : v ≤ 64
   pub is : w ≡ number p q v * 2 ^ (64 - v)
 
--- enough of them for the leaves up to the next filling, of 13 bits at most
+-- enough of them for the leaves up to the next filling, of 14 bits at most
 pub record Seen (p : List ℕ) (q w L : ℕ) : Type 0 where
   pub shown : ℕ
   pub window : Window p q w shown
-  pub enough : 57 ≤ shown + 13 * (L % 4)
+  pub enough : 57 ≤ shown + 14 * (L % 4)
 
 pub seen-filled : (p : List ℕ) (q w L : ℕ) → w ≡ number p (q / 8 * 8) 64 * 2 ^ (q % 8) % 2 ^ 64 → Seen p q w L
 seen-filled p q w L h =
@@ -68,26 +67,39 @@ module _ (p : List ℕ) (q z : ℕ) where
       number-lt-pos : (m : ℕ) → 0 < 2 ^ m
       number-lt-pos m = omega (arith, number-lt p q m)
 
-  -- the zeros before a byte's first 1
-  pub byte-zeros : ZerosOf (number p q 8) z → number p q z ≡ 0
-  byte-zeros g =
-      let e : z + (8 - z) ≡ 8 = omega (arith, g .few) in
-      let s : number p q z * 2 ^ (8 - z) + number p (q + z) (8 - z) ≡ number p q 8 = sym (number-add p q z (8 - z)) ∙ ap (number p q) e in
-      no-times (number p q z) (2 ^ (8 - z)) (number p (q + z) (8 - z)) (number p q 8) s (g .most)
-
-  pub byte-one : ZerosOf (number p q 8) z → bitAt p (q + z) ≡ 1
-  byte-one g =
-      let e : z + (1 + (7 - z)) ≡ 8 = omega (arith, g .few) in
-      let s : number p q z * 2 ^ (1 + (7 - z)) + number p (q + z) (1 + (7 - z)) ≡ number p q 8 = sym (number-add p q z (1 + (7 - z))) ∙ ap (number p q) e in
-      let n : number p q z * 2 ^ (1 + (7 - z)) ≡ 0 = ap (λ (y : ℕ). y * 2 ^ (1 + (7 - z))) (byte-zeros g) ∙ omega arith in
-      let y = number-add p (q + z) 1 (7 - z) in
-      sym (number-one p (q + z))
-      ∙ one-time (number p (q + z) 1) (2 ^ (7 - z)) (number p (q + z + 1) (7 - z)) (number p q 8) (omega (arith, number-one p (q + z), bit-lt p (q + z))) (omega (arith, y, s, n)) (number-lt p (q + z + 1) (7 - z)) (g .least)
-
--- ---- the byte in front, the leaf in front, its token
+-- ---- the zeros in front and the 1 behind them, the leaf in front, its token
 module _ (p : List ℕ) (q w v : ℕ) (g : Window p q w v) where
-  pub top-byte : 8 ≤ v → w / 2 ^ 56 ≡ number p q 8
-  top-byte h = let x = parted p q v 8 (v - 8) (omega arith) (g .most) in omega (arith, g .is, x .0, x .1)
+  window-fits : w < 2 ^ 64
+  window-fits =
+      let l : v ≤ 64 = g .most in
+      let e : v + (64 - v) ≡ 64 = omega arith in
+      subst (λ (n : ℕ). n < 2 ^ 64) (sym (g .is)) (subst (λ (n : ℕ). number p q v * 2 ^ (64 - v) < 2 ^ n) e (shl-lt v (64 - v) (number-lt p q v)))
+
+  module _ (y : ℕ) (is : y ≡ leadingZeros 64 w) (few : y ≤ 8) where
+    bounds : (2 ^ (63 - y) ≤ w) × (w < 2 ^ (64 - y))
+    bounds = go w refl
+      where
+        go : (x : ℕ) → w ≡ x → (2 ^ (63 - y) ≤ w) × (w < 2 ^ (64 - y))
+        go zero e = let z : y ≡ 64 = is ∙ (ap (leadingZeros 64) e ∙ leading-of-zero 64) in absurd (omega (arith, z, few))
+        go (suc x) e =
+            let t = leading-top 64 w (omega (arith, e)) window-fits in
+            let a : t .0 ≡ 63 - y = omega (arith, t .1, is) in
+            let b : suc (t .0) ≡ 64 - y = omega (arith, t .1, is) in
+            (subst (λ (n : ℕ). 2 ^ n ≤ w) a (t .2), subst (λ (n : ℕ). w < 2 ^ n) b (t .3))
+
+    pub front-zeros : y ≤ v → number p q y ≡ 0
+    front-zeros h =
+        let x = parted p q v y (v - y) (omega arith) (g .most) in
+        no-times (number p q y) (2 ^ (64 - y)) (number p (q + y) (v - y) * 2 ^ (64 - v)) w (sym (g .is ∙ x .0)) (bounds .1)
+
+    pub front-one : y + 1 ≤ v → bitAt p (q + y) ≡ 1
+    front-one h =
+        let x = parted p q v (y + 1) (v - (y + 1)) (omega arith) (g .most) in
+        let e : 64 - (y + 1) ≡ 63 - y = omega arith in
+        let n : number p q (y + 1) ≡ bitAt p (q + y) = number-add p q y 1 ∙ (ap (λ (k : ℕ). k * 2 ^ 1 + number p (q + y) 1) (front-zeros (omega (arith, h))) ∙ (omega arith ∙ number-one p (q + y))) in
+        let s : bitAt p (q + y) * 2 ^ (63 - y) + number p (q + (y + 1)) (v - (y + 1)) * 2 ^ (64 - v) ≡ w =
+        sym (g .is ∙ (x .0 ∙ ap₂ (λ (k m : ℕ). k * 2 ^ m + number p (q + (y + 1)) (v - (y + 1)) * 2 ^ (64 - v)) n e)) in
+        one-time (bitAt p (q + y)) (2 ^ (63 - y)) (number p (q + (y + 1)) (v - (y + 1)) * 2 ^ (64 - v)) w (bit-lt p (q + y)) s (subst (λ (m : ℕ). number p (q + (y + 1)) (v - (y + 1)) * 2 ^ (64 - v) < 2 ^ m) e (x .1)) (bounds .0)
 
   pub top-bit : 1 ≤ v → 2 ^ 63 ≤ w → bitAt p q ≡ 1
   top-bit h l = let x = parted p q v 1 (v - 1) (omega arith) (g .most) in omega (arith, g .is, x .0, x .1, number-one p q, bit-lt p q, l)

@@ -1,29 +1,11 @@
 // Huffman trees out of table memory, two at a time. Nearly every tree has all 32 tokens, and so 223 bits: where the second one begins is known before the first one is read, and both are read leaf by leaf in one loop.
-// How many forks stand before a leaf comes out of a table and not out of a branch. A processor foretells few such branches where other work came in between: 80 trees take 6 us then, and took 18 (Zen 4). Two at once, since each leaf waits for the one before: one at a time took 7 to 9.
+// The forks before a leaf are counted and not gone over: a processor foretells few of the branches where other work came in between. 80 trees take 5 us then, and took 18 (Zen 4). Two at once, since each leaf waits for the one before: one at a time took 7 to 9.
 ghost use mathlib.Core.Path.{_≡_};
 ghost use mathlib.Core.Bool.{true};
 ghost use Prim.Native.Nat.{ℕ, _+_, _*_, _/_, _%_, _^_, _≤_, _<_};
 ghost use lib.ListN.{length, getD, set, replicate};
 ghost use Rattle.bitstream.specs.Bits.{bits, number, longest};
-ghost use Rattle.tree_pairs.specs.Pair.{ZerosOf, Leads, Pushed, Pair};
-
-// How many zeros stand before each byte's first 1; 64 for the byte 0. The entries 2 m and 2 m + 1 have one less than the entry m.
-pub fn leading_zeros(zeros: &mut [u8])
-    requires { ⌜ length (now zeros) ≡ 256 ⌝ }
-    ensures { λ _. ⌜ Leads (now (zeros .exit)) ⌝ }
-{
-    zeros[0] = 64;
-    zeros[1] = 7;
-    let mut m: usize = 1;
-    while m < 128 {
-        let fewer = zeros[m] - 1;
-        let even = 2 * m;
-        let odd = even + 1;
-        zeros[even] = fewer;
-        zeros[odd] = fewer;
-        m += 1;
-    }
-}
+ghost use Rattle.tree_pairs.specs.Pair.{Pushed, Pair};
 
 // The bits from a place on, the first the most significant: 57 at least.
 fn bits_at(packet: &[u8], place: usize) -> u64
@@ -65,9 +47,9 @@ fn put_leaf(token: u8, twice: usize, depth: usize, stack: &[u8], nodes: &mut [u8
     nodes[innermost] = 129 + index as u8;
 }
 
-// The trees at the bit place `at` of table memory and behind it, if each has 32 leaves and no more than 7 forks before any: false says nothing, and such trees are read one by one. The nodes are zeros before.
-pub fn load_pair(packet: &[u8], at: usize, zeros: &[u8], nodes: &mut [u8]) -> bool
-    requires { ⌜ (length (now packet) ≤ longest) × (at ≤ bits (now packet)) × Leads (now zeros) × (now nodes ≡ replicate 128 0) ⌝ }
+// The trees at the bit place `at` of table memory and behind it, if each has 32 leaves and no more than 8 forks before any: false says nothing, and such trees are read one by one. The nodes are zeros before.
+pub fn load_pair(packet: &[u8], at: usize, nodes: &mut [u8]) -> bool
+    requires { ⌜ (length (now packet) ≤ longest) × (at ≤ bits (now packet)) × (now nodes ≡ replicate 128 0) ⌝ }
     ensures { λ r. ⌜ (r ≡ true → Pair (now (packet .entry)) at (now (nodes .exit))) ⌝ }
 {
     // of each tree: the forks that are open, the bits that follow, and how many forks are open
@@ -79,7 +61,7 @@ pub fn load_pair(packet: &[u8], at: usize, zeros: &[u8], nodes: &mut [u8]) -> bo
     let mut j: usize = 0;
     let mut leaves: usize = 0;
     while leaves < 31 {
-        // 4 leaves of at most 13 bits: filled at each leaf, the windows would be waited for
+        // 4 leaves of at most 14 bits: filled at each leaf, the windows would be waited for
         if leaves % 4 == 0 {
             let before = at + 7 * leaves;
             let one = before + i;
@@ -89,8 +71,11 @@ pub fn load_pair(packet: &[u8], at: usize, zeros: &[u8], nodes: &mut [u8]) -> bo
         }
         // the forks before the next leaf of each
         let twice = 2 * leaves;
-        let y = zeros[(a >> 56) as usize] as usize;
-        let z = zeros[(b >> 56) as usize] as usize;
+        let y = u64::leading_zeros(a) as usize;
+        let z = u64::leading_zeros(b) as usize;
+        if (8 < y) | (8 < z) {
+            return false;
+        }
         push(&mut first, i, twice as u8);
         push(&mut second, j, twice as u8);
         i += y;

@@ -20,21 +20,21 @@ load-pair-requires : tie.Need-load-pair-requires
 load-pair-requires c κs = search needs
 
 add-behind : tie.Need-add-behind
-add-behind c = record { fits = omega (arith, c .before .before .before .before .before .before .before .before .pre .0, c .before .before .before .before .before .before .before .before .pre .1) }
+add-behind c = record { fits = omega (arith, c .before .before .before .before .before .before .before .pre .0, c .before .before .before .before .before .before .before .pre .1) }
 
 same-length : tie.Need-same-length
 same-length c = c .before .before .nodes .given
 
 returns : tie.Need-returns
-returns c = pair-laid (c .before .before .before .before .before .before .before .before .args .packet .now) (c .before .before .before .before .before .before .before .before .args .at) (c .before .before .before .load-pair .last .1 .1 .1 .0) (c .before .before .before .load-pair .ensures (c .if1 .taken))
+returns c = pair-laid (c .before .before .before .before .before .before .before .args .packet .now) (c .before .before .before .before .before .before .before .args .at) (c .before .before .before .load-pair .last .1 .1 .0) (c .before .before .before .load-pair .ensures (c .if1 .taken))
 
 clear-bytes-requires : tie.Need-clear-bytes-requires
-clear-bytes-requires c κs = omega (arith, c .before .before .before .nodes .given, nodes-long (c .before .before .before .before .before .before .before .before .before .pre .3))
+clear-bytes-requires c κs = omega (arith, c .before .before .before .nodes .given, nodes-long (c .before .before .before .before .before .before .before .before .pre .2))
 
 load-each-requires : tie.Need-load-each-requires
 load-each-requires c κs =
-    let n : length (c .before .before .before .before .before .before .before .before .load-pair .last .1 .1 .1 .0) ≡ 128 = c .before .before .before .before .before .before .before .nodes .given ∙ nodes-long (c .before .before .before .before .before .before .before .before .before .before .before .before .before .pre .3) in
-    (c .before .before .before .before .before .before .before .before .before .before .before .before .before .pre .0, c .before .before .before .before .before .before .before .before .before .before .before .before .before .pre .1, omega arith, c .before .before .before .clear-bytes .ensures ∙ cleared-all (c .before .before .before .before .before .before .before .before .load-pair .last .1 .1 .1 .0) n)
+    let n : length (c .before .before .before .before .before .before .before .before .load-pair .last .1 .1 .0) ≡ 128 = c .before .before .before .before .before .before .before .nodes .given ∙ nodes-long (c .before .before .before .before .before .before .before .before .before .before .before .before .pre .2) in
+    (c .before .before .before .before .before .before .before .before .before .before .before .before .pre .0, c .before .before .before .before .before .before .before .before .before .before .before .before .pre .1, omega arith, c .before .before .before .clear-bytes .ensures ∙ cleared-all (c .before .before .before .before .before .before .before .before .load-pair .last .1 .1 .0) n)
 
 same-length-2 : tie.Need-same-length-2
 same-length-2 c = c .before .nodes3 .given ∙ (c .before .before .before .before .before .nodes2 .given ∙ c .before .before .before .before .before .before .before .before .before .before .nodes .given)

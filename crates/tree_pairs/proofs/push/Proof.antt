@@ -4,7 +4,7 @@ use native.Mathlib.Omega.{arith}
 use mathlib.Core.Path.{_≡_, refl, _∙_, subst}
 use lib.ListN.{length, length-set}
 use Rattle.tree_pairs.specs.Pair.{Pushed}
-use Rattle.tree_pairs.proofs.Tables.{pushed-none, pushed-more}
+use Rattle.tree_pairs.proofs.Entries.{pushed-none, pushed-more}
 use borrow.Author.Needs.{needs}
 use Rattle.tree_pairs.proofs.push.Statement.{statement}
 use Rattle.tree_pairs.proofs.push.Tie as tie
