@@ -1,14 +1,15 @@
 /*
  * Times the decoding of recordings, side by side in one run: this decoder, libtheora, FFmpeg (one thread each).
  *
- *   bench RECORDING.ogv..
+ *   bench [--turns] RECORDING.ogv..
  *
  * All packets are read into memory first; only decoding is timed, by the processor's time. This decoder has three ways: the whole recording
  * in one shot call, a shot call for each packet, a frame call for each packet. In a pass each way and each decoder in turn goes over the
  * whole recording several times, of which the fastest counts: so each is measured as it decodes a long recording, and not as it comes in
- * behind another one to cold caches. Of the passes the median counts. One line of a table for each recording: the frame's size in macro
- * blocks, the number of frames, microseconds per frame, the ratios, and which share of the frame calls' time the test of table memory and
- * the clearing of work memory take.
+ * behind another one to cold caches. Of the passes the median counts. With --turns it is as it comes in behind another one: each goes over
+ * the recording once, then the next one, and of all these rounds the median counts. One line of a table for each recording: the frame's
+ * size in macro blocks, the number of frames, microseconds per frame, the ratios, and which share of the frame calls' time the test of
+ * table memory and the clearing of work memory take.
  */
 #define _POSIX_C_SOURCE 200809L
 #include "common.h"
@@ -17,9 +18,9 @@
 #include <libavcodec/avcodec.h>
 #include <theora/theoradec.h>
 
-enum { PASSES = 5, LEAST_ROUNDS = 3 };
+enum { PASSES = 5, LEAST_ROUNDS = 3, MOST_TURNS = 401, LEAST_TURNS = 5 };
 _Static_assert(AV_INPUT_BUFFER_PADDING_SIZE <= BEHIND, "FFmpeg reads further");
-static const double ENOUGH_SECONDS = 0.1;
+static const double ENOUGH_SECONDS = 0.1, ENOUGH_FOR_TURNS = 2;
 
 /* ---- this decoder */
 
@@ -284,28 +285,39 @@ static double fastest(int way, const struct recording *r)
     return best;
 }
 
-static void compare(const char *path)
+/* The times of all ways, in passes or in turns, and how many there are. */
+static int measure(const struct recording *r, int turns, double times[WAYS][MOST_TURNS])
 {
-    double times[WAYS][PASSES];
+    double began = now();
+    int count = 0;
+    while (turns ? count < LEAST_TURNS || (count < MOST_TURNS && now() - began < ENOUGH_FOR_TURNS) : count < PASSES) {
+        for (int k = 0; k < WAYS; k++) {
+            times[k][count] = turns ? rounds[k](r) : fastest(k, r);
+        }
+        count++;
+    }
+    return count;
+}
+
+static void compare(const char *path, int turns)
+{
+    static double times[WAYS][MOST_TURNS];
     struct recording r = read_recording(path);
     double median[WAYS], frames = (double)(r.count - HEADERS);
     struct shares shares = call_shares(&r);
     const unsigned char *id = r.packets[0];
-    for (int pass = 0; pass < PASSES; pass++) {
-        for (int k = 0; k < WAYS; k++) {
-            times[k][pass] = fastest(k, &r);
-        }
-    }
+    int count = measure(&r, turns, times);
     printf("| %s | %d × %d | %.0f |", base_name(path), id[10] << 8 | id[11], id[12] << 8 | id[13], frames);
     for (int k = 0; k < WAYS; k++) {
-        qsort(times[k], PASSES, sizeof times[k][0], by_size);
-        median[k] = times[k][PASSES / 2];
+        qsort(times[k], (size_t)count, sizeof times[k][0], by_size);
+        median[k] = times[k][count / 2];
         printf(median[k] < 0 ? " - |" : " %.1f |", median[k] / frames * 1e6);
     }
     ratio(median[SHOT], median[FRAME]);
     ratio(median[SHOT], median[THEORA]);
     ratio(median[SHOT], median[FFMPEG]);
     ratio(median[FRAME], median[THEORA]);
+    ratio(median[FRAME], median[FFMPEG]);
     printf(" %.0f | %.0f |\n", 100 * shares.table * frames / median[FRAME], 100 * shares.clearing * frames / median[FRAME]);
     fflush(stdout);
     forget(&r);
@@ -315,10 +327,11 @@ int main(int count, char **words)
 {
     av_log_set_level(AV_LOG_QUIET);
     printf("| recording | macro blocks | frames | shot, µs a frame | a packet a shot | frame calls | libtheora | FFmpeg | shot / frame calls "
-           "| shot / libtheora | shot / FFmpeg | frame calls / libtheora | table test, %% of frame calls | clearing, %% |\n");
-    printf("|---|---|---|---|---|---|---|---|---|---|---|---|---|---|\n");
-    for (int k = 1; k < count; k++) {
-        compare(words[k]);
+           "| shot / libtheora | shot / FFmpeg | frame calls / libtheora | frame calls / FFmpeg | table test, %% of frame calls | clearing, %% |\n");
+    printf("|---|---|---|---|---|---|---|---|---|---|---|---|---|---|---|\n");
+    int turns = count > 1 && strcmp(words[1], "--turns") == 0;
+    for (int k = 1 + turns; k < count; k++) {
+        compare(words[k], turns);
     }
     return 0;
 }

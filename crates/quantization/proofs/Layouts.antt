@@ -56,10 +56,10 @@ module _ {A : Type 0} (f : A → List ℕ) where
   laid-length [] = refl
   laid-length (x ∷ l) = length-append (padded (f x)) (laid f l) ∙ omega (arith, padded-length (f x), laid-length l)
 
-  pub laid-more : (l : List A) (x : A) → laid f (l ++ x ∷ []) ≡ laid f l ++ padded (f x)
+  pub laid-append : (l m : List A) → laid f (l ++ m) ≡ laid f l ++ laid f m
   unfolding laid
-  laid-more [] x = append-nil (padded (f x))
-  laid-more (y ∷ l) x = ap (λ (r : List ℕ). padded (f y) ++ r) (laid-more l x) ∙ sym (append-assoc (padded (f y)) (laid f l) (padded (f x)))
+  laid-append [] m = refl
+  laid-append (y ∷ l) m = ap (λ (r : List ℕ). padded (f y) ++ r) (laid-append l m) ∙ sym (append-assoc (padded (f y)) (laid f l) (laid f m))
 
   -- the k-th of them, with anything behind them all
   pub laid-part : (l : List A) (z : List ℕ) (k : ℕ) (d : A) → k < length l → take 64 (drop (k * 64) (laid f l ++ z)) ≡ padded (f (getD l k d))
@@ -83,28 +83,36 @@ module _ {A : Type 0} (f : A → List ℕ) where
       ∙ ap (λ (r : List ℕ). getD r j 0) (laid-part l [] k d h)
       ∙ padded-at (f (getD l k d)) j g
 
-  -- ---- one more, in a slice of n elements that has zeros behind those that are there
-  module _ (n : ℕ) (l : List A) (s : List ℕ) (held : s ≡ laid f l ++ replicate (n - length l * 64) 0) (room : length l * 64 + 64 ≤ n) where
+  -- ---- more of them, in a slice of n elements that has zeros behind those that are there
+  module _ (n : ℕ) (l : List A) (s : List ℕ) (held : s ≡ laid f l ++ replicate (n - length l * 64) 0) where
     rest : drop (length l * 64) s ≡ replicate (n - length l * 64) 0
     rest = ap (λ (r : List ℕ). drop (length l * 64) r) held ∙ drop-at (laid f l) (replicate (n - length l * 64) 0) (length l * 64) (laid-length l)
 
     front : take (length l * 64) s ≡ laid f l
     front = ap (λ (r : List ℕ). take (length l * 64) r) held ∙ take-at (laid f l) (replicate (n - length l * 64) 0) (length l * 64) (laid-length l)
 
+    pub free-parts : (w : ℕ) → length l * 64 + w ≤ n → midOf (length l * 64) w s ≡ replicate w 0
+    free-parts w room = ap (λ (r : List ℕ). take w r) rest ∙ take-zeros w (n - length l * 64) (omega arith)
+
+    pub put-all : (m : List A) (new : List ℕ) (w : ℕ) → w ≡ length m * 64 → length l * 64 + w ≤ n → new ≡ laid f m → putMid (length l * 64) w s new ≡ laid f (l ++ m) ++ replicate (n - length (l ++ m) * 64) 0
+    put-all m new w h room e =
+        let c : length (l ++ m) ≡ length l + length m = length-append l m in
+        let v : n - length l * 64 - w ≡ n - length (l ++ m) * 64 = omega arith in
+        let z : drop w (drop (length l * 64) s) ≡ replicate (n - length (l ++ m) * 64) 0 = ap (λ (r : List ℕ). drop w r) rest ∙ drop-zeros w (n - length l * 64) ∙ ap (λ (k : ℕ). replicate k 0) v in
+        ap (λ (r : List ℕ). r ++ (new ++ drop w (drop (length l * 64) s))) front
+        ∙ ap (λ (r : List ℕ). laid f l ++ (new ++ r)) z
+        ∙ sym (append-assoc (laid f l) new (replicate (n - length (l ++ m) * 64) 0))
+        ∙ ap (λ (r : List ℕ). (laid f l ++ r) ++ replicate (n - length (l ++ m) * 64) 0) e
+        ∙ ap (λ (r : List ℕ). r ++ replicate (n - length (l ++ m) * 64) 0) (sym (laid-append l m))
+
+  -- ---- one more
+  module _ (n : ℕ) (l : List A) (s : List ℕ) (held : s ≡ laid f l ++ replicate (n - length l * 64) 0) (room : length l * 64 + 64 ≤ n) where
     pub free-part : midOf (length l * 64) 64 s ≡ replicate 64 0
-    free-part = ap (λ (r : List ℕ). take 64 r) rest ∙ take-zeros 64 (n - length l * 64) (omega arith)
+    free-part = free-parts n l s held 64 room
 
     pub put-more : (x : A) (new : List ℕ) → new ≡ padded (f x) → putMid (length l * 64) 64 s new ≡ laid f (l ++ x ∷ []) ++ replicate (n - length (l ++ x ∷ []) * 64) 0
-    put-more x new e =
-        let c : length (l ++ x ∷ []) ≡ length l + 1 = length-append l (x ∷ []) in
-        let w : n - length l * 64 - 64 ≡ n - length (l ++ x ∷ []) * 64 = omega arith in
-        let z : drop 64 (drop (length l * 64) s) ≡ replicate (n - length (l ++ x ∷ []) * 64) 0 =
-        ap (λ (r : List ℕ). drop 64 r) rest ∙ drop-zeros 64 (n - length l * 64) ∙ ap (λ (m : ℕ). replicate m 0) w in
-        ap (λ (r : List ℕ). r ++ (new ++ drop 64 (drop (length l * 64) s))) front
-        ∙ ap (λ (r : List ℕ). laid f l ++ (new ++ r)) z
-        ∙ sym (append-assoc (laid f l) new (replicate (n - length (l ++ x ∷ []) * 64) 0))
-        ∙ ap (λ (r : List ℕ). (laid f l ++ r) ++ replicate (n - length (l ++ x ∷ []) * 64) 0) e
-        ∙ ap (λ (r : List ℕ). r ++ replicate (n - length (l ++ x ∷ []) * 64) 0) (sym (laid-more l x))
+    unfolding laid
+    put-more x new e = put-all n l s held (x ∷ []) new 64 refl room (e ∙ sym (append-nil (padded (f x))))
 
     -- a copy of the k-th of them
     pub paste-more : (k : ℕ) (d : A) → k < length l → paste s (length l * 64) (drop (k * 64) s) 64 ≡ laid f (l ++ getD l k d ∷ []) ++ replicate (n - length (l ++ getD l k d ∷ []) * 64) 0

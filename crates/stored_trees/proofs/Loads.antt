@@ -23,7 +23,7 @@ pub spells-ends : (p : List ℕ) (q : ℕ) (t : Tree) (e : ℕ) → Spells p q t
 spells-ends p q (leaf t) e s = omega (arith, s .2)
 spells-ends p q (fork l r) e s = omega (arith, spells-ends p (q + 1) l (s .1) (s .2), spells-ends p (s .1) r e (s .3))
 
-spelled-tree : (d seen : ℕ) (p : List ℕ) (q : ℕ) (t : Tree) (e : ℕ) → Spells p q t e → longest t ≤ d → seen + leaves t ≤ 32 → e ≤ bits p → tree d seen p q ≡ got t e
+pub spelled-tree : (d seen : ℕ) (p : List ℕ) (q : ℕ) (t : Tree) (e : ℕ) → Spells p q t e → longest t ≤ d → seen + leaves t ≤ 32 → e ≤ bits p → tree d seen p q ≡ got t e
 spelled-tree d seen p q (leaf t) e s l c b =
     let x : number p q 1 ≡ 1 = number-one p q ∙ s .0 in
     let y : q + 1 + 5 ≡ e = omega (arith, s .2) in
@@ -41,11 +41,11 @@ spelled-tree d seen p q (fork l r) e s g c b =
     fork-left seen p q d (field-got 1 p q (omega (arith, u, v, y, z, b))) (λ w. absurd (omega (arith, w, x))) (λ w. absurd (omega (arith, g, w))) f ∙ rw h
 
 -- ---- trees one behind the other, their leaves, and the table that they make: before each but the first stands an open fork, whose 1 branch it is
-abbrev Forest : List ℕ → ℕ → List Tree → ℕ → Type 0
+abbrev pub Forest : List ℕ → ℕ → List Tree → ℕ → Type 0
 Forest p q [] e = q ≡ e
 Forest p q (t ∷ ts) e = (m : ℕ) × Spells p q t m × Forest p m ts e
 
-abbrev total : List Tree → ℕ
+abbrev pub total : List Tree → ℕ
 total [] = 0
 total (t ∷ ts) = leaves t + total ts
 
@@ -53,10 +53,10 @@ at-least : (ts : List Tree) → length ts ≤ total ts
 at-least [] = omega arith
 at-least (t ∷ ts) = omega (arith, some-leaf t, at-least ts)
 
-abbrev put : ℕ → Tree → List ℕ → List ℕ
+abbrev pub put : ℕ → Tree → List ℕ → List ℕ
 put i t ns = take i ns ++ flat i t ++ drop (i + size t) ns
 
-abbrev lay : List ℕ → ℕ → List Tree → List ℕ → List ℕ
+abbrev pub lay : List ℕ → ℕ → List Tree → List ℕ → List ℕ
 lay fs i [] ns = ns
 lay [] i (t ∷ ts) ns = put i t ns
 lay (f ∷ fs) i (t ∷ ts) ns = lay fs (i + size t) ts (set (put i t ns) f (128 + (i + size t)))
@@ -78,12 +78,12 @@ lay-leaf : (f : ℕ) (fs : List ℕ) (i t : ℕ) (ns : List ℕ) (ts : List Tree
 lay-leaf f fs i t ns ts h = ap (λ (m : List ℕ). lay fs (i + 1) ts (set m f (128 + (i + 1)))) (stored-leaf i ns t h)
 
 -- ---- what is left to read at the place q: a tree, and one for each of the open forks fs, the innermost first; L leaves stand before. All comes to the table F, to c leaves and to the place e
-record Rest (p : List ℕ) (q i L : ℕ) (fs ns F : List ℕ) (c e : ℕ) : Type 0 where
-  trees : List Tree
-  each : length trees ≡ 1 + length fs
-  spelled : Forest p q trees e
-  laid : lay fs i trees ns ≡ F
-  count : L + total trees ≡ c
+pub record Rest (p : List ℕ) (q i L : ℕ) (fs ns F : List ℕ) (c e : ℕ) : Type 0 where
+  pub trees : List Tree
+  pub each : length trees ≡ 1 + length fs
+  pub spelled : Forest p q trees e
+  pub laid : lay fs i trees ns ≡ F
+  pub count : L + total trees ≡ c
 
 module _ (p : List ℕ) (q i L : ℕ) (fs ns F : List ℕ) (c e : ℕ) (inside : i < length ns) where
   -- a bit 0 is a fork: its branches are left
@@ -102,7 +102,7 @@ module _ (p : List ℕ) (q i L : ℕ) (fs ns F : List ℕ) (c e : ℕ) (inside :
             count = omega (arith, k);
           }
 
-  fork-back : (x : ℕ) → bitAt p q ≡ 0 → Rest p (q + 1) (i + 1) L (i ∷ fs) (set ns i x) F c e → Rest p q i L fs ns F c e
+  pub fork-back : (x : ℕ) → bitAt p q ≡ 0 → Rest p (q + 1) (i + 1) L (i ∷ fs) (set ns i x) F c e → Rest p q i L fs ns F c e
   fork-back x b g = go (g .trees) (g .each) (g .spelled) (g .laid) (g .count)
     where
       go : (ts : List Tree) → length ts ≡ 1 + length (i ∷ fs) → Forest p (q + 1) ts e → lay (i ∷ fs) (i + 1) ts (set ns i x) ≡ F → L + total ts ≡ c → Rest p q i L fs ns F c e
@@ -135,7 +135,7 @@ module _ (p : List ℕ) (q i L f : ℕ) (fs ns F : List ℕ) (c e t : ℕ) (insi
             count = omega (arith, k);
           }
 
-  leaf-back : Rest p (q + 6) (i + 1) (L + 1) fs (set (set ns i t) f (128 + (i + 1))) F c e → Rest p q i L (f ∷ fs) ns F c e
+  pub leaf-back : Rest p (q + 6) (i + 1) (L + 1) fs (set (set ns i t) f (128 + (i + 1))) F c e → Rest p q i L (f ∷ fs) ns F c e
   leaf-back g =
       record {
         trees = leaf t ∷ g .trees;
@@ -144,6 +144,24 @@ module _ (p : List ℕ) (q i L f : ℕ) (fs ns F : List ℕ) (c e t : ℕ) (insi
         laid = sym (lay-leaf f fs i t ns (g .trees) inside) ∙ g .laid;
         count = omega (arith, g .count);
       }
+
+-- the last leaf, with no fork open
+module _ (p : List ℕ) (q i L : ℕ) (ns : List ℕ) (t : ℕ) (inside : i < length ns) (b : bitAt p q ≡ 1) (is : t ≡ number p (q + 1) 5) where
+  pub last-leaf : Rest p q i L [] ns (set ns i t) (L + 1) (q + 6)
+  last-leaf = record { trees = leaf t ∷ []; each = refl; spelled = (q + 6, (b, sym is, refl), refl); laid = sym (stored-leaf i ns t inside); count = omega arith }
+
+-- all of a tree that ends in the packet, from its start
+pub rest-whole : (p : List ℕ) (at : ℕ) (F : List ℕ) (c e : ℕ) → Rest p at 0 0 [] (replicate 64 0) F c e → c ≤ 32 → e ≤ bits p → (t : Tree) × (huffmanTree p at ≡ got t e) × (c ≡ leaves t) × (F ≡ nodesOf t)
+unfolding huffmanTree nodesOf
+rest-whole p at F c e r m d = go (r .trees) (r .each) (r .spelled) (r .laid) (r .count)
+  where
+    go : (ts : List Tree) → length ts ≡ 1 + 0 → Forest p at ts e → lay [] 0 ts (replicate 64 0) ≡ F → 0 + total ts ≡ c → (t : Tree) × (huffmanTree p at ≡ got t e) × (c ≡ leaves t) × (F ≡ nodesOf t)
+    go [] n s l k = absurd (omega (arith, n))
+    go (u ∷ x ∷ ts) n s l k = absurd (omega (arith, n))
+    go (u ∷ []) n s l k =
+        let z = spelled-tree 32 0 p at u (s .0) (s .1) (omega (arith, longest-leaves u, k, m)) (omega (arith, k, m)) (omega (arith, s .2, d)) in
+        let v : drop {A = ℕ} (0 + size u) (replicate 64 0) ≡ replicate (64 - size u) 0 = ap (λ (k : ℕ). drop {A = ℕ} k (replicate 64 0)) (zero-add (size u)) ∙ drop-zeros (size u) 64 (omega (arith, size-leaves u, k, m)) in
+        (u, z ∙ ap (got u) (s .2), omega (arith, k), sym l ∙ ap (λ (w : List ℕ). flat 0 u ++ w) v)
 
 -- ---- the open forks: each has as its entry the one above it, the outermost 64, and each stands behind the one above it
 abbrev Chain : List ℕ → ℕ → List ℕ → Type 0
@@ -278,9 +296,6 @@ module _ (p : List ℕ) (at : ℕ) where
           go (leaf u ∷ []) n s k = omega (arith, k)
           go (leaf u ∷ x ∷ ts) n s k = absurd (omega (arith, n))
 
-      here : Rest p q i L [] ns (set ns i t) (L + 1) (q + 6)
-      here = record { trees = leaf t ∷ []; each = refl; spelled = (q + 6, (b, sym is, refl), refl); laid = sym (stored-leaf i ns t inside); count = omega arith }
-
       module _ (shut : top ≡ 64) where
         none-open : (fs : List ℕ) → Chain ns top fs → Falling i fs → fs ≡ []
         none-open [] c f = refl
@@ -305,21 +320,11 @@ module _ (p : List ℕ) (at : ℕ) where
             go (refused k e) r = (refl, tt)
 
         pub going-whole : at + 7 * (L + 1) - 1 ≤ bits p → (L + 1 ≡ leavesOf (huffmanTree p at)) × IfGot (λ s. set ns i t ≡ nodesOf s) (huffmanTree p at)
-        unfolding huffmanTree nodesOf
         going-whole d =
-            let r = g .back (set ns i t) (L + 1) (q + 6) (subst (λ (fs : List ℕ). Rest p q i L fs ns (set ns i t) (L + 1) (q + 6)) (sym no-forks) here) in
-            go (r .trees) (r .each) (r .spelled) (r .laid) (r .count)
-          where
-            go : (ts : List Tree) → length ts ≡ 1 + 0 → Forest p at ts (q + 6) → lay [] 0 ts (replicate 64 0) ≡ set ns i t → 0 + total ts ≡ L + 1
-                → (L + 1 ≡ leavesOf (huffmanTree p at)) × IfGot (λ s. set ns i t ≡ nodesOf s) (huffmanTree p at)
-            go [] n s l k = absurd (omega (arith, n))
-            go (u ∷ x ∷ ts) n s l k = absurd (omega (arith, n))
-            go (u ∷ []) n s l k =
-                let m = going-room .1 in
-                let y = spells-ends p at u (s .0) (s .1) in
-                let z = spelled-tree 32 0 p at u (s .0) (s .1) (omega (arith, longest-leaves u, k, m)) (omega (arith, k, m)) (omega (arith, y, k, d)) in
-                let v : drop {A = ℕ} (0 + size u) (replicate 64 0) ≡ replicate (64 - size u) 0 = ap (λ (k : ℕ). drop {A = ℕ} k (replicate 64 0)) (zero-add (size u)) ∙ drop-zeros (size u) 64 (omega (arith, size-leaves u, k, m)) in
-                rw z (omega (arith, k), sym l ∙ ap (λ (w : List ℕ). flat 0 u ++ w) v)
+            let n : length (g .forks) ≡ 0 = ap length no-forks in
+            let r = g .back (set ns i t) (L + 1) (q + 6) (subst (λ (fs : List ℕ). Rest p q i L fs ns (set ns i t) (L + 1) (q + 6)) (sym no-forks) (last-leaf p q i L ns t inside b is)) in
+            let w = rest-whole p at (set ns i t) (L + 1) (q + 6) r (omega (arith, going-room .1)) (omega (arith, d, n, g .nodes, g .place)) in
+            rw (w .1) (w .2, w .3)
 
     -- one fork more than 31, and there is no tree
     pub going-full : bitAt p q ≡ 0 → i ≡ 31 + L → (0 ≡ leavesOf (huffmanTree p at)) × IfGot (λ t. ns ≡ nodesOf t) (huffmanTree p at)
@@ -337,13 +342,13 @@ module _ (p : List ℕ) (at : ℕ) where
 
 -- ---- the window: its upper v bits are those of the packet from the place q on, enough for the leaves up to the next filling
 pub record Shows (p : List ℕ) (q w i L : ℕ) : Type 0 where
-  shown : ℕ
-  most : shown ≤ 64
-  enough : 57 + L ≤ shown + i + 6 * (L % 4)
-  is : w ≡ number p q shown * 2 ^ (64 - shown)
+  pub shown : ℕ
+  pub most : shown ≤ 64
+  pub enough : 57 + L ≤ shown + i + 6 * (L % 4)
+  pub is : w ≡ number p q shown * 2 ^ (64 - shown)
 
 -- k of its bits, and the rest
-parted : (p : List ℕ) (q v k m : ℕ) → k + m ≡ v → v ≤ 64
+pub parted : (p : List ℕ) (q v k m : ℕ) → k + m ≡ v → v ≤ 64
     → (number p q v * 2 ^ (64 - v) ≡ number p q k * 2 ^ (64 - k) + number p (q + k) m * 2 ^ (64 - v)) × (number p (q + k) m * 2 ^ (64 - v) < 2 ^ (64 - k))
 parted p q v k m e h =
     let s = 2 ^ (64 - v) in
