@@ -6,7 +6,7 @@ use crate::random::Random;
 use crate::reference::setup::setup;
 use crate::reference::table_face::{Table, TableCall};
 use crate::reference::table_memory::{TABLE_BYTES, left_by};
-use crate::setup_header::{accepted, with_bad_tree};
+use crate::setup_header::{Trees, accepted_with, with_bad_tree};
 
 /// How many table memories are made of one genuine one.
 const TABLES_OF_A_HEADER: u64 = 16;
@@ -20,7 +20,9 @@ pub fn compare(random: &mut Random, tables: u64, samples: u64) -> Result<(Tally,
     let headers = tables.div_ceil(TABLES_OF_A_HEADER);
     for number in 0..headers {
         let small = random.once_in(4);
-        let packet = accepted(random, small);
+        // Trees of 32 leaves are read two at a time, others one by one.
+        let trees = random.pick(&[Trees::Any, Trees::Full]);
+        let packet = accepted_with(random, small, trees);
         let bits = packet.length() as usize;
         let table = left_by(packet.bytes(), &setup(packet.bytes()));
         compare_one(random, &mut tally, &table)?;
