@@ -13,7 +13,7 @@ use headers::Session;
 use reading::{FrameAnswer, Verdict};
 
 // What is left to do: nothing after a refusal; what was read is cleared where the session's numbers would pass their bounds; else the frame of so many coded blocks is made.
-#[derive(Drop)]
+#[derive(Clone, Copy)]
 pub enum Next {
     Nothing,
     Clear,
@@ -21,7 +21,7 @@ pub enum Next {
 }
 
 // The answer for a packet, and what is left to do.
-#[derive(Drop)]
+#[derive(Clone, Copy)]
 pub struct Judged {
     pub answer: FrameAnswer,
     pub next: Next,

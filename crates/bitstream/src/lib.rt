@@ -5,28 +5,28 @@ ghost use Rattle.bitstream.specs.Bits.{number, longest};
 ghost use Rattle.bitstream.specs.Answer.{as_field, said_place, as_two, two_of, readable};
 
 // A field's value and the bit place behind it, or the number of the refusal and the place of the field at fault.
-#[derive(Drop)]
+#[derive(Clone, Copy)]
 pub enum Field {
     Got(u32, usize),
     Refused(u32, usize),
 }
 
 // The bit place behind what was read, or the number of the refusal and the place of the field at fault.
-#[derive(Drop)]
+#[derive(Clone, Copy)]
 pub enum End {
     At(usize),
     Refused(u32, usize),
 }
 
 // Two fields, one behind the other, and the place behind them; or the refusal of the first that is not there.
-#[derive(Drop)]
+#[derive(Clone, Copy)]
 pub enum Two {
     Got(u32, u32, usize),
     Refused(u32, usize),
 }
 
 // The reader of bits holds the lent packet and its bit place.
-#[derive(Drop)]
+#[derive(Clone, Copy)]
 pub struct BitReader<'a> {
     pub packet: &'a [u8],
     pub place: usize,

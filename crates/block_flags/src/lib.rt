@@ -3,7 +3,7 @@ ghost use Rattle.std.specs.Prelude.{◌≡◌, ◌++◌, ◌+◌, ◌≤◌, ◌
 ghost use Rattle.block_flags.specs.Flags.{block_flags, taken_next};
 
 // How much is taken of the string of fully coded super blocks, and of the string of blocks.
-#[derive(Drop)]
+#[derive(Clone, Copy)]
 pub struct Taken {
     pub full: usize,
     pub bits: usize,

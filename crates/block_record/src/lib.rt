@@ -4,20 +4,20 @@ ghost use Rattle.block_record.specs.Record.{InRange, PredictionInRange, VectorIn
 ghost use Rattle.block_record.specs.Packed.{vector_number, vector_at, prediction_number, prediction_at, packed, unpacked};
 
 // In half samples; along a subsampled axis in quarter samples.
-#[derive(Drop)]
+#[derive(Clone, Copy)]
 pub struct Vector {
     pub x: i32,
     pub y: i32,
 }
 
-#[derive(Drop)]
+#[derive(Clone, Copy)]
 pub enum Prediction {
     None,
     Previous(Vector),
     Golden(Vector),
 }
 
-#[derive(Drop)]
+#[derive(Clone, Copy)]
 pub struct BlockRecord {
     pub coded: bool,
     pub qi_index: u32,

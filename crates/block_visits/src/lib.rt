@@ -10,7 +10,7 @@ ghost use Rattle.block_visits.specs.Answer.{Visited, outcome_of, acted, Shape};
 use token::Token;
 
 // The place behind what was read, what is left of the end-of-block run, and how many tokens were read so far. Or the number of the refusal and its place.
-#[derive(Drop)]
+#[derive(Clone, Copy)]
 pub enum Visit {
     Done(usize, usize, usize),
     Refused(u32, usize),

@@ -7,7 +7,7 @@ ghost use Rattle.block_walk.specs.Band.{IsBand, InBand};
 use geometry::{Block, PixelFormat};
 
 // At most four rows of a plane, from row y on: the blocks with raster numbers from `first` on, before `end`.
-#[derive(Drop)]
+#[derive(Clone, Copy)]
 pub struct Band {
     pub plane: u64,
     pub y: u64,

@@ -7,7 +7,7 @@ use headers::Session;
 use reading::{FrameAnswer, Verdict};
 
 // The buffers of golden and previous, 0 to 2; 3 and 3 without references.
-#[derive(Drop)]
+#[derive(Clone, Copy)]
 pub struct Names {
     pub golden: u64,
     pub previous: u64,

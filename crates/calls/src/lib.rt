@@ -6,7 +6,7 @@ use headers::Session;
 use work_memory::WorkLengths;
 
 // How long the slices are that a call is lent, and may write to: work memory and three buffers. Tests take the lengths alone, since a call that lends so many slices is dear to prove.
-#[derive(Drop)]
+#[derive(Clone, Copy)]
 pub struct Room {
     pub records: usize,
     pub coded: usize,

@@ -15,7 +15,7 @@ use report::Running;
 use setup::SetupAnswer;
 
 // The fresh session of a recording and the byte place of its first frame packet, or the number of the first refused header.
-#[derive(Drop)]
+#[derive(Clone, Copy)]
 pub enum HeadersAnswer {
     Sound(Session, usize),
     Refused(u32),

@@ -6,7 +6,7 @@ ghost use Rattle.check_answer.specs.Found.{found_by, returned};
 use watching::Watched;
 
 // The file is what it must be; the first byte at which it differs; or the number of the first refusal and its place.
-#[derive(Drop)]
+#[derive(Clone, Copy)]
 pub enum CheckAnswer {
     Passes,
     Differs(u64),

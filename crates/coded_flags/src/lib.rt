@@ -13,7 +13,7 @@ use geometry::PixelFormat;
 use runs::RunCode;
 
 // How many super blocks are not partly coded, and the place behind both strings of super blocks; or the refusal.
-#[derive(Drop)]
+#[derive(Clone, Copy)]
 enum SuperRead {
     At(usize, usize),
     Refused(u32, usize),

@@ -9,7 +9,7 @@ ghost use Rattle.coded_list.specs.Answer.{listed_of};
 use geometry::PixelFormat;
 
 // How many blocks are coded, and how many of them are luma blocks, which come first.
-#[derive(Drop)]
+#[derive(Clone, Copy)]
 pub struct Listed {
     pub count: usize,
     pub luma: usize,

@@ -4,7 +4,7 @@ ghost use Rattle.colour_tables.specs.Rule.{contributions};
 ghost use Rattle.colour_tables.specs.Parts.{three, part_of, chroma_rows};
 
 // What the chroma of a pixel adds to red, to green and to blue, in units of 1/65536 of a step of 0 to 255.
-#[derive(Drop)]
+#[derive(Clone, Copy)]
 pub struct Chroma {
     pub red: i32,
     pub green: i32,

@@ -9,7 +9,7 @@ use frame_header::Kind;
 use geometry::PixelFormat;
 
 // Blocks by plane, macro blocks by mode.
-#[derive(Drop)]
+#[derive(Clone, Copy)]
 pub struct Counts {
     pub coded: [u64; 3],
     pub uncoded: [u64; 3],

@@ -5,14 +5,14 @@ ghost use Rattle.dc_neighbours.specs.Neighbours.{neighbour_at, neighbour_back, p
 ghost use Rattle.dc_neighbours.specs.Block.{state_of, Within, prediction};
 
 // A neighbour's DC, and whether it counts.
-#[derive(Drop)]
+#[derive(Clone, Copy)]
 pub struct Neighbour {
     pub counts: bool,
     pub dc: i16,
 }
 
 // The last DC of each reference: none, previous, golden.
-#[derive(Drop)]
+#[derive(Clone, Copy)]
 pub struct LastDc {
     pub values: [i16; 3],
 }

@@ -35,7 +35,7 @@ fn limit_of(limits: [u16; 64], qis: [u8; 3]) -> u32
 }
 
 // A packet that was read: what it answers and, if it is accepted, what its frame is made from beside the lists in work memory.
-#[derive(Drop)]
+#[derive(Clone, Copy)]
 pub struct Prepared {
     pub answer: FrameAnswer,
     pub accepted: bool,

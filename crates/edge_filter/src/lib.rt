@@ -5,7 +5,7 @@ ghost use Rattle.edge_filter.specs.Filter.{response_of, tent_of, limited_of, fil
 ghost use Rattle.edge_filter.specs.Edge.{crossed, NewSides, Four, Fours, Pairs, pairs_at, Runs};
 
 // p1 and p2 as the filter makes them.
-#[derive(Drop)]
+#[derive(Clone, Copy)]
 struct NewPair {
     p1: u8,
     p2: u8,

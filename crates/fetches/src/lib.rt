@@ -9,14 +9,14 @@ use block_record::Vector;
 use geometry::{Block, PixelFormat, Plane};
 
 // The axes of a plane: is it subsampled across, and up?
-#[derive(Drop)]
+#[derive(Clone, Copy)]
 pub struct Axes {
     pub across: bool,
     pub up: bool,
 }
 
 // Where the two fetches of a block begin: column and row in the plane, or outside of it.
-#[derive(Drop)]
+#[derive(Clone, Copy)]
 pub struct Fetches {
     pub x1: i32,
     pub y1: i32,

@@ -7,7 +7,7 @@ ghost use Rattle.frame_header.specs.Answer.{as_qis, as_read};
 
 use bitstream::{End, Field};
 
-#[derive(Drop)]
+#[derive(Clone, Copy)]
 pub enum Kind {
     Intra,
     Inter,
@@ -15,7 +15,7 @@ pub enum Kind {
 }
 
 // What an accepted frame answers: its kind, and its list of qi, the first `count` of the three; the others are 0. A repeat has none.
-#[derive(Drop)]
+#[derive(Clone, Copy)]
 pub struct Header {
     pub kind: Kind,
     pub qis: [u8; 3],
@@ -23,14 +23,14 @@ pub struct Header {
 }
 
 // A header and the place behind it, or a refusal, beside which stands the header of a repeat.
-#[derive(Drop)]
+#[derive(Clone, Copy)]
 pub struct HeaderRead {
     pub done: End,
     pub header: Header,
 }
 
 // A list of qi and the place behind it, or a refusal, beside which stands an empty list.
-#[derive(Drop)]
+#[derive(Clone, Copy)]
 struct QisRead {
     done: End,
     qis: [u8; 3],

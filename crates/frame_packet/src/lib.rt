@@ -16,7 +16,7 @@ pub use packet_body::Read;
 use packet_opening::Opening;
 
 // A frame's header beside it: that of a repeat after a refusal.
-#[derive(Drop)]
+#[derive(Clone, Copy)]
 pub struct FrameRead {
     pub read: Read,
     pub header: Header,

@@ -10,7 +10,7 @@ ghost use Rattle.geometry.specs.Macro.{four_of, blocks_of_macro, macro_of};
 ghost use Rattle.geometry.specs.Sample.{sample_at};
 
 // 4:2:0, 4:2:2 (half width), 4:4:4
-#[derive(Drop)]
+#[derive(Clone, Copy)]
 pub enum PixelFormat {
     Chroma420,
     Chroma422,
@@ -18,7 +18,7 @@ pub enum PixelFormat {
 }
 
 // A plane: its blocks across and up, and the bytes that it takes of the one buffer.
-#[derive(Drop)]
+#[derive(Clone, Copy)]
 pub struct Plane {
     pub across: u64,
     pub up: u64,
@@ -27,7 +27,7 @@ pub struct Plane {
 }
 
 // NMBS, NBS, NSBS, the bytes of the buffer, and the planes.
-#[derive(Drop)]
+#[derive(Clone, Copy)]
 pub struct FrameSizes {
     pub macro_blocks: u64,
     pub blocks: u64,
@@ -39,14 +39,14 @@ pub struct FrameSizes {
 }
 
 // Where a block or a macro block stands: its column and row, counted from the lower left.
-#[derive(Drop)]
+#[derive(Clone, Copy)]
 pub struct Place {
     pub x: u64,
     pub y: u64,
 }
 
 // A block of a frame. Plane 0 is luma, 1 is Cb, 2 is Cr.
-#[derive(Drop)]
+#[derive(Clone, Copy)]
 pub struct Block {
     pub plane: u64,
     pub x: u64,
@@ -182,7 +182,7 @@ pub fn macro_block_at(w: u64, h: u64, i: u64) -> Place
 }
 
 // A super block: the number of its first block, and its number of blocks, which follow on in coded order.
-#[derive(Drop)]
+#[derive(Clone, Copy)]
 pub struct SuperBlock {
     pub first: u64,
     pub count: u64,
@@ -280,7 +280,7 @@ pub fn raster_block(format: PixelFormat, w: u64, h: u64, n: u64) -> Block
 }
 
 // A super block by its plane, and its number there.
-#[derive(Drop)]
+#[derive(Clone, Copy)]
 struct SuperPlace {
     plane: u64,
     rest: u64,

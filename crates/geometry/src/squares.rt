@@ -13,7 +13,7 @@ pub(crate) fn lesser(a: u64, b: u64) -> u64
 }
 
 // The square that holds (x, y): the number of its first place, and how much of it lies in the plane.
-#[derive(Drop)]
+#[derive(Clone, Copy)]
 pub(crate) struct Square {
     pub first: u64,
     pub u: u64,
@@ -36,7 +36,7 @@ pub(crate) fn square_of(w: u64, h: u64, x: u64, y: u64) -> Square
 }
 
 // The square that holds number i: where it begins, how much of it lies in the plane, and what is left of i.
-#[derive(Drop)]
+#[derive(Clone, Copy)]
 pub(crate) struct Spot {
     pub a: u64,
     pub b: u64,

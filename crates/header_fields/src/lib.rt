@@ -8,7 +8,7 @@ ghost use Rattle.header_fields.specs.Frame.{version, frame_size, as_frame_size};
 use bitstream::Field;
 
 // A value that was read, and the place behind it.
-#[derive(Drop)]
+#[derive(Clone, Copy)]
 pub struct Value {
     pub is: u32,
     pub next: usize,
@@ -89,7 +89,7 @@ pub fn read_version(packet: &[u8], at: usize) -> Field
     bitstream::read(packet, vmin.next, 8)
 }
 
-#[derive(Drop)]
+#[derive(Clone, Copy)]
 pub struct FrameSize {
     pub fmbw: u64,
     pub fmbh: u64,
@@ -99,7 +99,7 @@ pub struct FrameSize {
     pub picy: u64,
 }
 
-#[derive(Drop)]
+#[derive(Clone, Copy)]
 pub enum FrameSizeAnswer {
     Is(FrameSize, usize),
     Refused(u32, usize),

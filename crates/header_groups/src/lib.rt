@@ -9,7 +9,7 @@ use bitstream::{End, Field};
 use header_fields::Value;
 
 // The rates.
-#[derive(Drop)]
+#[derive(Clone, Copy)]
 pub struct Rates {
     pub frn: u64,
     pub frd: u64,
@@ -18,14 +18,14 @@ pub struct Rates {
     pub cs: u64,
 }
 
-#[derive(Drop)]
+#[derive(Clone, Copy)]
 pub enum RatesAnswer {
     Is(Rates, usize),
     Refused(u32, usize),
 }
 
 // How a recording is coded.
-#[derive(Drop)]
+#[derive(Clone, Copy)]
 pub struct Coding {
     pub nombr: u64,
     pub qual: u64,
@@ -33,7 +33,7 @@ pub struct Coding {
     pub pf: u64,
 }
 
-#[derive(Drop)]
+#[derive(Clone, Copy)]
 pub enum CodingAnswer {
     Is(Coding, usize),
     Refused(u32, usize),

@@ -12,7 +12,7 @@ pub use header_groups::read_common_header;
 use header_groups::{CodingAnswer, RatesAnswer};
 
 // The identification fields, under the specification's names.
-#[derive(Drop)]
+#[derive(Clone, Copy)]
 pub struct Fields {
     pub vrev: u64,
     pub fmbw: u64,
@@ -34,7 +34,7 @@ pub struct Fields {
 
 // What is known of a recording between its packets: the identification fields, whether references exist, how many key frames were accepted and how many
 // other packets since the last of them.
-#[derive(Drop)]
+#[derive(Clone, Copy)]
 pub struct Session {
     pub fields: Fields,
     pub references: bool,
@@ -43,7 +43,7 @@ pub struct Session {
 }
 
 // The fresh session, or the number of the refusal and its bit place.
-#[derive(Drop)]
+#[derive(Clone, Copy)]
 pub enum IdentificationAnswer {
     Accepted(Session),
     Refused(u32, usize),
@@ -184,7 +184,7 @@ pub fn pixel_format(pf: u64) -> PixelFormat
 }
 
 // The sizes of a session's frames, or number 8.
-#[derive(Drop)]
+#[derive(Clone, Copy)]
 pub enum SizesAnswer {
     Is(FrameSizes),
     Refused(u32),

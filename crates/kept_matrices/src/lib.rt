@@ -10,7 +10,7 @@ use quantization::LoadedParameters;
 
 // The matrices of the first `count` qi, for each type, in it for each plane, in it for each qi. With a count of 0 nothing is kept.
 // It is handed on by value: eight copies a packet of 240 instructions each, and no wide function is lent a slice more.
-#[derive(Drop)]
+#[derive(Clone, Copy)]
 pub struct KeptMatrices {
     pub qis: [u8; 3],
     pub count: u8,

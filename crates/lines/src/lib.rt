@@ -19,7 +19,7 @@ const C6: u16 = 25080;
 const C7: u16 = 12785;
 
 // Eight numbers that are transformed together: a row or a column of a block.
-#[derive(Drop)]
+#[derive(Clone, Copy)]
 pub struct Line {
     pub x0: i16,
     pub x1: i16,
@@ -32,7 +32,7 @@ pub struct Line {
 }
 
 // Four terms of a line's outputs, cut to 16 bits.
-#[derive(Drop)]
+#[derive(Clone, Copy)]
 pub struct Terms {
     pub t0: i16,
     pub t1: i16,

@@ -8,7 +8,7 @@ ghost use Rattle.matrix_values.specs.Weights.{Light, weighed, Weighs};
 use quant_ranges::Range;
 
 // What the values of two base matrices are weighed by, the one before qi and the one behind it.
-#[derive(Drop)]
+#[derive(Clone, Copy)]
 pub struct Weights {
     pub before: u16,
     pub behind: u16,

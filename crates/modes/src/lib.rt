@@ -7,7 +7,7 @@ ghost use Rattle.modes.specs.Modes.{mode, mode_of, modes_from, macro_modes, as_m
 use bitstream::{End, Field};
 
 // A mode and the place behind it, or the number of the refusal and the place of the field at fault.
-#[derive(Drop)]
+#[derive(Clone, Copy)]
 enum Mode {
     Is(u8, usize),
     Refused(u32, usize),

@@ -6,21 +6,21 @@ ghost use Rattle.motion.specs.Kept.{started, zero_vector, behind, still, last_re
 use block_record::{Prediction, Vector};
 
 // The vectors of two luma blocks beside each other.
-#[derive(Drop)]
+#[derive(Clone, Copy)]
 pub struct Row {
     pub left: Vector,
     pub right: Vector,
 }
 
 // How a macro block moves: one prediction for all its blocks, or four luma vectors, A and B in the lower row, C and D in the upper.
-#[derive(Drop)]
+#[derive(Clone, Copy)]
 pub enum Motion {
     One(Prediction),
     Four(Row, Row),
 }
 
 // A macro block's motion, and the vectors that are kept behind it.
-#[derive(Drop)]
+#[derive(Clone, Copy)]
 pub struct Moved {
     pub motion: Motion,
     pub last: Vector,

@@ -18,25 +18,25 @@ const WIDTH: [u32; 5] = [0, 0, 2, 3, 4];
 const LEAST: [u32; 5] = [2, 3, 4, 8, 16];
 
 // A component and the place behind it, or the number of the refusal and its place; likewise the enums below.
-#[derive(Drop)]
+#[derive(Clone, Copy)]
 enum ComponentRead {
     Got(i32, usize),
     Refused(u32, usize),
 }
 
-#[derive(Drop)]
+#[derive(Clone, Copy)]
 enum VectorRead {
     Got(Vector, usize),
     Refused(u32, usize),
 }
 
-#[derive(Drop)]
+#[derive(Clone, Copy)]
 enum RowRead {
     Got(Row, usize),
     Refused(u32, usize),
 }
 
-#[derive(Drop)]
+#[derive(Clone, Copy)]
 pub enum MovedRead {
     Got(Moved, usize),
     Refused(u32, usize),

@@ -16,7 +16,7 @@ use headers::Session;
 use setup::LoadedSetup;
 
 // What the tests come to: 0, or the number of the refusal; and the setup that table memory holds.
-#[derive(Drop)]
+#[derive(Clone, Copy)]
 pub struct Opened {
     pub number: u32,
     pub setup: LoadedSetup,

@@ -21,14 +21,14 @@ use geometry::PixelFormat;
 use tokens::Counted;
 
 // The numbers of coded blocks and of tokens, and the place behind the packet; or the refusal.
-#[derive(Drop)]
+#[derive(Clone, Copy)]
 pub enum Read {
     Whole(usize, usize, usize),
     Refused(u32, usize),
 }
 
 // The numbers of coded blocks and of coded luma blocks, and the place behind the flags; or the refusal.
-#[derive(Drop)]
+#[derive(Clone, Copy)]
 enum CodedRead {
     Listed(usize, usize, usize),
     Refused(u32, usize),

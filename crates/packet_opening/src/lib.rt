@@ -3,7 +3,7 @@ ghost use Rattle.std.specs.Prelude.{◌≡◌};
 ghost use Rattle.packet_opening.specs.Opening.{opening_of};
 
 // An empty packet repeats previous, or is refused where there are no references.
-#[derive(Drop)]
+#[derive(Clone, Copy)]
 pub enum Opening {
     Header,
     Repeat,

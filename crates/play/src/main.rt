@@ -17,7 +17,7 @@ const BLOCKS: usize = 96;
 const SAMPLES: usize = 6144;
 
 // A packet of a file: so many bytes at the start of a buffer.
-#[derive(Drop)]
+#[derive(Clone, Copy)]
 struct Packet {
     is_whole: bool,
     length: usize,

@@ -15,7 +15,7 @@ use fetches::Fetches;
 use geometry::{Block, PixelFormat, Plane};
 
 // Where a fetch that lies in the plane starts in the buffer.
-#[derive(Drop)]
+#[derive(Clone, Copy)]
 pub enum Start {
     At(usize),
     Outside,

@@ -4,7 +4,7 @@ ghost use Rattle.quantization.specs.Sound.{total};
 ghost use Rattle.quant_ranges.specs.Ranges.{range_of};
 
 // A range of a set: which one it is, the qi at which it begins, and its size.
-#[derive(Drop)]
+#[derive(Clone, Copy)]
 pub struct Range {
     pub number: usize,
     pub start: usize,

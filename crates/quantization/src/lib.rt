@@ -11,7 +11,7 @@ ghost use Rattle.quantization.specs.Answer.{end_of, Filled, SetFilled, SetAnswer
 use bitstream::{End, Field};
 
 // The place of the first base matrix and the place behind the parameters, or the refusal.
-#[derive(Drop)]
+#[derive(Clone, Copy)]
 pub enum Parameters {
     Read(usize, usize),
     Refused(u32, usize),
@@ -19,7 +19,7 @@ pub enum Parameters {
 
 // Parameters that were read: the AC and the DC scales, and the sizes and the indices of the quant ranges, 64 elements for each of six sets.
 // The base matrices stay in the packet: `place` is that of the first.
-#[derive(Drop)]
+#[derive(Clone, Copy)]
 pub struct LoadedParameters {
     pub place: usize,
     pub ac_scale: [u16; 64],

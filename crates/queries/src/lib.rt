@@ -8,7 +8,7 @@ use geometry::{Block, PixelFormat, Place};
 use headers::Session;
 
 // A block; the frame has no such block; or the number of the refusal.
-#[derive(Drop)]
+#[derive(Clone, Copy)]
 pub enum BlockAnswer {
     Is(Block),
     Absent,
@@ -16,7 +16,7 @@ pub enum BlockAnswer {
 }
 
 // The same of a macro block's place.
-#[derive(Drop)]
+#[derive(Clone, Copy)]
 pub enum PlaceAnswer {
     Is(Place),
     Absent,
@@ -24,7 +24,7 @@ pub enum PlaceAnswer {
 }
 
 // The same of a number: a place in coded order, or an offset in a plane buffer.
-#[derive(Drop)]
+#[derive(Clone, Copy)]
 pub enum NumberAnswer {
     Is(u64),
     Absent,

@@ -8,14 +8,14 @@ use frame_header::{Header, Kind};
 use headers::Session;
 
 // An accepted frame, with the number of its tokens; or the number of the refusal and its bit place.
-#[derive(Drop)]
+#[derive(Clone, Copy)]
 pub enum Verdict {
     Accepted(usize),
     Refused(u32, usize),
 }
 
 // A frame call's answer: beside a refusal the header is that of a repeat, and says nothing. The session is that for the next call.
-#[derive(Drop)]
+#[derive(Clone, Copy)]
 pub struct FrameAnswer {
     pub verdict: Verdict,
     pub header: Header,

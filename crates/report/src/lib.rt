@@ -6,14 +6,14 @@ ghost use Rattle.report.specs.Running.{sum_of, Runs, sum_number, report_after};
 ghost use Rattle.report.specs.Answer.{number_of};
 
 // The recording was counted; or the number of the call's refusal, with place 0.
-#[derive(Drop)]
+#[derive(Clone, Copy)]
 pub enum CensusAnswer {
     Counted,
     Refused(u32, usize),
 }
 
 // A report that is being added to. Once a sum has passed 64 bits its numbers say nothing.
-#[derive(Drop)]
+#[derive(Clone, Copy)]
 pub struct Running {
     pub numbers: [u64; 34],
     pub passed: bool,
@@ -33,7 +33,7 @@ pub fn begin(report: &[u64]) -> Running
 }
 
 // A sum, and whether it passes 64 bits.
-#[derive(Drop)]
+#[derive(Clone, Copy)]
 struct Sum {
     is: u64,
     past: bool,

@@ -13,7 +13,7 @@ use headers::Session;
 use output::Written;
 
 // A run of bytes of the buffer.
-#[derive(Drop)]
+#[derive(Clone, Copy)]
 struct Run {
     start: usize,
     end: usize,

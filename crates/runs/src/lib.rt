@@ -7,7 +7,7 @@ ghost use Rattle.runs.specs.Runs.{most, start, extra, run, next_bit, fresh, bit_
 use bitstream::{End, Field};
 
 // The two codes of run lengths.
-#[derive(Drop)]
+#[derive(Clone, Copy)]
 pub enum RunCode {
     Long,
     Short,

@@ -5,7 +5,7 @@ ghost use Rattle.settings.specs.Settings.{settings_fit, holds, line, first_lines
 
 use output::Written;
 
-#[derive(Drop)]
+#[derive(Clone, Copy)]
 pub struct Settings {
     pub tile: u64,
     pub shot_first: u64,
@@ -13,21 +13,21 @@ pub struct Settings {
     pub plane: u64,
 }
 
-#[derive(Drop)]
+#[derive(Clone, Copy)]
 pub enum Verdict {
     Accepted,
     Refused(u32, usize),
 }
 
 // A verdict, and the settings in use behind it.
-#[derive(Drop)]
+#[derive(Clone, Copy)]
 pub struct Loaded {
     pub verdict: Verdict,
     pub settings: Settings,
 }
 
 // What a text says, or the number of the refusal.
-#[derive(Drop)]
+#[derive(Clone, Copy)]
 enum Found {
     Is(Settings),
     Not(u32),

@@ -13,7 +13,7 @@ use bitstream::{End, Field};
 use quantization::{LoadedParameters, Parameters};
 
 // A setup that was read: the loop limits, the quantization parameters, and the nodes of the trees, 64 for each.
-#[derive(Drop)]
+#[derive(Clone, Copy)]
 pub struct LoadedSetup {
     pub limits: [u16; 64],
     pub parameters: LoadedParameters,
@@ -21,14 +21,14 @@ pub struct LoadedSetup {
 }
 
 // The place behind a header, and the setup that it says: all zero beside a refusal. (An enum may hold no array.)
-#[derive(Drop)]
+#[derive(Clone, Copy)]
 pub struct SetupRead {
     pub place: End,
     pub setup: LoadedSetup,
 }
 
 // The answer of the setup call: a refusal has its number and its bit place.
-#[derive(Drop)]
+#[derive(Clone, Copy)]
 pub enum SetupAnswer {
     Accepted,
     Refused(u32, usize),

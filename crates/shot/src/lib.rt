@@ -9,14 +9,14 @@ use calls::Room;
 use headers::Session;
 
 // The packets were played, each with its own answer; or the number of the call's refusal.
-#[derive(Drop)]
+#[derive(Clone, Copy)]
 pub enum ShotVerdict {
     Played,
     Refused(u32),
 }
 
 // What a shot call answers, and session and names for the next call.
-#[derive(Drop)]
+#[derive(Clone, Copy)]
 pub struct ShotAnswer {
     pub verdict: ShotVerdict,
     pub session: Session,

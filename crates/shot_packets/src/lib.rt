@@ -19,7 +19,7 @@ use reading::FrameAnswer;
 use setup::LoadedSetup;
 
 // What one packet answers, the names after it, and the matrices that are kept.
-#[derive(Drop)]
+#[derive(Clone, Copy)]
 pub struct Played {
     pub answer: FrameAnswer,
     pub names: Names,
@@ -93,7 +93,7 @@ pub fn play_packet(
 }
 
 // The session and the names after some packets.
-#[derive(Drop)]
+#[derive(Clone, Copy)]
 pub struct Ended {
     pub session: Session,
     pub names: Names,

@@ -12,7 +12,7 @@ use headers::Session;
 use output::Written;
 
 // The place that was reached in the file, and whether a difference was found there. The place never goes behind the file's end.
-#[derive(Drop)]
+#[derive(Clone, Copy)]
 pub struct Compared {
     pub place: usize,
     pub differs: bool,

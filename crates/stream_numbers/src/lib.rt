@@ -6,7 +6,7 @@ ghost use Rattle.stream_numbers.specs.Numbers.{aspect, numbers_of};
 use headers::Session;
 
 // What a stream's header says: W, H, F, A, and C as a pixel format's number.
-#[derive(Drop)]
+#[derive(Clone, Copy)]
 pub struct Numbers {
     pub width: u64,
     pub height: u64,

@@ -7,7 +7,7 @@ ghost use Rattle.table_choices.specs.Answer.{as_chosen, begins_group};
 use bitstream::Two;
 
 // The table choices for luma and chroma and the place behind them, or the refusal.
-#[derive(Drop)]
+#[derive(Clone, Copy)]
 pub enum Chosen {
     Tables(usize, usize, usize),
     Refused(u32, usize),

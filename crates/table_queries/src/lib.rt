@@ -7,7 +7,7 @@ use bitstream::End as Behind;
 use queries::NumberAnswer;
 
 // A quantization matrix stands in the slice that was lent; there is no such matrix; or the number of the refusal.
-#[derive(Drop)]
+#[derive(Clone, Copy)]
 pub enum MatrixAnswer {
     Is,
     Absent,

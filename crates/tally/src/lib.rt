@@ -18,7 +18,7 @@ use headers::Session;
 use reading::{FrameAnswer, Verdict};
 
 // A frame call's answer, and what is counted: nothing beside a refusal.
-#[derive(Drop)]
+#[derive(Clone, Copy)]
 pub struct Counted {
     pub answer: FrameAnswer,
     pub counts: Counts,

@@ -15,7 +15,7 @@ use setup::SetupAnswer;
 use work_memory::WorkLengths;
 
 // The published lengths of work memory, or number 8.
-#[derive(Drop)]
+#[derive(Clone, Copy)]
 pub enum WorkAnswer {
     Is(WorkLengths),
     Refused(u32),

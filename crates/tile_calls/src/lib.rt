@@ -7,7 +7,7 @@ use headers::Session;
 use settings::Settings;
 
 // How many bytes a map has, or the number of the refusal.
-#[derive(Drop)]
+#[derive(Clone, Copy)]
 pub enum MapLength {
     Is(u64),
     Refused(u32, usize),

@@ -7,7 +7,7 @@ ghost use Rattle.token.specs.Answer.{as_token, as_extra, packed, unpacked, token
 
 // What a token means, and the bit place behind it: an end-of-block run of so many blocks, a run of zeros, or zeros and then a value.
 // Or the number of the refusal and its place.
-#[derive(Drop)]
+#[derive(Clone, Copy)]
 pub enum Token {
     EndOfBlock(u16, usize),
     ZeroRun(u16, usize),
@@ -16,7 +16,7 @@ pub enum Token {
 }
 
 // The base and the number of extra bits of a token's sign, of its size and of its zeros.
-#[derive(Drop)]
+#[derive(Clone, Copy)]
 pub struct Extra(pub u8, pub u8, pub u8, pub u8, pub u8, pub u8);
 
 // A value for each token. Its row by the last seven hexadecimal digits: base and extra bits of the sign, of the size (two digits and one) and of the zeros;

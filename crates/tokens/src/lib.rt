@@ -15,7 +15,7 @@ use block_visits::Visit;
 use table_choices::Chosen;
 
 // The place behind all tokens and how many there are, or the refusal.
-#[derive(Drop)]
+#[derive(Clone, Copy)]
 pub enum Counted {
     Done(usize, usize),
     Refused(u32, usize),
@@ -47,7 +47,7 @@ fn keep_unfinished(positions: &[u8], blocks: &mut [u64]) -> usize
 }
 
 // The blocks of both lists stay as they are, but for the finished ones: how many luma blocks are left, and where the chroma blocks now end.
-#[derive(Drop)]
+#[derive(Clone, Copy)]
 struct Active(usize, usize);
 
 // Leaves the finished blocks out of two lists in one slice: luma's, the first `lumas`, and chroma's, from `luma` to `end`.

@@ -20,7 +20,7 @@ use motion::Motion;
 use motion_reader::MovedRead;
 
 // The vectors that are kept behind a macro block, and the place.
-#[derive(Drop)]
+#[derive(Clone, Copy)]
 enum Step {
     Next(Vector, Vector, usize),
     Refused(u32, usize),

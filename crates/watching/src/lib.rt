@@ -10,7 +10,7 @@ use reading::Verdict;
 use stream_check::Compared;
 
 // How far the file was compared, and the first refusal among the packets, if there is one.
-#[derive(Drop)]
+#[derive(Clone, Copy)]
 pub struct Watched {
     pub compared: Compared,
     pub refused: bool,

@@ -8,7 +8,7 @@ use headers::Session;
 pub use memory_clearing::{clear_kept, clear_read, clear_scratch};
 
 // The lengths of work memory's slices, in elements, and the bytes of all of them together.
-#[derive(Drop)]
+#[derive(Clone, Copy)]
 pub struct WorkLengths {
     pub records: u64,
     pub coded: u64,

@@ -12,13 +12,13 @@ use output::Written;
 use stream_numbers::Numbers;
 
 // What a reader found: the header's numbers, and how many frames.
-#[derive(Drop)]
+#[derive(Clone, Copy)]
 pub struct Film {
     pub numbers: Numbers,
     pub frames: u64,
 }
 
-#[derive(Drop)]
+#[derive(Clone, Copy)]
 pub enum FilmAnswer {
     Is(Film),
     Refused(u32, usize),
@@ -99,7 +99,7 @@ pub fn write_frame(s: Session, planes: &[u8], out: &mut [u8]) -> Written
 }
 
 // Where the frames of a stream begin, the bytes of one's planes, and how many there are.
-#[derive(Drop)]
+#[derive(Clone, Copy)]
 enum Looked {
     Frames(usize, usize, usize),
     Other,
