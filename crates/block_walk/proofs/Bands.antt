@@ -1,7 +1,7 @@
 -- What a band says of its blocks. Assumes nothing.
 use mathlib.Core.Path.{◌≡◌, refl, sym, ap, ◌∙◌, subst}
 use Prim.Native.Nat.{ℕ, suc, ◌+◌, ◌-◌, ◌*◌, ◌/◌, ◌≤◌, ◌<◌}
-use native.Mathlib.Nat.{suc-mul, mul_le_mul_right, lt_of_mul-lt-mul_right}
+use native.Mathlib.Nat.{suc-mul, mul-le-mul_right, lt_of_mul-lt-mul_right}
 use native.Mathlib.Omega.{arith}
 use Rattle.geometry.specs.declared.PixelFormat.{PixelFormat}
 use Rattle.geometry.specs.declared.Plane.{Plane}
@@ -75,7 +75,7 @@ module _ (f : PixelFormat) (w h : ℕ) where
             in_frame.column,
             before_next f w h b.plane,
             suc-mul b.y (across f w b.plane),
-            mul_le_mul_right (across f w b.plane) in_frame.row,
+            mul-le-mul_right (across f w b.plane) in_frame.row,
           )
 
       pub from_row : (end : ℕ) → end ≤ (q.offset + q.length) / 64 → end ≤ n - b.x + 4 * q.across → n < end

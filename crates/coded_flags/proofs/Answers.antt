@@ -4,7 +4,7 @@ use native.Mathlib.Omega.{arith}
 use mathlib.Core.Path.{◌≡◌, refl, sym, ap, ◌∙◌}
 use mathlib.Core.List.{List, ◌++◌}
 use lib.ListN.{length, take, drop, length-drop}
-use lib.Seq.{take_at, drop_at, length_take_le}
+use lib.Seq.{take_at, drop_at, length-take-le}
 use Rattle.bitstream.specs.Reading.{Outcome, got, refused, pure, bind}
 use Rattle.bitstream.proofs.Laws.{bind_got}
 use Rattle.runs.proofs.Strings.{string_length}
@@ -36,10 +36,10 @@ module _ (n : ℕ) (p : List ℕ) (i : ℕ) where
 -- a part in the middle of a list: what is before it stays, and it stands there
 module _ (n left : ℕ) (s q more : List ℕ) (h : n ≤ length s) (e : length q ≡ left) where
   pub half_first : take n (take n s ++ (q ++ more)) ≡ take n s
-  half_first = take_at (take n s) (q ++ more) n (length_take_le n s h)
+  half_first = take_at (take n s) (q ++ more) n (length-take-le n s h)
 
   pub half_second : take left (drop n (take n s ++ (q ++ more))) ≡ q
-  half_second = ap (take left) (drop_at (take n s) (q ++ more) n (length_take_le n s h)) ∙ take_at q more left e
+  half_second = ap (take left) (drop_at (take n s) (q ++ more) n (length-take-le n s h)) ∙ take_at q more left e
 
 -- what a return has to show
 module _ (out : List ℕ) (n : ℕ) (o : Outcome SuperFlags) where
@@ -92,12 +92,12 @@ supers_length n p i {s} {e} g =
 
 -- ---- the halves of a slice s, and the first m of a string with something behind it
 pub half_length : (s : List ℕ) → length (take (length s / 2) s) ≡ length s / 2
-half_length s = length_take_le (length s / 2) s (omega arith)
+half_length s = length-take-le (length s / 2) s (omega arith)
 
 pub middle_length : (n left : ℕ) (s : List ℕ) → n + left ≤ length s → length (take (n + left - n) (drop n s)) ≡ left
 middle_length n left s h =
     let z : n + left - n ≡ left = omega arith in
-    length_take_le (n + left - n) (drop n s) (omega (arith, length-drop n s)) ∙ z
+    length-take-le (n + left - n) (drop n s) (omega (arith, length-drop n s)) ∙ z
 
 -- the halves, where there are S super blocks
 module _ (S left : ℕ) (s : List ℕ) (e : length s ≡ 2 * S) (el : left ≡ rest (take S s)) where
@@ -105,7 +105,7 @@ module _ (S left : ℕ) (s : List ℕ) (e : length s ≡ 2 * S) (el : left ≡ r
   halves = omega arith
 
   first_long : length (take S s) ≡ S
-  first_long = length_take_le S s (omega arith)
+  first_long = length-take-le S s (omega arith)
 
   pub left_small : left ≤ S
   left_small = omega (arith, first_long)

@@ -7,7 +7,7 @@ use mathlib.Core.Path.{◌≡◌, refl, sym, ap, ◌∙◌}
 use mathlib.Core.List.{List, [], ◌∷◌, ◌++◌, append-nil, append_assoc}
 use mathlib.Core.Bool.{Bool, true, false}
 use lib.Dec.{eqb}
-use lib.ListN.{length, get_or, take, drop, replicate, length_append, length-drop, length-replicate, drop_of_length-le}
+use lib.ListN.{length, get_or, take, drop, replicate, length-append, length-drop, length-replicate, drop_of_length-le}
 use lib.Seq.{drop-length, drop-drop, get_or-drop, take_at, take_all, length-take-le}
 use borrow.Author.Tests.{eq-eqb, ne_eqb, eqb-true}
 use Rattle.bitstream.specs.Reading.{choose}
@@ -64,7 +64,7 @@ module _ (f : PixelFormat) (w h : ℕ) where
 
   pub first_next : (k : ℕ) → first_of (k + 1) ≡ first_of k + length (super_block_of f w h k)
   unfolding in_turn
-  first_next k = rw add-one (length_append (in_turn (super_block_of f w h) k) (super_block_of f w h k))
+  first_next k = rw add-one (length-append (in_turn (super_block_of f w h) k) (super_block_of f w h k))
 
   pub first_all : first_of (super_blocks_of f w h) ≡ blocks_of f w h
   first_all = sym (ap length (frame_flat f w h)) ∙ frame_length f w h
@@ -167,7 +167,7 @@ module _ (f : PixelFormat) (w h : ℕ) (partly full bits : List ℕ) (ep : lengt
           let a = first_of f w h k in
           let p = take a flags ++ block_flags b c full bits t in
           let long : length p ≡ first_of f w h (k + 1) =
-          length_append (take a flags) (block_flags b c full bits t) ∙ (λ i. length-take-le a flags (omega arith) i + flags_length i) ∙ sym (first_next f w h k) in
+          length-append (take a flags) (block_flags b c full bits t) ∙ (λ i. length-take-le a flags (omega arith) i + flags_length i) ∙ sym (first_next f w h k) in
           let front : take (first_of f w h (k + 1)) new ≡ p = ap (take (first_of f w h (k + 1))) e ∙ take_at p (drop (a + c) flags) (first_of f w h (k + 1)) long in
           let u = taken_next b c t in
           record {

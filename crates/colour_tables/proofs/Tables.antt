@@ -8,7 +8,7 @@ use mathlib.Core.Bool.{Bool, true, false, ◌&&◌}
 use mathlib.Core.List.{List, [], ◌∷◌, ◌++◌}
 use lib.Dec.{T, leb, leb→le}
 use lib.IntN.{ℤ, pos, nat_abs}
-use lib.ListN.{length, get_or, length_append, get_or_append}
+use lib.ListN.{length, get_or, length-append, get_or-append}
 use lib.Seq.{get_or-append-add}
 use Rattle.numeric.specs.Divide.{round_over}
 use Rattle.colour_tables.specs.Rule.{Rule, luma, red_cr, green_cb, green_cr, blue_cb, ruled, entry, entries_from, table, contributions}
@@ -29,7 +29,7 @@ entries_at r v (suc n) (suc i) h = let e : suc v + i ≡ v + suc i = omega arith
 -- an entry of the first table, and one behind it
 first : (r : Rule) (l : List ℤ) (v : ℕ) → v < 256 → get_or (table r ++ l) v (pos 0) ≡ entry r v
 first r l v h =
-    get_or_append (table r) l (pos 0) v (subst (λ (n : ℕ). v < n) (sym (entries_length r 0 256)) h)
+    get_or-append (table r) l (pos 0) v (subst (λ (n : ℕ). v < n) (sym (entries_length r 0 256)) h)
     ∙ entries_at r 0 256 v h ∙ ap (entry r) (zero-add v)
 
 behind : (r : Rule) (l : List ℤ) (m n : ℕ) → m ≡ 256 + n → get_or (table r ++ l) m (pos 0) ≡ get_or l n (pos 0)
@@ -43,10 +43,10 @@ tables_length =
     let d = entries_length in
     omega (
       arith,
-      length_append (table luma) (table red_cr ++ (table green_cb ++ (table green_cr ++ table blue_cb))),
-      length_append (table red_cr) (table green_cb ++ (table green_cr ++ table blue_cb)),
-      length_append (table green_cb) (table green_cr ++ table blue_cb),
-      length_append (table green_cr) (table blue_cb),
+      length-append (table luma) (table red_cr ++ (table green_cb ++ (table green_cr ++ table blue_cb))),
+      length-append (table red_cr) (table green_cb ++ (table green_cr ++ table blue_cb)),
+      length-append (table green_cb) (table green_cr ++ table blue_cb),
+      length-append (table green_cr) (table blue_cb),
       d luma 0 256,
       d red_cr 0 256,
       d green_cb 0 256,

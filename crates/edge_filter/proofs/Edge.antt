@@ -7,7 +7,7 @@ use native.Mathlib.Nat.{mul-le-mul_right}
 use native.Mathlib.Omega.{arith}
 use native.Mathlib.Decide.{ℕ_discrete}
 use lib.ListN.{length, get_or, set, length-set}
-use lib.Seq.{get_or-set_same, get_or_set_other, set_comm}
+use lib.Seq.{get_or-set_same, get_or-set_other, set_comm}
 use Rattle.ways.specs.Loops.{up_to}
 use Rattle.ways.specs.Ways.{across_edge, edge}
 use Rattle.ways.specs.Corner.{row_at}
@@ -139,24 +139,24 @@ module _ (P : ℕ → ℕ → Type 0) (t : List ℕ) (i v : ℕ) (l : i < length
     where
       go : Dec (j ≡ i) → P j (get_or (set t i v) j 0)
       go (yes e) = rw (e, get_or-set_same t i v 0 l) p
-      go (no n) = rw (get_or_set_other t i j v 0 n) (h j (omega arith))
+      go (no n) = rw (get_or-set_other t i j v 0 n) (h j (omega arith))
 
 module _ (q : ℕ → ℕ × ℕ) (t : List ℕ) (i a b : ℕ) (size : length t ≡ 16) (below : i < 8) (e₁ : a ≡ (q i).0) (e₂ : b ≡ (q i).1)
     (h : (j : ℕ) → j < i → (get_or t j 0 ≡ (q j).0) × (get_or t (8 + j) 0 ≡ (q j).1)) where
   pub sides_more : (j : ℕ) → j < i + 1 → (get_or (set (set t i a) (8 + i) b) j 0 ≡ (q j).0) × (get_or (set (set t i a) (8 + i) b) (8 + j) 0 ≡ (q j).1)
-  sides_more j k = (get_or_set_other (set t i a) (8 + i) j b 0 (λ e. omega arith) ∙ first (ℕ_discrete j i), second (ℕ_discrete j i))
+  sides_more j k = (get_or-set_other (set t i a) (8 + i) j b 0 (λ e. omega arith) ∙ first (ℕ_discrete j i), second (ℕ_discrete j i))
     where
       first : Dec (j ≡ i) → get_or (set t i a) j 0 ≡ (q j).0
       first (yes e) = ap (λ (m : ℕ). get_or (set t i a) m 0) e ∙ get_or-set_same t i a 0 (omega arith) ∙ e₁ ∙ ap (λ (m : ℕ). (q m).0) (sym e)
-      first (no n) = get_or_set_other t i j a 0 n ∙ (h j (omega arith)).0
+      first (no n) = get_or-set_other t i j a 0 n ∙ (h j (omega arith)).0
 
       second : Dec (j ≡ i) → get_or (set (set t i a) (8 + i) b) (8 + j) 0 ≡ (q j).1
       second (yes e) =
           ap (λ (m : ℕ). get_or (set (set t i a) (8 + i) b) (8 + m) 0) e
           ∙ get_or-set_same (set t i a) (8 + i) b 0 (simp length-set (omega arith)) ∙ e₂ ∙ ap (λ (m : ℕ). (q m).1) (sym e)
       second (no n) =
-          get_or_set_other (set t i a) (8 + i) (8 + j) b 0 (λ e. n (omega arith))
-          ∙ get_or_set_other t i (8 + j) a 0 (λ e. omega arith) ∙ (h j (omega arith)).1
+          get_or-set_other (set t i a) (8 + i) (8 + j) b 0 (λ e. n (omega arith))
+          ∙ get_or-set_other t i (8 + j) a 0 (λ e. omega arith) ∙ (h j (omega arith)).1
 
 -- two numbers below 256 as one
 pub pair_of : (q : ℕ × ℕ) (a b : ℕ) → a < 256 → a ≡ q.0 → b ≡ q.1 → Pair q (a + 256 * b)

@@ -3,7 +3,7 @@ use Prim.Native.Nat.{ℕ, zero, suc, ◌+◌, ◌*◌}
 use mathlib.Core.Path.{◌≡◌, refl, ◌∙◌}
 use mathlib.Core.Bool.{Bool, true, false}
 use mathlib.Core.List.{List, [], ◌∷◌}
-use lib.ListN.{length, get_or, set, length_set}
+use lib.ListN.{length, get_or, set, length-set}
 use Rattle.geometry.specs.declared.PixelFormat.{PixelFormat}
 use Rattle.geometry.specs.declared.Block.{Block}
 use Rattle.geometry.specs.Sizes.{blocks_of}
@@ -35,7 +35,7 @@ module _ (filtered : ℕ → ℕ → ℕ → ℕ → ℕ × ℕ) where
   unfolding across_edge
   across_keeps at step s =
       let q = filtered (get_or s at 0) (get_or s (at + step) 0) (get_or s (at + step * 2) 0) (get_or s (at + step * 3) 0) in
-      length_set (set s (at + step) q.0) (at + step * 2) q.1 ∙ length_set s (at + step) q.0
+      length-set (set s (at + step) q.0) (at + step * 2) q.1 ∙ length-set s (at + step) q.0
 
   edge_keeps : (at along step : ℕ) → Keeps (edge filtered at along step)
   unfolding edge

@@ -2,7 +2,7 @@
 use Prim.Native.Nat.{ℕ}
 use mathlib.Core.Path.{◌≡◌, refl, sym, ap, ◌∙◌}
 use mathlib.Core.List.{List, [], ◌∷◌}
-use lib.ListN.{length, get_or, set, length_set}
+use lib.ListN.{length, get_or, set, length-set}
 use borrow.Author.Tests.{eq-eqb}
 use Rattle.bitstream.specs.Reading.{Outcome, got, refused}
 use Rattle.headers.specs.declared.Session.{Session}
@@ -35,7 +35,7 @@ module _ (l : List ℕ) (h : length l ≡ 19) where
   returned_length : (x : Header) (s : Session) (v : Verdict) → length (verdict_returned l x s v).lent ≡ 19
   returned_length x s (Accepted t) =
       let a = set l 16 (reference_number x.kind (get_or l 16 0)) in
-      length_set (set a 17 s.key_frames) 18 s.others ∙ length_set a 17 s.key_frames ∙ length_set l 16 (reference_number x.kind (get_or l 16 0)) ∙ h
+      length-set (set a 17 s.key_frames) 18 s.others ∙ length-set a 17 s.key_frames ∙ length-set l 16 (reference_number x.kind (get_or l 16 0)) ∙ h
   returned_length x s (Refused k e) = h
 
 module _ (l golden previous : List ℕ) (h : length l ≡ 19) (c : FaceCall) (k : length c.answer ≡ 8) where

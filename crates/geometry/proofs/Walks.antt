@@ -4,7 +4,7 @@ use mathlib.Core.Bool.{Bool, true}
 use mathlib.Core.List.{List}
 use Prim.Native.Nat.{ℕ, suc, ◌*◌, ◌≤◌, ◌<◌}
 use native.Mathlib.Omega.{arith}
-use borrow.Author.Tests.{ltb-true, eqb_true}
+use borrow.Author.Tests.{ltb-true, eqb-true}
 use lib.Dec.{ltb, eqb}
 use lib.ListN.{length, get_or}
 use Rattle.geometry.specs.declared.Place.{Place}
@@ -20,8 +20,8 @@ same p q = both (eqb p.x q.x) (eqb p.y q.y)
 pub same_is : {p q : Place} → same p q ≡ true → p ≡ q
 unfolding same
 same_is {p} {q} t =
-    let a = eqb_true p.x q.x (both_left _ _ t) in
-    let b = eqb_true p.y q.y (both_right _ _ t) in
+    let a = eqb-true p.x q.x (both_left _ _ t) in
+    let b = eqb-true p.y q.y (both_right _ _ t) in
     λ i. record { x = a i; y = b i }
 
 -- the tests in a corner of u by v, whose places are l
@@ -49,7 +49,7 @@ module _ (s : ℕ) (walk : List Place) (t : test_all s walk ≡ true) where
   checked hs st = record {
     side = hs;
     stays = st;
-    all = λ u v hu hv. eqb_true (length (present u v walk)) (u * v) (both_left _ _ (corner u v hu hv));
+    all = λ u v hu hv. eqb-true (length (present u v walk)) (u * v) (both_left _ _ (corner u v hu hv));
     there = λ u v x y hu hv hx hy.
         let e = upto_at _ _ (upto_at _ _ (both_left _ _ (both_right _ _ (corner u v hu hv))) x hx) y hy in
         (ltb-true (find x y (present u v walk)) (u * v) (both_left _ _ e), same_is (both_right _ _ e));
@@ -58,7 +58,7 @@ module _ (s : ℕ) (walk : List Place) (t : test_all s walk ≡ true) where
         let p = get_or (present u v walk) i (at 0 0) in (
           ltb-true p.x u (both_left _ _ e),
           ltb-true p.y v (both_left _ _ (both_right _ _ e)),
-          eqb_true (find p.x p.y (present u v walk)) i (both_right _ _ (both_right _ _ e)),
+          eqb-true (find p.x p.y (present u v walk)) i (both_right _ _ (both_right _ _ e)),
         );
   }
 

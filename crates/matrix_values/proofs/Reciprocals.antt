@@ -1,7 +1,7 @@
 -- Weights in place of a division: a product with the reciprocal has the same quotient. Assumes nothing.
 use Prim.Native.Nat.{ℕ, ◌+◌, ◌-◌, ◌*◌, ◌/◌, ◌≤◌, ◌<◌}
 use native.Mathlib.Omega.{arith}
-use native.Mathlib.Nat.{mul-le-mul, mul-le-mul_left, mul-le-mul_right, lt_of_mul-lt-mul_left, div-mul-le_self, mul-div-le, le-div_iff_mul-le, lt-mul-div-succ, div_eq_of_lt_le, div-le_of_le-mul, div-div-eq-div-mul, mul-div-mul_left}
+use native.Mathlib.Nat.{mul-le-mul, mul-le-mul_left, mul-le-mul_right, lt_of_mul-lt-mul_left, div-mul-le_self, mul-div-le, le-div_iff_mul-le, lt-mul-div-succ, div-eq_of_lt-le, div-le_of_le-mul, div-div-eq-div-mul, mul-div-mul_left}
 use mathlib.Core.Path.{◌≡◌, sym, ap, ap₂, ◌∙◌}
 use Rattle.quant_ranges.specs.Ranges.{InRange}
 use Rattle.matrix_values.specs.Values.{interpolated}
@@ -16,7 +16,7 @@ quotient n d x m q over near low high small =
     let b : q * d * m ≤ x * m = mul-le-mul_right m low in
     let e : x * (d * m) ≤ x * (n + d) = mul-le-mul_left x near in
     let f : (x + 1) * n ≤ d * (q + 1) * n = mul-le-mul_right n (omega arith) in
-    div_eq_of_lt_le {k = q} n {m = x * m} (omega (arith, a, b)) (lt_of_mul-lt-mul_left d {m = x * m} {n = (q + 1) * n} (omega (arith, e, f, small)))
+    div-eq_of_lt-le {k = q} n {m = x * m} (omega (arith, a, b)) (lt_of_mul-lt-mul_left d {m = x * m} {n = (q + 1) * n} (omega (arith, e, f, small)))
 
 pub reciprocal : (n d x : ℕ) → 0 < d → x * d < n → x * (n / d + 1) / n ≡ x / d
 reciprocal n d x some small =

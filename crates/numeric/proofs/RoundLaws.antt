@@ -3,7 +3,7 @@
 use mathlib.Core.Path.{◌≡◌, refl, sym, ap, ◌∙◌, subst}
 use mathlib.Core.Bool.{true, false}
 use Prim.Native.Nat.{ℕ, zero, suc, ◌+◌, ◌*◌, ◌/◌, ◌≤◌, ◌<◌}
-use native.Mathlib.Nat.{le_of_eq, le_trans, zero-div, suc-mul, mul_assoc, div-lt_iff_lt-mul, div-mul-le_self, le_of_suc_le_suc}
+use native.Mathlib.Nat.{le_of_eq, le_trans, zero-div, suc-mul, mul_assoc, div-lt_iff_lt-mul, div-mul-le_self, le_of_suc-le-suc}
 use native.Mathlib.Omega.{arith}
 use borrow.Author.Tests.{ltb-true}
 use lib.Dec.{T, ltb, leb, ltb→lt, leb→le}
@@ -56,7 +56,7 @@ round_even h r z e =
 nearest_le : (d b n : ℕ) → 0 < d → n ≤ b * d → nearest d n ≤ b
 nearest_le d b n p h =
     let e : suc b * (d * 2) ≡ b * d * 2 + d * 2 = suc-mul b (d * 2) ∙ ap (λ (m : ℕ). m + d * 2) (sym (mul_assoc b d 2)) in
-    le_of_suc_le_suc ((div-lt_iff_lt-mul (omega arith)).1 (omega arith))
+    le_of_suc-le-suc ((div-lt_iff_lt-mul (omega arith)).1 (omega arith))
 
 -- with a bound b of the result: `size-round 4 31 h tt tt`
 pub size_round : {z : ℤ} {a : ℕ} (d b : ℕ) → Size z a → T (ltb 0 d) → T (leb a (b * d)) → Size (round_over d z) b

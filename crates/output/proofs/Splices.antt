@@ -6,7 +6,7 @@ use mathlib.Core.Path.{◌≡◌, refl, sym, ap, ◌∙◌, subst}
 use mathlib.Core.Bool.{Bool, true, false}
 use mathlib.Core.List.{List, [], ◌∷◌, ◌++◌, append-nil, append_assoc}
 use lib.Dec.{leb}
-use lib.ListN.{length, take, drop, set, length_append, length-drop, take-append-drop}
+use lib.ListN.{length, take, drop, set, length-append, length-drop, take-append-drop}
 use lib.Seq.{length-take-le, take_at, drop_at, drop-drop, take-append-add, drop-append-add, take-append-le, take-take, set_split}
 use borrow.Author.Tests.{le-leb, lt-leb}
 use borrow.Rule.Slice.PartMut.{put_mid, Post-is}
@@ -18,8 +18,8 @@ use Rattle.output.specs.declared.Written.TheVariants.{Bytes, Refused}
 pub spliced_length : (at : ℕ) (t l : List ℕ) → at + length t ≤ length l → length (spliced at t l) ≡ length l
 unfolding spliced
 spliced_length at t l h =
-    length_append (take at l) (t ++ drop (at + length t) l)
-    ∙ omega (arith, h, length-take-le at l (omega arith), length_append t (drop (at + length t) l), length-drop (at + length t) l)
+    length-append (take at l) (t ++ drop (at + length t) l)
+    ∙ omega (arith, h, length-take-le at l (omega arith), length-append t (drop (at + length t) l), length-drop (at + length t) l)
 
 -- a part has the length that was asked for
 pub part_length : (l : List ℕ) (at n : ℕ) → at + n ≤ length l → length (part l at n) ≡ n
@@ -55,7 +55,7 @@ spliced_before at t u l h =
     let n : length mid ≡ at + length t = length-take-le (at + length t) l (omega arith) in
     let a = take-append-le at mid (u ++ tail) (omega (arith, n)) ∙ take-take at (at + length t) l (omega arith) in
     let b = drop_at mid (u ++ tail) (at + length t) n in
-    let k : at + length t + length u ≡ at + length (t ++ u) = omega (arith, length_append t u) in
+    let k : at + length t + length u ≡ at + length (t ++ u) = omega (arith, length-append t u) in
     (λ i. a i ++ (t ++ b i))
     ∙ ap (λ (x : List ℕ). take at l ++ x) (sym (append_assoc t u tail))
     ∙ ap (λ (m : ℕ). take at l ++ ((t ++ u) ++ drop m l)) k
@@ -74,7 +74,7 @@ pub spliced_then : (at : ℕ) (t u l : List ℕ) → at + length t + length u �
 spliced_then at t u l h =
     let a = spliced_take at t l (omega arith) in
     let b = spliced_drop at t l (length u) (omega arith) in
-    let n : at + length t + length u ≡ at + length (t ++ u) = omega (arith, length_append t u) in
+    let n : at + length t + length u ≡ at + length (t ++ u) = omega (arith, length-append t u) in
     open_up (at + length t) u (spliced at t l)
     ∙ (λ i. a i ++ (u ++ b i))
     ∙ append_assoc (take at l) t (u ++ drop (at + length t + length u) l)

@@ -5,7 +5,7 @@ use native.Mathlib.Nat.{sub-zero, zero-sub}
 use mathlib.Core.Path.{◌≡◌, refl, sym, ap, ◌∙◌}
 use mathlib.Core.List.{List, [], ◌∷◌, ◌++◌, append-nil, append_assoc}
 use native.Mathlib.Numerals.{add-one}
-use lib.ListN.{length, get_or, take, drop, set, replicate, get_or_append, length-append, length-drop, length-replicate, take-append-drop}
+use lib.ListN.{length, get_or, take, drop, set, replicate, get_or-append, length-append, length-drop, length-replicate, take-append-drop}
 use lib.Seq.{ext_get_or, get_or-take, get_or-drop, take_at, drop_at, drop-drop, length-take-le, paste, paste-suc}
 use borrow.Rule.Slice.PartMut.{mid_of, put_mid}
 use Rattle.quantization.specs.Layout.{over, padded, laid}
@@ -127,8 +127,8 @@ module _ (s₀ : List ℕ) (from to k : ℕ) (apart : from + 64 ≤ to) (room : 
   source : get_or (paste s₀ to (drop from s₀) k) (from + k) 0 ≡ get_or (drop from s₀) k 0
   source =
       let a : from + k < length (take to s₀) = omega (arith, length-take-le to s₀ (omega arith)) in
-      get_or_append (take to s₀ ++ take k (drop from s₀)) (drop (to + k) s₀) 0 (from + k) (omega (arith, length-append (take to s₀) (take k (drop from s₀))))
-      ∙ get_or_append (take to s₀) (take k (drop from s₀)) 0 (from + k) a
+      get_or-append (take to s₀ ++ take k (drop from s₀)) (drop (to + k) s₀) 0 (from + k) (omega (arith, length-append (take to s₀) (take k (drop from s₀))))
+      ∙ get_or-append (take to s₀) (take k (drop from s₀)) 0 (from + k) a
       ∙ get_or-take to s₀ (from + k) 0 (omega arith)
       ∙ sym (get_or-drop from s₀ k 0)
 

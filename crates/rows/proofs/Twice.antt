@@ -5,7 +5,7 @@ use native.Mathlib.Omega.{arith}
 use mathlib.Core.Path.{◌≡◌, refl, sym, ap, ◌∙◌, subst}
 use mathlib.Core.List.{List, ◌++◌}
 use mathlib.Core.Logic.{◌⊎◌, inl, inr}
-use lib.ListN.{length, take, drop, length_append, length-drop}
+use lib.ListN.{length, take, drop, length-append, length-drop}
 use lib.Seq.{take_all, drop_at, drop-append-le, take-append-le, take-add}
 use Rattle.geometry.specs.Order.{in_turn}
 use Rattle.geometry.proofs.Lists.{turn_same, turn_end}
@@ -38,7 +38,7 @@ module _ (row : ℕ) where
   unfolding in_turn
   in_turn_length f zero h = sym (zero-mul row)
   in_turn_length f (suc n) h =
-      length_append (in_turn f n) (f n) ∙ omega (arith, in_turn_length f n (λ i l. h i (omega arith)), h n (omega arith), suc-mul n row)
+      length-append (in_turn f n) (f n) ∙ omega (arith, in_turn_length f n (λ i l. h i (omega arith)), h n (omega arith), suc-mul n row)
 
   pub in_turn_part : (f : ℕ → List ℕ) (n : ℕ) → ((i : ℕ) → i < n → length (f i) ≡ row) → (j : ℕ) → j < n → part (in_turn f n) (j * row) row ≡ f j
   in_turn_part f n h j l =

@@ -6,7 +6,7 @@ use mathlib.Core.Bool.{Bool, true, false, not, ◌&&◌}
 use mathlib.Core.List.{List, [], ◌∷◌}
 use lib.Dec.{eqb}
 use lib.ListN.{length, get_or, set, length-set}
-use lib.Seq.{get_or-set_same, get_or_set_other}
+use lib.Seq.{get_or-set_same, get_or-set_other}
 use borrow.Author.Tests.{eqb-true, eq-eqb}
 use Rattle.bitstream.specs.Reading.{choose}
 use Rattle.headers.specs.declared.Fields.{Fields}
@@ -38,14 +38,14 @@ module _ (l : List ℕ) (h : length l ≡ 19) where
 
     other : (i : ℕ) → i < 16 → get_or stored i 0 ≡ get_or l i 0
     other i k =
-        get_or_set_other (set (set l 16 a) 17 b) 18 i c 0 (λ e. omega arith) ∙ get_or_set_other (set l 16 a) 17 i b 0 (λ e. omega arith)
-        ∙ get_or_set_other l 16 i a 0 (λ e. omega arith)
+        get_or-set_other (set (set l 16 a) 17 b) 18 i c 0 (λ e. omega arith) ∙ get_or-set_other (set l 16 a) 17 i b 0 (λ e. omega arith)
+        ∙ get_or-set_other l 16 i a 0 (λ e. omega arith)
 
     at_16 : get_or stored 16 0 ≡ a
-    at_16 = get_or_set_other (set (set l 16 a) 17 b) 18 16 c 0 (λ e. omega arith) ∙ get_or_set_other (set l 16 a) 17 16 b 0 (λ e. omega arith) ∙ get_or-set_same l 16 a 0 (omega arith)
+    at_16 = get_or-set_other (set (set l 16 a) 17 b) 18 16 c 0 (λ e. omega arith) ∙ get_or-set_other (set l 16 a) 17 16 b 0 (λ e. omega arith) ∙ get_or-set_same l 16 a 0 (omega arith)
 
     at_17 : get_or stored 17 0 ≡ b
-    at_17 = get_or_set_other (set (set l 16 a) 17 b) 18 17 c 0 (λ e. omega arith) ∙ get_or-set_same (set l 16 a) 17 b 0 (omega (arith, length-set l 16 a))
+    at_17 = get_or-set_other (set (set l 16 a) 17 b) 18 17 c 0 (λ e. omega arith) ∙ get_or-set_same (set l 16 a) 17 b 0 (omega (arith, length-set l 16 a))
 
     at_18 : get_or stored 18 0 ≡ c
     at_18 = get_or-set_same (set (set l 16 a) 17 b) 18 c 0 (omega (arith, length-set (set l 16 a) 17 b, length-set l 16 a))

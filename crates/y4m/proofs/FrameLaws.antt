@@ -4,7 +4,7 @@ use native.Mathlib.Omega.{arith}
 use native.Mathlib.Nat.{mul_assoc, mul_left_comm, le_of_eq, div-mul-le_self, le-div_iff_mul-le, div-lt_iff_lt-mul}
 use mathlib.Core.Path.{◌≡◌, refl, sym, ap, ◌∙◌}
 use mathlib.Core.List.{List, ◌++◌, append-nil}
-use lib.ListN.{length, take, drop, length_append, drop_of_length-le}
+use lib.ListN.{length, take, drop, length-append, drop_of_length-le}
 use lib.Seq.{take_all, take-add}
 use borrow.Rule.Slice.PartMut.{put_mid}
 use Rattle.geometry.specs.declared.PixelFormat.{PixelFormat}
@@ -64,7 +64,7 @@ module _ (f : PixelFormat) (w h : ℕ) (src : List ℕ) (long : length src ≡ 6
   unfolding in_turn
   planes_length zero l = omega (arith, before_luma f w h)
   planes_length (suc p) l =
-      length_append (in_turn (plane_rows f w h src) p) (plane_rows f w h src p)
+      length-append (in_turn (plane_rows f w h src) p) (plane_rows f w h src p)
       ∙ omega (arith, planes_length p (omega arith), plane_length p (omega arith), before_next f w h p)
 
   pub frame_length : length (frame_rows f w h src) ≡ 64 * blocks_of f w h
@@ -156,7 +156,7 @@ module _ (n : Numbers) where
 
   pub text_length : (planes : List ℕ) → length planes ≡ frame_bytes n → length (frame_text n planes) ≡ step n
   unfolding frame_text
-  text_length planes e = length_append frame_line (rows_of n planes) ∙ ap (λ (m : ℕ). 6 + m) (rows_length planes e)
+  text_length planes e = length-append frame_line (rows_of n planes) ∙ ap (λ (m : ℕ). 6 + m) (rows_length planes e)
 
   -- its line, and then its rows
   pub frame_written : (planes o o₁ last : List ℕ) (at begin end : ℕ) → length planes ≡ frame_bytes n → at + step n ≤ length o
@@ -238,7 +238,7 @@ module _ (n : Numbers) (frames : List ℕ) where
   -- "header + n·(6 + 64·NBS)"
   pub stream_length : (count : ℕ) → count * frame_bytes n ≤ length frames → length (stream_text n frames count) ≡ length (header_text n) + count * step n
   unfolding stream_text
-  stream_length count h = length_append (header_text n) (frames_text n frames count) ∙ ap (λ (m : ℕ). length (header_text n) + m) (frames_length n frames count h count (omega arith))
+  stream_length count h = length-append (header_text n) (frames_text n frames count) ∙ ap (λ (m : ℕ). length (header_text n) + m) (frames_length n frames count h count (omega arith))
 
   -- the header, and then the frames
   pub stream_written : (out o₁ o₂ head : List ℕ) (begin end count : ℕ) → count * frame_bytes n ≤ length frames → length (header_text n) + count * step n ≤ length out

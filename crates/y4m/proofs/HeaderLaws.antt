@@ -6,7 +6,7 @@ use mathlib.Core.Bool.{Bool, true, false}
 use mathlib.Core.List.{List, [], ◌∷◌, ◌++◌, append_assoc}
 use lib.Dec.{eqb}
 use borrow.Author.Tests.{eq-eqb, ne_eqb}
-use lib.ListN.{length, take, drop, get_or, length_append}
+use lib.ListN.{length, take, drop, get_or, length-append}
 use lib.Seq.{length-take-le, drop-drop, get_or-drop, take_at}
 use Rattle.bitstream.specs.Reading.{choose}
 use Rattle.output.specs.Output.{spliced}
@@ -20,7 +20,7 @@ use Rattle.y4m.specs.Film.{format_in, numbers_in, numbers_fit, is_header, header
 
 -- ---- two numbers, each behind some text
 pub two_length : (before between : List ℕ) (a b : ℕ) → length (two before a between b) ≡ length before + (length (decimal a) + (length between + length (decimal b)))
-two_length before between a b = simp length_append
+two_length before between a b = simp length-append
 
 module _ (before between : List ℕ) (a b at : ℕ) (o : List ℕ) (room : at + 33 ≤ length o) (hb : length before ≤ 11) (ht : length between ≤ 2) where
   pub two_written : (first second third r : ℕ) (o₁ o₂ o₃ o₄ : List ℕ)
@@ -32,8 +32,8 @@ module _ (before between : List ℕ) (a b at : ℕ) (o : List ℕ) (room : at + 
   two_written first second third r o₁ o₂ o₃ o₄ e₁ s₁ e₂ s₂ e₃ s₃ e₄ s₄ =
       let la = decimal_length a in
       let lb = decimal_length b in
-      let p₁ = length_append before (decimal a) in
-      let p₂ = length_append (before ++ decimal a) between in
+      let p₁ = length-append before (decimal a) in
+      let p₂ = length-append (before ++ decimal a) between in
       let t₂ = s₂ ∙ spliced_next at first before (decimal a) o o₁ s₁ e₁ (omega arith) in
       let t₃ = s₃ ∙ spliced_next at second (before ++ decimal a) between o o₂ t₂ (omega arith) (omega arith) in
       let t₄ = s₄ ∙ spliced_next at third ((before ++ decimal a) ++ between) (decimal b) o o₃ t₃ (omega arith) (omega arith) in
@@ -79,8 +79,8 @@ aspect_length n = omega (arith, two_length (32 ∷ 73 ∷ 112 ∷ 32 ∷ 65 ∷ 
 pub header_length : (n : Numbers) → length (header_text n) ≡ length (size_text n) + (length (rate_text n) + (length (aspect_text n) + length (format_text n.pf)))
 unfolding header_text
 header_length n =
-    length_append (size_text n) (rate_text n ++ (aspect_text n ++ format_text n.pf))
-    ∙ omega (arith, length_append (rate_text n) (aspect_text n ++ format_text n.pf), length_append (aspect_text n) (format_text n.pf))
+    length-append (size_text n) (rate_text n ++ (aspect_text n ++ format_text n.pf))
+    ∙ omega (arith, length-append (rate_text n) (aspect_text n ++ format_text n.pf), length-append (aspect_text n) (format_text n.pf))
 
 pub header_short : (n : Numbers) → (6 ≤ length (header_text n)) × (length (header_text n) ≤ 109)
 header_short n =
@@ -109,8 +109,8 @@ module _ (n : Numbers) (o : List ℕ) (room : 110 ≤ length o) where
       let lb = rate_length n in
       let lc = aspect_length n in
       let ld = format_length n.pf in
-      let p₁ = length_append A B in
-      let p₂ = length_append (A ++ B) C in
+      let p₁ = length-append A B in
+      let p₂ = length-append (A ++ B) C in
       let t₂ = s₂ ∙ spliced_next 0 rate A B o o₁ s₁ e₁ (omega arith) in
       let t₃ = s₃ ∙ spliced_next 0 ratio (A ++ B) C o o₂ t₂ (omega arith) (omega arith) in
       let t₄ = s₄ ∙ spliced_next 0 format ((A ++ B) ++ C) D o o₃ t₃ (omega arith) (omega arith) in

@@ -1,0 +1,16 @@
+-- `buffer::clear_shorts` meets its contract. The loop's invariant: the first i are 0. Assumes nothing.
+use mathlib.Core.Path.{◌≡◌, refl, ap, ◌∙◌}
+use mathlib.Core.List.{List}
+use Prim.Native.Nat.{ℕ, ◌-◌, ◌≤◌}
+use native.Mathlib.Omega.{arith}
+use borrow.Author.Rules.{rules}
+use lib.ListN.{length, set, length-set}
+use lib.IntN.{ℤ, pos}
+use Rattle.buffer.proofs.Laws.{cleared, cleared_more}
+use Rattle.buffer.proofs.clear_shorts.Given as goal
+
+abbrev pub invariant-loop-i : goal.invariant-loop-i
+invariant-loop-i l = (l.i ≤ l.count) × (length l.slice ≡ length l.initial.slice) × (l.slice ≡ cleared (pos 0) l.i l.initial.slice)
+
+abbrev pub decreases-loop-i : goal.decreases-loop-i
+decreases-loop-i l = l.count - l.i
