@@ -1,0 +1,12 @@
+-- `lines::transform_line` meets its contract. Assumes nothing.
+use borrow.Author.Rules.{rules}
+use mathlib.Core.Path.{ap, ◌∙◌}
+use Rattle.lines.specs.Line.{transformed_line}
+use Rattle.lines.specs.Places.{put_line, transform_line}
+use Rattle.lines.proofs.transform_line.Goals as goal
+
+pub returns : goal.returns
+unfolding transform_line
+returns c = c.put_line.ensures
+    ∙ ap (put_line c.before.before.before.before.before.before.args.s.now c.before.before.before.before.before.before.args.at c.before.before.before.before.before.before.args.step)
+    (c.transformed_line-l.ensures ∙ ap transformed_line c.before.before.before.before.line_at_lem.ensures)

@@ -1,0 +1,10 @@
+-- `token::all_values` meets its contract: the code's table is the definition's. Assumes nothing.
+use mathlib.Core.Path.{refl}
+use Rattle.bitstream.specs.Lists.{tabulated}
+use Rattle.token.specs.Token.{row_of}
+use Rattle.token.specs.Answer.{token_values}
+use Rattle.token.proofs.all_values.Goals as goal
+
+pub returns : goal.returns
+unfolding row_of tabulated token_values
+returns c = refl

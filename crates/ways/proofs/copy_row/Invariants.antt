@@ -1,0 +1,18 @@
+-- `ways::copy_row` meets its contract. The loop's invariant: c of the 8 samples are copied.
+-- Assumes nothing.
+use mathlib.Core.Path.{◌≡◌, refl, sym, ap, ◌∙◌}
+use mathlib.Core.List.{List}
+use Prim.Native.Nat.{ℕ, ◌+◌, ◌-◌, ◌≤◌}
+use native.Mathlib.Omega.{arith}
+use lib.ListN.{length, get_or, set, length-set}
+use Rattle.ways.specs.Loops.{up_to}
+use Rattle.ways.specs.Corner.{row_at}
+use Rattle.ways.proofs.Steps.{up_to_more}
+use borrow.Author.Rules.{rules}
+use Rattle.ways.proofs.copy_row.Given as goal
+
+abbrev pub invariant-loop-c : goal.invariant-loop-c
+invariant-loop-c l = (l.c ≤ 8) × (length l.new ≡ length l.initial.new) × (l.new ≡ up_to l.c (put l.t l.k l.at) l.initial.new)
+
+abbrev pub decreases-loop-c : goal.decreases-loop-c
+decreases-loop-c l = 8 - l.c
