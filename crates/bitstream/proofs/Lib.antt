@@ -12,3 +12,4 @@ pub mod Examples
 pub mod Lists
 pub mod ListLaws
 pub mod Table
+pub mod Clauses

@@ -14,7 +14,7 @@ loop-k-init c = (omega arith, refl, refl)
 pub loop-k-preserved : goal.loop-k-preserved
 loop-k-preserved c = (
       omega (arith, c.loop-k-test.true),
-      c.put_part-in-loop-k-2.auto.1.0 ∙ c.put_part-in-loop-k.auto.1.0 ∙ c.put_part.auto.1.0 ∙ c.loop-k.invariant.1,
+      c.put_part-in-loop-k-2.auto.rows ∙ c.put_part-in-loop-k.auto.rows ∙ c.put_part.auto.rows ∙ c.loop-k.invariant.1,
       row_more c.loop-k.rows _ _ _ c.loop-k.k _ c.part_of-c.ensures c.loop-k.invariant.2 c.put_part.ensures c.put_part-in-loop-k.ensures c.put_part-in-loop-k-2.ensures,
     )
 

@@ -27,7 +27,7 @@ returns-then-e-ltminus128 c =
     let a : Known w32 c.args.a 86016 =
         k_of c.ranges.a (size c.requires) in
     let b : Known w32 c.args.b 32768 =
-        k_wide c.fits.b in
+        k_wide c.ranges.b in
     let e : Known w32 (c.args.a -ℤ c.args.b) 118784 =
         k_sub a b tt in
     low (c.args.a -ℤ c.args.b) (test_lt (e) (k_neg 127 tt) c.if-e-ltminus128.true)
@@ -38,7 +38,7 @@ returns c =
     let a : Known w32 c.args.a 86016 =
         k_of c.ranges.a (size c.requires) in
     let b : Known w32 c.args.b 32768 =
-        k_wide c.fits.b in
+        k_wide c.ranges.b in
     let e : Known w32 (c.args.a -ℤ c.args.b) 118784 =
         k_sub a b tt in
     sym (test_lt (k_lit 128 tt) (e) refl) ∙ high (c.args.a -ℤ c.args.b) (test_lt (e) (k_neg 127 tt) c.if-e-ltminus128.false)

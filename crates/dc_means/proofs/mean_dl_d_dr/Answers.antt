@@ -12,11 +12,11 @@ overflow_add-result-2 c =
     let dl-times : Known w32 (c.args.dl *ℤ pos 3) 98304 =
         k_mul dl (k_lit 3 tt) tt in
     let d : Known w32 c.args.d 32768 =
-        k_wide c.fits.d in
+        k_wide c.ranges.d in
     let d-times : Known w32 (c.args.d *ℤ pos 10) 327680 =
         k_mul d (k_lit 10 tt) tt in
     let dr : Known w32 c.args.dr 32768 =
-        k_wide c.fits.dr in
+        k_wide c.ranges.dr in
     let dr-times : Known w32 (c.args.dr *ℤ pos 3) 98304 =
         k_mul dr (k_lit 3 tt) tt in
     let part : Known w32 (c.args.dl *ℤ pos 3 +ℤ c.args.d *ℤ pos 10) 425984 =
@@ -31,11 +31,11 @@ returns c =
     let dl-times : Known w32 (c.args.dl *ℤ pos 3) 98304 =
         k_mul dl (k_lit 3 tt) tt in
     let d : Known w32 c.args.d 32768 =
-        k_wide c.fits.d in
+        k_wide c.ranges.d in
     let d-times : Known w32 (c.args.d *ℤ pos 10) 327680 =
         k_mul d (k_lit 10 tt) tt in
     let dr : Known w32 c.args.dr 32768 =
-        k_wide c.fits.dr in
+        k_wide c.ranges.dr in
     let dr-times : Known w32 (c.args.dr *ℤ pos 3) 98304 =
         k_mul dr (k_lit 3 tt) tt in
     let part : Known w32 (c.args.dl *ℤ pos 3 +ℤ c.args.d *ℤ pos 10) 425984 =

@@ -13,11 +13,11 @@ returns c =
     let l-times : Known w32 (c.args.l *ℤ pos 29) 950272 =
         k_mul l (k_lit 29 tt) tt in
     let dl : Known w32 c.args.dl 32768 =
-        k_wide c.fits.dl in
+        k_wide c.ranges.dl in
     let dl-times : Known w32 (c.args.dl *ℤ pos 26) 851968 =
         k_mul dl (k_lit 26 tt) tt in
     let d : Known w32 c.args.d 32768 =
-        k_wide c.fits.d in
+        k_wide c.ranges.d in
     let d-times : Known w32 (c.args.d *ℤ pos 29) 950272 =
         k_mul d (k_lit 29 tt) tt in
     let part : Known w32 (c.args.l *ℤ pos 29 -ℤ c.args.dl *ℤ pos 26) 1802240 =

@@ -13,7 +13,7 @@ returns c =
     let l-times : Known w32 (c.args.l *ℤ pos 75) 2457600 =
         k_mul l (k_lit 75 tt) tt in
     let dr : Known w32 c.args.dr 32768 =
-        k_wide c.fits.dr in
+        k_wide c.ranges.dr in
     let dr-times : Known w32 (c.args.dr *ℤ pos 53) 1736704 =
         k_mul dr (k_lit 53 tt) tt in
     let sum : Known w32 (c.args.l *ℤ pos 75 +ℤ c.args.dr *ℤ pos 53) 4194304 =

@@ -11,7 +11,7 @@ returns c =
     let x : Known w32 c.args.x 32768 =
         k_wide c.ranges.x in
     let y : Known w32 c.args.y 32768 =
-        k_wide c.fits.y in
+        k_wide c.ranges.y in
     let sum : Known w32 (c.args.x +ℤ c.args.y) 65536 =
         k_add x y tt in
     let q = k_div 2 86016 (sum) tt tt in (q.reads, ask_size q 86016 tt)

@@ -8,15 +8,33 @@ use Rattle.numeric.proofs.Known.{Known, k_any, k_cast, ask_cast, k_got, ask_size
 use Rattle.dc_means.specs.Means.{far, mean_ldl_d, kept, replaced}
 use Rattle.dc_means.proofs.replaced.Goals as goal
 
+-- which is kept
+module _ (p l dl d : ℤ) where
+  kept-d : far p d ≡ true → d ≡ kept p l dl d
+  unfolding kept
+  kept-d e = rw e
+
+  kept-l : far p d ≡ false → far p l ≡ true → l ≡ kept p l dl d
+  unfolding kept
+  kept-l e f = rw (e, f)
+
+  kept-dl : far p d ≡ false → far p l ≡ false → far p dl ≡ true → dl ≡ kept p l dl d
+  unfolding kept
+  kept-dl e f g = rw (e, f, g)
+
+  kept-p : far p d ≡ false → far p l ≡ false → far p dl ≡ false → p ≡ kept p l dl d
+  unfolding kept
+  kept-p e f g = rw (e, f, g)
+
 pub returns-then-far : goal.returns-then-far
 unfolding replaced
 returns-then-far c =
     let l16 : Known w16 c.args.l 32768 =
         k_any c.ranges.l in
     let dl16 : Known w16 c.args.dl 32768 =
-        k_any c.fits.dl in
+        k_any c.ranges.dl in
     let d16 : Known w16 c.args.d 32768 =
-        k_any c.fits.d in
+        k_any c.ranges.d in
     let d : Known w32 c.args.d 32768 =
         k_cast w32 d16 tt in
     let mean : ℤ =
@@ -38,9 +56,9 @@ returns-then-far-2 c =
     let l : Known w32 c.args.l 32768 =
         k_cast w32 l16 tt in
     let dl16 : Known w16 c.args.dl 32768 =
-        k_any c.fits.dl in
+        k_any c.ranges.dl in
     let d16 : Known w16 c.args.d 32768 =
-        k_any c.fits.d in
+        k_any c.ranges.d in
     let mean : ℤ =
         mean_ldl_d c.args.l c.args.dl c.args.d in
     let mean-is : c.mean_l_dl_d-p.result ≡ mean =
@@ -60,11 +78,11 @@ returns-then-far-3 c =
     let l16 : Known w16 c.args.l 32768 =
         k_any c.ranges.l in
     let dl16 : Known w16 c.args.dl 32768 =
-        k_any c.fits.dl in
+        k_any c.ranges.dl in
     let dl : Known w32 c.args.dl 32768 =
         k_cast w32 dl16 tt in
     let d16 : Known w16 c.args.d 32768 =
-        k_any c.fits.d in
+        k_any c.ranges.d in
     let mean : ℤ =
         mean_ldl_d c.args.l c.args.dl c.args.d in
     let mean-is : c.mean_l_dl_d-p.result ≡ mean =
@@ -86,9 +104,9 @@ returns c =
     let l16 : Known w16 c.args.l 32768 =
         k_any c.ranges.l in
     let dl16 : Known w16 c.args.dl 32768 =
-        k_any c.fits.dl in
+        k_any c.ranges.dl in
     let d16 : Known w16 c.args.d 32768 =
-        k_any c.fits.d in
+        k_any c.ranges.d in
     let mean : ℤ =
         mean_ldl_d c.args.l c.args.dl c.args.d in
     let mean-is : c.mean_l_dl_d-p.result ≡ mean =

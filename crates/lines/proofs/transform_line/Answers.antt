@@ -9,4 +9,4 @@ pub returns : goal.returns
 unfolding transform_line
 returns c = c.put_line.ensures
     ∙ ap (put_line c.before.before.before.before.before.before.args.s.now c.before.before.before.before.before.before.args.at c.before.before.before.before.before.before.args.step)
-    (c.transformed_line-l.ensures ∙ ap transformed_line c.before.before.before.before.line_at_lem.ensures)
+    (c.transformed_line-l.ensures ∙ ap transformed_line c.line_at.ensures)

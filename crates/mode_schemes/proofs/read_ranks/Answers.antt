@@ -9,6 +9,9 @@ use Rattle.mode_schemes.proofs.Facts.{ranks_done, ranks_end, ranks_on}
 use borrow.Author.Rules.{rules}
 use Rattle.mode_schemes.proofs.read_ranks.Goals as goal
 
+pub returns-in-Refused : goal.returns-in-Refused
+returns-in-Refused c = record { value = (on_refusal _ _ (c.loop-m.invariant.1 ∙ ranks_end c.args.packet.now c.loop-m.place c.loop-m.m c.loop-m.alphabet c.loop-m-test.true (read_refused (field 3 c.args.packet.now c.loop-m.place) c.read-one.ensures c.in-Refused.is))).0; stored = (on_refusal _ _ (c.loop-m.invariant.1 ∙ ranks_end c.args.packet.now c.loop-m.place c.loop-m.m c.loop-m.alphabet c.loop-m-test.true (read_refused (field 3 c.args.packet.now c.loop-m.place) c.read-one.ensures c.in-Refused.is))).1 }
+
 pub bounds-alphabet-rank : goal.bounds-alphabet-rank
 bounds-alphabet-rank c =
     let rank-got : field 3 c.args.packet.now c.loop-m.place ≡ got c.in-Got.r c.in-Got.next =
@@ -20,3 +23,6 @@ loop-m-preserved c =
     let rank-got : field 3 c.args.packet.now c.loop-m.place ≡ got c.in-Got.r c.in-Got.next =
         read_got (field 3 c.args.packet.now c.loop-m.place) c.read-one.ensures c.in-Got.is in
     (omega (arith, c.loop-m-test.true), c.loop-m.invariant.1 ∙ ranks_on c.args.packet.now c.loop-m.place c.loop-m.m c.loop-m.alphabet c.loop-m-test.true (rank-got))
+
+pub returns : goal.returns
+returns c = record { value = (on_list _ _ (c.loop-m.invariant.1 ∙ ranks_done c.args.packet.now c.loop-m.place c.loop-m.m c.loop-m.alphabet c.loop-m-test.false)).0; stored = (on_list _ _ (c.loop-m.invariant.1 ∙ ranks_done c.args.packet.now c.loop-m.place c.loop-m.m c.loop-m.alphabet c.loop-m-test.false)).1 }

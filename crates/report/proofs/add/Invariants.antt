@@ -11,7 +11,7 @@ use Rattle.report.proofs.Steps.{Midway, midway_first, midway_next, midway_last, 
 use Rattle.report.proofs.add.Given as goal
 
 abbrev pub invariant-loop-i : goal.invariant-loop-i
-invariant-loop-i l = (l.i ≤ 34) × (length l.numbers ≡ report_size) × ((l : List ℕ) → Runs (record { l.numbers = l.initial.numbers; l.passed = l.initial.passed }) l → Midway l l.more l.numbers l.passed l.i)
+invariant-loop-i l = (l.i ≤ 34) × (length l.numbers ≡ report_size) × ((l : List ℕ) → Runs (record { numbers = l.initial.numbers; passed = l.initial.passed }) l → Midway l l.more l.numbers l.passed l.i)
 
 abbrev pub decreases-loop-i : goal.decreases-loop-i
 decreases-loop-i l = 34 - l.i

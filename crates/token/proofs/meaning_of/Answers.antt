@@ -33,5 +33,5 @@ returns c =
     λ i. (c.requires.0 i).0 + c.args.x / 2 ^ (c.requires.0 i).5 / 2 ^ (c.requires.0 i).3 in
     let zeros : c.args.row.4 + c.low-2.result ≡ zeros_of (row_of c.args.t) c.args.x =
     λ i. (c.requires.0 i).4 + (c.low-2.ensures.0 ∙ (λ j. c.args.x % 2 ^ (c.requires.0 j).5)) i in
-    let value = back w16 _ c.value_of_law.type-inv ∙ c.value_of_law.ensures ∙ (λ i. with_sign (sign i) (size_is i)) in
+    let value = back w16 _ c.value_of-value.type_inv ∙ c.value_of-value.ensures ∙ (λ i. with_sign (sign i) (size_is i)) in
     (λ i. Coefficient (zeros i) (value i) c.args.next) ∙ sym (means_value c.args.t _ _ _ c.args.next c.if-t-lt9.false)

@@ -11,6 +11,10 @@ use Rattle.ways.proofs.Steps.{up_to_more}
 use borrow.Author.Rules.{rules}
 use Rattle.ways.proofs.copy_row.Given as goal
 
+-- the sample in column c
+abbrev put : List ℕ → ℕ → ℕ → ℕ → List ℕ → List ℕ
+put t k at c s = set s (at + c) (get_or t (k + c) 0)
+
 abbrev pub invariant-loop-c : goal.invariant-loop-c
 invariant-loop-c l = (l.c ≤ 8) × (length l.new ≡ length l.initial.new) × (l.new ≡ up_to l.c (put l.t l.k l.at) l.initial.new)
 

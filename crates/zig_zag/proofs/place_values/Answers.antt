@@ -11,15 +11,15 @@ place-requires c = (c.requires.0, c.requires.1, c.requires.2, omega arith, (omeg
 
 pub place-requires-2 : goal.place-requires-2
 unfolding zig_zag
-place-requires-2 c = (c.requires.0, c.requires.1, c.place.auto.1.1.1.1.1.0 ∙ c.requires.2, omega arith, (omega arith, refl))
+place-requires-2 c = (c.requires.0, c.requires.1, c.place.auto.out ∙ c.requires.2, omega arith, (omega arith, refl))
 
 pub place-requires-3 : goal.place-requires-3
 unfolding zig_zag
-place-requires-3 c = (c.requires.0, c.requires.1, c.place-2.auto.1.1.1.1.1.0 ∙ c.place.auto.1.1.1.1.1.0 ∙ c.requires.2, omega arith, (omega arith, refl))
+place-requires-3 c = (c.requires.0, c.requires.1, c.place-2.auto.out ∙ c.place.auto.out ∙ c.requires.2, omega arith, (omega arith, refl))
 
 pub place_four-requires : goal.place_four-requires
 unfolding zig_zag
-place_four-requires c = (c.requires.0, c.requires.1, c.place-3.auto.1.1.1.1.1.0 ∙ c.place-2.auto.1.1.1.1.1.0 ∙ c.place.auto.1.1.1.1.1.0 ∙ c.requires.2, omega arith, ((omega arith, refl), (omega arith, refl), (omega arith, refl), (omega arith, refl)))
+place_four-requires c = (c.requires.0, c.requires.1, c.place-3.auto.out ∙ c.place-2.auto.out ∙ c.place.auto.out ∙ c.requires.2, omega arith, ((omega arith, refl), (omega arith, refl), (omega arith, refl), (omega arith, refl)))
 
 pub returns-else-n-gt8 : goal.returns-else-n-gt8
 returns-else-n-gt8 c dc q z e = all_turned c.args.coefs.now c.args.at dc q c.args.matrix.now _ 8 c.args.n (omega arith) (omega arith) z
