@@ -7,10 +7,11 @@ use Rattle.bitstream.proofs.Ends.{on_list, on_refusal}
 use Rattle.mode_schemes.specs.Schemes.{ranks_from}
 use Rattle.mode_schemes.proofs.Facts.{ranks_done, ranks_end, ranks_on}
 use borrow.Author.Rules.{rules}
+use Rattle.bitstream.proofs.Clauses.{two}
 use Rattle.mode_schemes.proofs.read_ranks.Goals as goal
 
 pub returns-in-Refused : goal.returns-in-Refused
-returns-in-Refused c = record { value = (on_refusal _ _ (c.loop-m.invariant.1 ∙ ranks_end c.args.packet.now c.loop-m.place c.loop-m.m c.loop-m.alphabet c.loop-m-test.true (read_refused (field 3 c.args.packet.now c.loop-m.place) c.read-one.ensures c.in-Refused.is))).0; stored = (on_refusal _ _ (c.loop-m.invariant.1 ∙ ranks_end c.args.packet.now c.loop-m.place c.loop-m.m c.loop-m.alphabet c.loop-m-test.true (read_refused (field 3 c.args.packet.now c.loop-m.place) c.read-one.ensures c.in-Refused.is))).1 }
+returns-in-Refused c = two (λ a b. record { value = a; stored = b }) (on_refusal _ _ (c.loop-m.invariant.1 ∙ ranks_end c.args.packet.now c.loop-m.place c.loop-m.m c.loop-m.alphabet c.loop-m-test.true (read_refused (field 3 c.args.packet.now c.loop-m.place) c.read-one.ensures c.in-Refused.is)))
 
 pub bounds-alphabet-rank : goal.bounds-alphabet-rank
 bounds-alphabet-rank c =
@@ -25,4 +26,4 @@ loop-m-preserved c =
     (omega (arith, c.loop-m-test.true), c.loop-m.invariant.1 ∙ ranks_on c.args.packet.now c.loop-m.place c.loop-m.m c.loop-m.alphabet c.loop-m-test.true (rank-got))
 
 pub returns : goal.returns
-returns c = record { value = (on_list _ _ (c.loop-m.invariant.1 ∙ ranks_done c.args.packet.now c.loop-m.place c.loop-m.m c.loop-m.alphabet c.loop-m-test.false)).0; stored = (on_list _ _ (c.loop-m.invariant.1 ∙ ranks_done c.args.packet.now c.loop-m.place c.loop-m.m c.loop-m.alphabet c.loop-m-test.false)).1 }
+returns c = two (λ a b. record { value = a; stored = b }) (on_list _ _ (c.loop-m.invariant.1 ∙ ranks_done c.args.packet.now c.loop-m.place c.loop-m.m c.loop-m.alphabet c.loop-m-test.false))
