@@ -1,5 +1,4 @@
 -- `headers::identification` meets its contract: the part that is handed on is read as the whole packet. Assumes nothing.
-use borrow.Author.Rules.{rules}
 use Prim.Native.Nat.{ℕ, ◌^◌, ◌≤◌}
 use mathlib.Core.Path.{ap, ◌∙◌, subst⁻¹}
 use mathlib.Core.List.{List}

@@ -1,5 +1,4 @@
 -- `headers::ranges_hold` meets its contract. Assumes nothing.
-use borrow.Author.Rules.{rules}
 use Rattle.headers.specs.Fits.{ranges_hold}
 use Rattle.headers.proofs.Fitting.{chain_all}
 use Rattle.headers.proofs.ranges_hold.Goals as goal

@@ -1,5 +1,4 @@
 -- `headers::session_fits` meets its contract. Assumes nothing.
-use borrow.Author.Rules.{rules}
 use mathlib.Core.Path.{sym, ◌∙◌}
 use Rattle.headers.specs.Fits.{session_fits}
 use Rattle.headers.proofs.Fitting.{widths_macro_blocks, widths_shift}

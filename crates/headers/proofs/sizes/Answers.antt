@@ -1,5 +1,4 @@
 -- `headers::sizes` meets its contract. Assumes nothing.
-use borrow.Author.Rules.{rules}
 use mathlib.Core.Path.{sym, ap, ◌∙◌}
 use Rattle.headers.specs.declared.SizesAnswer.{SizesAnswer}
 use Rattle.headers.specs.Sizes.{session_sizes}
