@@ -1,7 +1,5 @@
 -- `settings::find` meets its contract. Assumes nothing.
-use Prim.Native.Nat.{◌-◌}
 use Rattle.settings.proofs.Lines.{read_19, read_by_1, read_old, read_new, read_third}
-use borrow.Author.Rules.{rules}
 use Rattle.settings.proofs.find.Goals as goal
 
 pub returns-then-stands_at : goal.returns-then-stands_at

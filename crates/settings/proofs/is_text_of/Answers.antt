@@ -1,9 +1,6 @@
 -- `settings::is_text_of` meets its contract. Assumes nothing.
-use Prim.Native.Nat.{◌-◌}
-use native.Mathlib.Omega.{arith}
 use mathlib.Core.Path.{refl, sym, ◌∙◌}
 use Rattle.settings.proofs.Lines.{line_room, line_taken, not_fit, compared}
-use borrow.Author.Rules.{rules}
 use Rattle.settings.proofs.is_text_of.Goals as goal
 
 pub slice_bounds-line-end : goal.slice_bounds-line-end

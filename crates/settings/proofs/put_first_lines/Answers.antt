@@ -1,9 +1,7 @@
 -- `settings::put_first_lines` meets its contract. Assumes nothing.
-use Prim.Native.Nat.{◌-◌}
 use native.Mathlib.Omega.{arith}
 use Rattle.settings.specs.Settings.{version_key, tile_key, first_key}
 use Rattle.settings.proofs.Lines.{fit, line_short, first_written}
-use borrow.Author.Rules.{rules}
 use Rattle.bitstream.proofs.Clauses.{two}
 use Rattle.settings.proofs.put_first_lines.Goals as goal
 

@@ -1,9 +1,7 @@
 -- `settings::put_line` meets its contract. Assumes nothing.
-use Prim.Native.Nat.{◌-◌}
 use native.Mathlib.Omega.{arith}
 use Rattle.text.proofs.Decimals.{decimal_length}
 use Rattle.settings.proofs.Lines.{line_written}
-use borrow.Author.Rules.{rules}
 use Rattle.bitstream.proofs.Clauses.{two}
 use Rattle.settings.proofs.put_line.Goals as goal
 

@@ -1,12 +1,11 @@
 -- `settings::put_text` meets its contract. Assumes nothing.
-use Prim.Native.Nat.{ℕ, ◌-◌}
+use Prim.Native.Nat.{ℕ}
 use native.Mathlib.Omega.{arith}
 use mathlib.Core.Path.{sym, ap, ◌∙◌}
 use mathlib.Core.List.{List}
 use lib.ListN.{length}
 use Rattle.output.specs.Output.{spliced}
 use Rattle.settings.proofs.Lines.{fit, first_short, text_1, text_written_2}
-use borrow.Author.Rules.{rules}
 use Rattle.bitstream.proofs.Clauses.{two}
 use Rattle.settings.proofs.put_text.Goals as goal
 

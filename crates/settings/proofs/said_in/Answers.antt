@@ -1,8 +1,5 @@
 -- `settings::said_in` meets its contract. Assumes nothing.
-use Prim.Native.Nat.{◌-◌}
-use native.Mathlib.Omega.{arith}
 use Rattle.settings.proofs.Lines.{said_there, said_0}
-use borrow.Author.Rules.{rules}
 use Rattle.settings.proofs.said_in.Goals as goal
 
 pub returns-then-version-eq2 : goal.returns-then-version-eq2

@@ -1,17 +1,15 @@
 -- `settings::write` meets its contract. Assumes nothing.
-use Prim.Native.Nat.{ℕ, ◌-◌}
+use Prim.Native.Nat.{ℕ}
 use native.Mathlib.Omega.{arith}
 use mathlib.Core.Path.{◌≡◌, refl, sym, ap, ◌∙◌}
 use mathlib.Core.Bool.{◌&&◌}
 use mathlib.Core.List.{List}
-use borrow.Author.Tests.{not-true, not-false}
 use lib.ListN.{length}
 use Rattle.output.specs.Output.{spliced}
 use Rattle.output.proofs.Splices.{answered, written_nothing, written_whole}
 use Rattle.text.proofs.Texts.{and_left, and_right}
 use Rattle.settings.specs.Settings.{settings_fit, holds, text_of}
 use Rattle.settings.proofs.Lines.{held_small, line_room, line_taken, text_20, text_is}
-use borrow.Author.Rules.{rules}
 use Rattle.bitstream.proofs.Clauses.{two}
 use Rattle.settings.proofs.write.Goals as goal
 
