@@ -1,9 +1,8 @@
 -- `stream_numbers::numbers_of` meets its contract. Assumes nothing.
-use Prim.Native.Nat.{◌*◌, ◌-◌}
+use Prim.Native.Nat.{◌*◌}
 use native.Mathlib.Omega.{arith}
 use Rattle.headers.proofs.Fitting.{fits_macro_blocks}
 use Rattle.stream_numbers.specs.Numbers.{numbers_of}
-use borrow.Author.Rules.{rules}
 use Rattle.stream_numbers.proofs.numbers_of.Goals as goal
 
 pub overflow_mul-result : goal.overflow_mul-result
