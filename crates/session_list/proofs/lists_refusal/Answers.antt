@@ -1,5 +1,4 @@
 -- `session_list::lists_refusal` meets its contract. Assumes nothing.
-use borrow.Author.Rules.{rules}
 use mathlib.Core.Path.{sym, ◌∙◌}
 use Rattle.session_list.proofs.Lists.{lists_length, lists_none, lists_room, lists_fields}
 use Rattle.session_list.proofs.lists_refusal.Goals as goal

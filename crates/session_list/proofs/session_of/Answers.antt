@@ -1,5 +1,4 @@
 -- `session_list::session_of` meets its contract. Assumes nothing.
-use borrow.Author.Rules.{rules}
 use mathlib.Core.Path.{refl}
 use Rattle.session_list.specs.List.{session_of}
 use Rattle.session_list.proofs.session_of.Goals as goal
