@@ -1,14 +1,8 @@
 -- `stream_check::alike` meets its contract. The loop's invariant: whether the first i bytes are the same. Assumes nothing.
-use Prim.Native.Nat.{ℕ, ◌-◌, ◌≤◌}
-use native.Mathlib.Omega.{arith}
-use mathlib.Core.Path.{◌≡◌, sym, ap, ◌∙◌}
-use mathlib.Core.Bool.{Bool, ◌&&◌}
-use lib.Dec.{eqb, leb}
-use lib.ListN.{get_or}
-use borrow.Author.Tests.{le-leb}
-use borrow.Author.Rules.{rules}
+use Prim.Native.Nat.{◌-◌, ◌≤◌}
+use mathlib.Core.Path.{◌≡◌}
+use lib.Dec.{leb}
 use Rattle.stream_check.specs.Compared.{difference}
-use Rattle.stream_check.proofs.Differences.{further}
 use Rattle.stream_check.proofs.alike.Given as goal
 
 abbrev pub invariant-loop-i : goal.invariant-loop-i

@@ -9,7 +9,6 @@ use Rattle.stream_check.specs.declared.Compared.{Compared}
 use Rattle.stream_check.specs.Compared.{difference, onward}
 use Rattle.stream_check.proofs.Differences.{within_file}
 use Rattle.stream_check.proofs.Onward.{onward_found, onward_on, onward_inside}
-use borrow.Author.Rules.{rules}
 use Rattle.stream_check.proofs.compare.Goals as goal
 
 pub returns-then-c : goal.returns-then-c

@@ -1,12 +1,10 @@
 -- `stream_check::compare_header` meets its contract. Assumes nothing.
 use Prim.Native.Nat.{ℕ}
-use native.Mathlib.Omega.{arith}
 use mathlib.Core.Path.{refl, ap, ◌∙◌}
 use mathlib.Core.List.{List}
 use lib.ListN.{replicate}
 use Rattle.stream_check.specs.Compared.{onward, beginning}
 use Rattle.stream_check.proofs.Header.{header_line, header_written}
-use borrow.Author.Rules.{rules}
 use Rattle.stream_check.proofs.compare_header.Goals as goal
 
 pub returns-in-Bytes : goal.returns-in-Bytes

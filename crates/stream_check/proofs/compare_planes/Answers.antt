@@ -1,17 +1,15 @@
-use Prim.Native.Nat.{ℕ, ◌-◌, ◌≤◌}
+use Prim.Native.Nat.{ℕ}
 use native.Mathlib.Omega.{arith}
-use mathlib.Core.Path.{◌≡◌, sym, ap, ◌∙◌}
+use mathlib.Core.Path.{sym, ap, ◌∙◌}
 use mathlib.Core.List.{List}
-use lib.ListN.{length}
 use Rattle.geometry.specs.Order.{in_turn}
 use Rattle.geometry.proofs.SizeLaws.{plane_of_small}
 use Rattle.rows.proofs.Facts.{in_turn_more}
 use Rattle.y4m.specs.Stream.{plane_rows}
-use Rattle.y4m.proofs.FrameLaws.{plane_end, plane_sized}
+use Rattle.y4m.proofs.FrameLaws.{plane_end}
 use Rattle.stream_check.specs.Compared.{onward}
 use Rattle.stream_check.proofs.Onward.{onward_none, onward_parts}
 use Rattle.stream_check.proofs.Planes.{plane_turned, planes_three}
-use borrow.Author.Rules.{rules}
 use Rattle.stream_check.proofs.compare_planes.Goals as goal
 
 pub loop-p-init : goal.loop-p-init
@@ -25,13 +23,12 @@ pub slice_bounds-compare_rows-end : goal.slice_bounds-compare_rows-end
 slice_bounds-compare_rows-end c = let e = plane_end c.args.format c.args.w c.args.h c.args.planes.now c.requires.2 c.loop-p.p c.plane_of-plane.result c.loop-p-test.true c.plane_of-plane.ensures in omega arith
 
 pub loop-p-preserved : goal.loop-p-preserved
-loop-p-preserved c = let f = plane_rows c.args.format c.args.w c.args.h c.args.planes.now in
-    (
-      omega arith,
-      c.compare_rows-compared.ensures.1,
-      c.compare_rows-compared.ensures.0 ∙ (λ i. onward (c.loop-p.invariant.2 i) (plane_turned c.args.format c.args.w c.args.h c.args.planes.now c.loop-p.p c.plane_of-plane.result c.plane_of-plane.ensures i) c.args.file.now) ∙ onward_parts c.args.c (in_turn f c.loop-p.p) (f c.loop-p.p) c.args.file.now
-          ∙ ap (λ (t : List ℕ). onward c.args.c t c.args.file.now) (sym (in_turn_more f c.loop-p.p)),
-    )
+loop-p-preserved c = let f = plane_rows c.args.format c.args.w c.args.h c.args.planes.now in (
+  omega arith,
+  c.compare_rows-compared.ensures.1,
+  c.compare_rows-compared.ensures.0 ∙ (λ i. onward (c.loop-p.invariant.2 i) (plane_turned c.args.format c.args.w c.args.h c.args.planes.now c.loop-p.p c.plane_of-plane.result c.plane_of-plane.ensures i) c.args.file.now) ∙ onward_parts c.args.c (in_turn f c.loop-p.p) (f c.loop-p.p) c.args.file.now
+      ∙ ap (λ (t : List ℕ). onward c.args.c t c.args.file.now) (sym (in_turn_more f c.loop-p.p)),
+)
 
 pub returns : goal.returns
 returns c = (c.loop-p.invariant.2 ∙ ap (λ (t : List ℕ). onward c.args.c t c.args.file.now) (planes_three c.args.format c.args.w c.args.h c.args.planes.now c.loop-p.p c.loop-p.invariant.0 c.loop-p-test.false), c.loop-p.invariant.1)

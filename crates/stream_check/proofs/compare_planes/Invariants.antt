@@ -1,18 +1,10 @@
 -- `stream_check::compare_planes` meets its contract. The loop's invariant: the planes before p are compared. Assumes nothing.
-use Prim.Native.Nat.{ℕ, ◌-◌, ◌≤◌}
-use native.Mathlib.Omega.{arith}
-use mathlib.Core.Path.{◌≡◌, sym, ap, ◌∙◌}
-use mathlib.Core.List.{List}
+use Prim.Native.Nat.{◌-◌, ◌≤◌}
+use mathlib.Core.Path.{◌≡◌}
 use lib.ListN.{length}
 use Rattle.geometry.specs.Order.{in_turn}
-use Rattle.geometry.proofs.SizeLaws.{plane_of_small}
-use Rattle.rows.proofs.Facts.{in_turn_more}
 use Rattle.y4m.specs.Stream.{plane_rows}
-use Rattle.y4m.proofs.FrameLaws.{plane_end, plane_sized}
 use Rattle.stream_check.specs.Compared.{onward}
-use Rattle.stream_check.proofs.Onward.{onward_none, onward_parts}
-use Rattle.stream_check.proofs.Planes.{plane_turned, planes_three}
-use borrow.Author.Rules.{rules}
 use Rattle.stream_check.proofs.compare_planes.Given as goal
 
 abbrev pub invariant-loop-p : goal.invariant-loop-p

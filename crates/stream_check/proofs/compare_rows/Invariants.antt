@@ -1,17 +1,10 @@
 -- `stream_check::compare_rows` meets its contract. The loop's invariant: some number r of rows is compared, the last r of src. Assumes nothing.
-use Prim.Native.Nat.{ℕ, ◌+◌, ◌-◌, ◌*◌, ◌≤◌, ◌<◌}
-use native.Mathlib.Omega.{arith}
-use native.Mathlib.Nat.{suc-mul}
-use mathlib.Core.Path.{◌≡◌, refl, sym, ap, ◌∙◌}
-use mathlib.Core.List.{List}
-use lib.ListN.{length, take, drop}
+use Prim.Native.Nat.{ℕ, ◌+◌, ◌-◌, ◌*◌, ◌≤◌}
+use mathlib.Core.Path.{◌≡◌}
+use lib.ListN.{length}
 use Rattle.geometry.specs.Order.{in_turn}
 use Rattle.output.specs.Output.{part}
-use Rattle.rows.specs.Rows.{turned}
-use Rattle.rows.proofs.Facts.{row_left, row_some, row_fits, row_begin, in_turn_more, all_rows}
 use Rattle.stream_check.specs.Compared.{onward}
-use Rattle.stream_check.proofs.Onward.{onward_none, onward_parts}
-use borrow.Author.Rules.{rules}
 use Rattle.stream_check.proofs.compare_rows.Given as goal
 
 abbrev pub invariant-loop-from : goal.invariant-loop-from

@@ -1,10 +1,7 @@
-use Prim.Native.Nat.{◌-◌, ◌≤◌}
 use native.Mathlib.Omega.{arith}
 use mathlib.Core.Path.{sym, ◌∙◌}
 use borrow.Author.Tests.{leb-true}
-use Rattle.stream_check.specs.Compared.{difference}
 use Rattle.stream_check.proofs.Differences.{agree, disagree, shorter}
-use borrow.Author.Rules.{rules}
 use Rattle.stream_check.proofs.difference.Goals as goal
 
 pub returns-then-alike : goal.returns-then-alike

@@ -1,11 +1,6 @@
 -- `stream_check::difference` meets its contract. The loop's invariant: the first i bytes are the same. Assumes nothing.
 use Prim.Native.Nat.{◌-◌, ◌≤◌}
-use native.Mathlib.Omega.{arith}
-use mathlib.Core.Path.{sym, ◌∙◌}
-use borrow.Author.Tests.{leb-true}
 use Rattle.stream_check.specs.Compared.{difference}
-use Rattle.stream_check.proofs.Differences.{agree, disagree, shorter}
-use borrow.Author.Rules.{rules}
 use Rattle.stream_check.proofs.difference.Given as goal
 
 abbrev pub invariant-loop-i : goal.invariant-loop-i
