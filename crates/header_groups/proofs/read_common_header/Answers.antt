@@ -1,9 +1,7 @@
-use borrow.Author.Rules.{rules}
-use Prim.Native.Nat.{◌-◌, ◌≤◌}
 use native.Mathlib.Omega.{arith}
 use mathlib.Core.Path.{◌≡◌, refl, sym, ap, ◌∙◌}
 use mathlib.Core.List.{◌∷◌}
-use lib.ListN.{drop, get_or}
+use lib.ListN.{get_or}
 use lib.Dec.{lit≤}
 use Rattle.bitstream.proofs.Fields.{read_got, read_refused}
 use Rattle.header_groups.specs.Judgement.{spelled, theora, common_header}

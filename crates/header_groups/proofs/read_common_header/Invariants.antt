@@ -1,16 +1,9 @@
 -- `header_groups::read_common_header` meets its contract. The invariant: what is left to spell is the bytes from number i. Assumes nothing.
-use borrow.Author.Rules.{rules}
 use Prim.Native.Nat.{◌-◌, ◌≤◌}
-use native.Mathlib.Omega.{arith}
-use mathlib.Core.Path.{◌≡◌, refl, sym, ap, ◌∙◌}
+use mathlib.Core.Path.{◌≡◌}
 use mathlib.Core.List.{◌∷◌}
-use lib.ListN.{drop, get_or}
-use lib.Dec.{lit≤}
-use Rattle.bitstream.proofs.Fields.{read_got, read_refused}
+use lib.ListN.{drop}
 use Rattle.header_groups.specs.Judgement.{spelled, theora, common_header}
-use Rattle.header_fields.specs.Tests.{exactly}
-use Rattle.bitstream.specs.Answer.{as_end}
-use Rattle.header_groups.proofs.Judged.{spelled_next, spelled_refused}
 use Rattle.header_groups.proofs.read_common_header.Given as goal
 
 abbrev pub invariant-loop-i : goal.invariant-loop-i

@@ -3,14 +3,13 @@ use native.Mathlib.Omega.{arith}
 use mathlib.Core.Path.{◌≡◌, refl, sym, ap, ◌∙◌}
 use mathlib.Core.List.{List, ◌++◌}
 use lib.ListN.{length, take, drop}
-use borrow.Author.Rules.{rules}
 use Rattle.geometry.specs.Order.{in_turn}
 use Rattle.output.specs.Output.{part}
 use Rattle.output.proofs.Splices.{part_length}
 use Rattle.rows.specs.Rows.{turned}
 use native.Mathlib.Nat.{suc-mul}
 use lib.Seq.{take_all}
-use Rattle.rows.proofs.Facts.{row_left, row_some, row_fits, row_begin, taken_more, in_turn_more, all_rows}
+use Rattle.rows.proofs.Facts.{row_left, row_fits, row_begin, taken_more, in_turn_more, all_rows}
 use Rattle.rows.proofs.turn_rows.Goals as goal
 
 pub loop-from-init : goal.loop-from-init
@@ -20,9 +19,9 @@ loop-from-init c = (0, omega arith, omega arith, omega (arith, c.requires.0), c.
 pub loop-from-preserved : goal.loop-from-preserved
 loop-from-preserved c =
     let more : c.loop-from.invariant.0 < c.args.rows =
-        row_left c.loop-from.invariant.0 c.args.rows c.args.row c.loop-from.at c.loop-from.from c.loop-from-test.true c.loop-from.invariant.2 c.loop-from.invariant.3 in
+    row_left c.loop-from.invariant.0 c.args.rows c.args.row c.loop-from.at c.loop-from.from c.loop-from-test.true c.loop-from.invariant.2 c.loop-from.invariant.3 in
     let fits : c.loop-from.at + c.args.row ≤ c.args.rows * c.args.row =
-        omega (arith, row_fits c.loop-from.invariant.0 c.args.rows c.args.row (more), c.loop-from.invariant.2) in
+    omega (arith, row_fits c.loop-from.invariant.0 c.args.rows c.args.row (more), c.loop-from.invariant.2) in
     let left = more in
     let h = fits in
     let there : c.loop-from.from - (c.loop-from.from - c.args.row) ≡ c.args.row = omega (arith, h, c.loop-from.invariant.3) in

@@ -1,6 +1,5 @@
-use Prim.Native.Nat.{◌-◌}
 use native.Mathlib.Omega.{arith}
-use Rattle.text.proofs.Steps.{Counted, counted_start, counted_less, counted_end, one_digit}
+use Rattle.text.proofs.Steps.{counted_start, counted_less, counted_end, one_digit}
 use Rattle.text.proofs.digit_count.Goals as goal
 
 pub returns-then-n-lt10 : goal.returns-then-n-lt10

@@ -7,7 +7,6 @@ use lib.ListN.{length}
 use Rattle.output.specs.Output.{spliced}
 use Rattle.text.specs.Decimal.{decimal}
 use Rattle.text.proofs.Decimals.{length_digits}
-use borrow.Author.Rules.{rules}
 use Rattle.text.proofs.put_decimal.Goals as goal
 
 pub returns : goal.returns

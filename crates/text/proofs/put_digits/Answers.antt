@@ -1,19 +1,18 @@
-use Prim.Native.Nat.{ℕ, ◌-◌, ◌≤◌}
+use Prim.Native.Nat.{ℕ}
 use native.Mathlib.Omega.{arith}
-use mathlib.Core.Path.{◌≡◌, refl, sym, ap, ◌∙◌}
-use lib.ListN.{length, length-set}
+use mathlib.Core.Path.{◌≡◌, sym, ap, ◌∙◌}
+use lib.ListN.{length-set}
 use Rattle.output.specs.Output.{spliced}
 use Rattle.text.specs.Decimal.{digits}
 use Rattle.text.proofs.Steps.{digit_more, digits_none}
-use borrow.Author.Rules.{rules}
 use Rattle.text.proofs.put_digits.Goals as goal
 
 pub loop-i-preserved : goal.loop-i-preserved
 loop-i-preserved c = (
-      omega arith,
-      simp length-set c.loop-i.invariant.1,
-      digit_more c.args.at c.loop-i.rest c.loop-i.i c.loop-i.out c.loop-i-test.true (omega (arith, c.loop-i.invariant.0, c.loop-i.invariant.1, c.requires)) ∙ c.loop-i.invariant.2,
-    )
+  omega arith,
+  simp length-set c.loop-i.invariant.1,
+  digit_more c.args.at c.loop-i.rest c.loop-i.i c.loop-i.out c.loop-i-test.true (omega (arith, c.loop-i.invariant.0, c.loop-i.invariant.1, c.requires)) ∙ c.loop-i.invariant.2,
+)
 
 pub returns : goal.returns
 returns c = let e : c.loop-i.i ≡ 0 = omega arith in

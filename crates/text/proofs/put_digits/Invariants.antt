@@ -1,12 +1,9 @@
 -- `text::put_digits` meets its contract. The loop's invariant: with the first i digits of the rest written too, all are written. Assumes nothing.
-use Prim.Native.Nat.{ℕ, ◌-◌, ◌≤◌}
-use native.Mathlib.Omega.{arith}
-use mathlib.Core.Path.{◌≡◌, refl, sym, ap, ◌∙◌}
-use lib.ListN.{length, length-set}
+use Prim.Native.Nat.{◌≤◌}
+use mathlib.Core.Path.{◌≡◌}
+use lib.ListN.{length}
 use Rattle.output.specs.Output.{spliced}
 use Rattle.text.specs.Decimal.{digits}
-use Rattle.text.proofs.Steps.{digit_more, digits_none}
-use borrow.Author.Rules.{rules}
 use Rattle.text.proofs.put_digits.Given as goal
 
 abbrev pub invariant-loop-i : goal.invariant-loop-i

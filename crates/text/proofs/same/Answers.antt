@@ -1,10 +1,6 @@
-use Prim.Native.Nat.{◌-◌, ◌≤◌}
 use native.Mathlib.Omega.{arith}
-use mathlib.Core.Path.{◌≡◌, refl, sym, ◌∙◌}
-use lib.ListN.{length, drop}
-use Rattle.text.specs.Same.{same}
+use mathlib.Core.Path.{sym, ◌∙◌}
 use Rattle.text.proofs.Texts.{same_lengths, same_more, same_less, same_end}
-use borrow.Author.Rules.{rules}
 use Rattle.text.proofs.same.Goals as goal
 
 pub returns-then-a-b : goal.returns-then-a-b

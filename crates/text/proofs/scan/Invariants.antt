@@ -1,13 +1,6 @@
 -- `text::scan` meets its contract. The loop's invariant: k digits were read. Assumes nothing.
-use Prim.Native.Nat.{◌+◌, ◌*◌, ◌-◌, ◌^◌, ◌<◌}
-use native.Mathlib.Omega.{arith}
-use mathlib.Core.Bool.{true}
-use mathlib.Core.Path.{◌≡◌, sym, ◌∙◌}
-use borrow.Author.Tests.{not-true, not-false}
-use lib.ListN.{get_or}
-use Rattle.text.specs.Decimal.{is_digit}
-use Rattle.text.proofs.Steps.{Scanning, scanning_start, scanning_more, found_end, found_other, found_ten, digit_low, digit_fits}
-use borrow.Author.Rules.{rules}
+use Prim.Native.Nat.{◌-◌}
+use Rattle.text.proofs.Steps.{Scanning}
 use Rattle.text.proofs.scan.Given as goal
 
 abbrev pub invariant-loop-k : goal.invariant-loop-k

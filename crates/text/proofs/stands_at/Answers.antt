@@ -1,12 +1,9 @@
 -- `text::stands_at` meets its contract. Assumes nothing.
-use Prim.Native.Nat.{ℕ, ◌+◌, ◌-◌}
 use native.Mathlib.Omega.{arith}
-use mathlib.Core.Path.{◌≡◌, sym, ap, ◌∙◌}
-use lib.ListN.{length, take, drop, length-take, length-drop}
+use mathlib.Core.Path.{sym}
+use lib.ListN.{length, drop, length-take, length-drop}
 use Rattle.output.specs.Output.{part}
-use Rattle.text.specs.Same.{same}
 use Rattle.text.proofs.Texts.{same_lengths}
-use borrow.Author.Rules.{rules}
 use Rattle.text.proofs.stands_at.Goals as goal
 
 pub returns-then-text-at : goal.returns-then-text-at
