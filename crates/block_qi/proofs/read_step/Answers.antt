@@ -22,60 +22,60 @@ use Rattle.block_qi.proofs.read_step.Goals as goal
 pub raise_blocks-requires : goal.raise_blocks-requires
 raise_blocks-requires c =
     let wanted : ℕ =
-        at_step c.before.before.before.before.before.before.args.q c.before.before.before.before.before.before.args.coded.now (records_of c.before.before.before.before.before.before.args.records.now) in
+        at_step c.args.q c.args.coded.now (records_of c.args.records.now) in
     let count : c.count_at-n.result ≡ wanted =
         c.count_at-n.ensures.0 in
-    let long : length (take c.count_at-n.result c.before.before.before.before.before.before.args.bits.now) ≡ c.count_at-n.result =
-        length-take-le c.count_at-n.result c.before.before.before.before.before.before.args.bits.now (omega (arith, c.count_at-n.ensures.1, c.before.before.before.before.before.before.requires.4)) in
+    let long : length (take c.count_at-n.result c.args.bits.now) ≡ c.count_at-n.result =
+        length-take-le c.count_at-n.result c.args.bits.now (omega (arith, c.count_at-n.ensures.1, c.requires.4)) in
     let string : List ℕ =
         c.read_string-string.new.out in
     let behind : List ℕ =
-        drop c.count_at-n.result c.before.before.before.before.before.before.before.before.before.before.before.before.before.args.bits.now in
+        drop c.count_at-n.result c.args.bits.now in
     let string-long : length string ≡ c.count_at-n.result =
         c.read_string-string.auto.out ∙ long in
     let front : take c.count_at-n.result (string ++ behind) ≡ string =
         take_at string behind c.count_at-n.result string-long in
-    let string-got : bit_string Long (wanted) c.before.before.before.before.before.before.before.before.before.before.before.before.before.args.packet.now c.before.before.before.before.before.before.before.before.before.before.before.before.before.args.at ≡ got string c.in-At.place =
-        ap (λ (k : ℕ). bit_string Long k c.before.before.before.before.before.before.before.before.before.before.before.before.before.args.packet.now c.before.before.before.before.before.before.before.before.before.before.before.before.before.args.at) (sym (long ∙ count))
-        ∙ stored_at (bit_string Long (length (take c.count_at-n.result c.before.before.before.before.before.before.before.before.before.before.before.before.before.args.bits.now)) c.before.before.before.before.before.before.before.before.before.before.before.before.before.args.packet.now c.before.before.before.before.before.before.before.before.before.before.before.before.before.args.at) string c.read_string-string.ensures.value c.read_string-string.ensures.stored c.in-At.is in
+    let string-got : bit_string Long (wanted) c.args.packet.now c.args.at ≡ got string c.in-At.place =
+        ap (λ (k : ℕ). bit_string Long k c.args.packet.now c.args.at) (sym (long ∙ count))
+        ∙ stored_at (bit_string Long (length (take c.count_at-n.result c.args.bits.now)) c.args.packet.now c.args.at) string c.read_string-string.ensures.value c.read_string-string.ensures.stored c.in-At.is in
     (
-      c.before.before.before.before.before.before.before.before.before.before.before.before.before.before.before.requires.1,
-      c.before.before.before.before.before.before.before.before.before.before.before.before.before.before.before.requires.2,
-      c.before.before.before.before.before.before.before.before.before.before.before.before.before.before.before.requires.3,
+      c.requires.1,
+      c.requires.2,
+      c.requires.3,
       subst (AllBelow 2) (sym (front))
-          (string_bits Long (wanted) c.before.before.before.before.before.before.before.before.before.before.before.before.before.before.before.args.packet.now c.before.before.before.before.before.before.before.before.before.before.before.before.before.before.before.args.at (string-got)),
-      c.before.before.before.before.before.before.before.before.before.before.before.before.before.before.before.requires.5,
+          (string_bits Long (wanted) c.args.packet.now c.args.at (string-got)),
+      c.requires.5,
       ap length (front) ∙ string-long ∙ count,
     )
 
 pub returns-in-Refused : goal.returns-in-Refused
 returns-in-Refused c =
     let wanted : ℕ =
-        at_step c.before.before.before.before.before.before.args.q c.before.before.before.before.before.before.args.coded.now (records_of c.before.before.before.before.before.before.args.records.now) in
+        at_step c.args.q c.args.coded.now (records_of c.args.records.now) in
     let count : c.count_at-n.result ≡ wanted =
         c.count_at-n.ensures.0 in
-    let long : length (take c.count_at-n.result c.before.before.before.before.before.before.args.bits.now) ≡ c.count_at-n.result =
-        length-take-le c.count_at-n.result c.before.before.before.before.before.before.args.bits.now (omega (arith, c.count_at-n.ensures.1, c.before.before.before.before.before.before.requires.4)) in two (λ a b. record { value = a; kept_records = b }) (on_refused c.before.before.before.before.before.before.before.before.before.before.before.before.before.args.records.now (one_step c.before.before.before.before.before.before.before.before.before.before.before.before.before.args.q c.before.before.before.before.before.before.before.before.before.before.before.before.before.args.coded.now (records_of c.before.before.before.before.before.before.before.before.before.before.before.before.before.args.records.now) c.before.before.before.before.before.before.before.before.before.before.before.before.before.args.packet.now c.before.before.before.before.before.before.before.before.before.before.before.before.before.args.at)
-    (step_refused c.before.before.before.before.before.before.before.before.before.before.before.before.before.args.q c.before.before.before.before.before.before.before.before.before.before.before.before.before.args.coded.now (records_of c.before.before.before.before.before.before.before.before.before.before.before.before.before.args.records.now) c.before.before.before.before.before.before.before.before.before.before.before.before.before.args.packet.now c.before.before.before.before.before.before.before.before.before.before.before.before.before.args.at (ap (λ (k : ℕ). bit_string Long k c.before.before.before.before.before.before.before.before.before.before.before.before.before.args.packet.now c.before.before.before.before.before.before.before.before.before.before.before.before.before.args.at) (sym (long ∙ count)) ∙ end_refused (bit_string Long (length (take c.count_at-n.result c.before.before.before.before.before.before.before.before.before.before.before.before.before.args.bits.now)) c.before.before.before.before.before.before.before.before.before.before.before.before.before.args.packet.now c.before.before.before.before.before.before.before.before.before.before.before.before.before.args.at) c.read_string-string.ensures.value c.in-Refused.is)))
+    let long : length (take c.count_at-n.result c.args.bits.now) ≡ c.count_at-n.result =
+        length-take-le c.count_at-n.result c.args.bits.now (omega (arith, c.count_at-n.ensures.1, c.requires.4)) in two (λ a b. record { value = a; kept_records = b }) (on_refused c.args.records.now (one_step c.args.q c.args.coded.now (records_of c.args.records.now) c.args.packet.now c.args.at)
+    (step_refused c.args.q c.args.coded.now (records_of c.args.records.now) c.args.packet.now c.args.at (ap (λ (k : ℕ). bit_string Long k c.args.packet.now c.args.at) (sym (long ∙ count)) ∙ end_refused (bit_string Long (length (take c.count_at-n.result c.args.bits.now)) c.args.packet.now c.args.at) c.read_string-string.ensures.value c.in-Refused.is)))
 
 pub returns-in-At : goal.returns-in-At
 returns-in-At c =
     let wanted : ℕ =
-        at_step c.before.before.before.before.before.before.args.q c.before.before.before.before.before.before.args.coded.now (records_of c.before.before.before.before.before.before.args.records.now) in
+        at_step c.args.q c.args.coded.now (records_of c.args.records.now) in
     let count : c.count_at-n.result ≡ wanted =
         c.count_at-n.ensures.0 in
-    let long : length (take c.count_at-n.result c.before.before.before.before.before.before.args.bits.now) ≡ c.count_at-n.result =
-        length-take-le c.count_at-n.result c.before.before.before.before.before.before.args.bits.now (omega (arith, c.count_at-n.ensures.1, c.before.before.before.before.before.before.requires.4)) in
+    let long : length (take c.count_at-n.result c.args.bits.now) ≡ c.count_at-n.result =
+        length-take-le c.count_at-n.result c.args.bits.now (omega (arith, c.count_at-n.ensures.1, c.requires.4)) in
     let string : List ℕ =
         c.read_string-string.new.out in
     let behind : List ℕ =
-        drop c.count_at-n.result c.before.before.before.before.before.before.before.before.before.before.before.before.before.args.bits.now in
+        drop c.count_at-n.result c.args.bits.now in
     let string-long : length string ≡ c.count_at-n.result =
         c.read_string-string.auto.out ∙ long in
     let front : take c.count_at-n.result (string ++ behind) ≡ string =
         take_at string behind c.count_at-n.result string-long in
-    let string-got : bit_string Long (wanted) c.before.before.before.before.before.before.before.before.before.before.before.before.before.args.packet.now c.before.before.before.before.before.before.before.before.before.before.before.before.before.args.at ≡ got string c.in-At.place =
-        ap (λ (k : ℕ). bit_string Long k c.before.before.before.before.before.before.before.before.before.before.before.before.before.args.packet.now c.before.before.before.before.before.before.before.before.before.before.before.before.before.args.at) (sym (long ∙ count))
-        ∙ stored_at (bit_string Long (length (take c.count_at-n.result c.before.before.before.before.before.before.before.before.before.before.before.before.before.args.bits.now)) c.before.before.before.before.before.before.before.before.before.before.before.before.before.args.packet.now c.before.before.before.before.before.before.before.before.before.before.before.before.before.args.at) string c.read_string-string.ensures.value c.read_string-string.ensures.stored c.in-At.is in two (λ a b. record { value = a; kept_records = b }) (on_records _ (one_step c.before.before.before.before.before.before.before.before.before.before.before.before.before.before.before.before.before.before.args.q c.before.before.before.before.before.before.before.before.before.before.before.before.before.before.before.before.before.before.args.coded.now (records_of c.before.before.before.before.before.before.before.before.before.before.before.before.before.before.before.before.before.before.args.records.now) c.before.before.before.before.before.before.before.before.before.before.before.before.before.before.before.before.before.before.args.packet.now c.before.before.before.before.before.before.before.before.before.before.before.before.before.before.before.before.before.before.args.at)
-    (step_got c.before.before.before.before.before.before.before.before.before.before.before.before.before.before.before.before.before.before.args.q c.before.before.before.before.before.before.before.before.before.before.before.before.before.before.before.before.before.before.args.coded.now (records_of c.before.before.before.before.before.before.before.before.before.before.before.before.before.before.before.before.before.before.args.records.now) c.before.before.before.before.before.before.before.before.before.before.before.before.before.before.before.before.before.before.args.packet.now c.before.before.before.before.before.before.before.before.before.before.before.before.before.before.before.before.before.before.args.at (string-got))
-    (c.raise_blocks.ensures.0 ∙ ap (λ (x : List ℕ). raised c.before.before.before.before.before.before.before.before.before.before.before.before.before.before.before.before.before.before.args.q c.before.before.before.before.before.before.before.before.before.before.before.before.before.before.before.before.before.before.args.coded.now x (records_of c.before.before.before.before.before.before.before.before.before.before.before.before.before.before.before.before.before.before.args.records.now)) (front), c.raise_blocks.ensures.1))
+    let string-got : bit_string Long (wanted) c.args.packet.now c.args.at ≡ got string c.in-At.place =
+        ap (λ (k : ℕ). bit_string Long k c.args.packet.now c.args.at) (sym (long ∙ count))
+        ∙ stored_at (bit_string Long (length (take c.count_at-n.result c.args.bits.now)) c.args.packet.now c.args.at) string c.read_string-string.ensures.value c.read_string-string.ensures.stored c.in-At.is in two (λ a b. record { value = a; kept_records = b }) (on_records _ (one_step c.args.q c.args.coded.now (records_of c.args.records.now) c.args.packet.now c.args.at)
+    (step_got c.args.q c.args.coded.now (records_of c.args.records.now) c.args.packet.now c.args.at (string-got))
+    (c.raise_blocks.ensures.0 ∙ ap (λ (x : List ℕ). raised c.args.q c.args.coded.now x (records_of c.args.records.now)) (front), c.raise_blocks.ensures.1))

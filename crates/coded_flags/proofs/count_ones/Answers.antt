@@ -1,10 +1,5 @@
-use Prim.Native.Nat.{◌+◌, ◌-◌, ◌≤◌}
 use native.Mathlib.Omega.{arith}
-use mathlib.Core.Path.{◌≡◌}
-use lib.ListN.{length, drop}
-use Rattle.coded_flags.specs.Flags.{ones}
 use Rattle.coded_flags.proofs.Spread.{ones_step, ones_done}
-use borrow.Author.Rules.{rules}
 use Rattle.coded_flags.proofs.count_ones.Goals as goal
 
 pub loop-i-preserved : goal.loop-i-preserved

@@ -1,11 +1,8 @@
 -- `coded_flags::count_ones` meets its contract. The invariant: the 1s so far, and those of the rest, are all. Assumes nothing.
 use Prim.Native.Nat.{◌+◌, ◌-◌, ◌≤◌}
-use native.Mathlib.Omega.{arith}
 use mathlib.Core.Path.{◌≡◌}
 use lib.ListN.{length, drop}
 use Rattle.coded_flags.specs.Flags.{ones}
-use Rattle.coded_flags.proofs.Spread.{ones_step, ones_done}
-use borrow.Author.Rules.{rules}
 use Rattle.coded_flags.proofs.count_ones.Given as goal
 
 abbrev pub invariant-loop-i : goal.invariant-loop-i

@@ -1,14 +1,12 @@
-use Prim.Native.Nat.{ℕ, ◌+◌, ◌-◌, ◌*◌, ◌≤◌}
+use Prim.Native.Nat.{ℕ}
 use native.Mathlib.Omega.{arith}
 use mathlib.Core.Path.{◌≡◌, ap, ◌∙◌}
-use lib.ListN.{length, drop, get_or}
+use lib.ListN.{get_or}
 use Rattle.bitstream.specs.Reading.{choose}
 use Rattle.geometry.specs.Sizes.{super_blocks_of}
 use Rattle.geometry.proofs.SizeLaws.{sizes_small}
 use lib.Dec.{eqb}
-use Rattle.coded_flags.specs.Flags.{sizes_from, super_sizes, partly_blocks}
-use Rattle.coded_flags.proofs.Spread.{blocks_start, blocks_step, blocks_done}
-use borrow.Author.Rules.{rules}
+use Rattle.coded_flags.proofs.Spread.{blocks_step, blocks_done}
 use Rattle.coded_flags.proofs.partly_blocks.Goals as goal
 
 pub overflow_add-n : goal.overflow_add-n

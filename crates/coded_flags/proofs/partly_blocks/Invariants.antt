@@ -1,15 +1,9 @@
 -- `coded_flags::partly_blocks` meets its contract. The invariant: the blocks so far, and those of the rest, are all. Assumes nothing.
-use Prim.Native.Nat.{ℕ, ◌+◌, ◌-◌, ◌*◌, ◌≤◌}
-use native.Mathlib.Omega.{arith}
-use mathlib.Core.Path.{◌≡◌, ap, ◌∙◌}
-use lib.ListN.{length, drop, get_or}
-use Rattle.bitstream.specs.Reading.{choose}
+use Prim.Native.Nat.{◌+◌, ◌-◌, ◌*◌, ◌≤◌}
+use mathlib.Core.Path.{◌≡◌}
+use lib.ListN.{length, drop}
 use Rattle.geometry.specs.Sizes.{super_blocks_of}
-use Rattle.geometry.proofs.SizeLaws.{sizes_small}
-use lib.Dec.{eqb}
 use Rattle.coded_flags.specs.Flags.{sizes_from, super_sizes, partly_blocks}
-use Rattle.coded_flags.proofs.Spread.{blocks_start, blocks_step, blocks_done}
-use borrow.Author.Rules.{rules}
 use Rattle.coded_flags.proofs.partly_blocks.Given as goal
 
 abbrev pub invariant-loop-k : goal.invariant-loop-k

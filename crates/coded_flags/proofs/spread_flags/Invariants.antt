@@ -1,11 +1,8 @@
 -- `coded_flags::spread_flags` meets its contract. The invariant: the flags so far, and what is left of the three strings. Assumes nothing.
-use Prim.Native.Nat.{◌-◌, ◌<◌}
-use native.Mathlib.Omega.{arith}
-use mathlib.Core.Path.{◌≡◌, refl, ◌∙◌}
+use Prim.Native.Nat.{◌-◌}
+use mathlib.Core.Path.{◌≡◌}
 use lib.ListN.{length}
-use Rattle.geometry.specs.Sizes.{super_blocks_of}
-use Rattle.coded_flags.proofs.Spread.{Spreading, spreading_start, spreading_done, bits_enough, full_enough, spreading_by}
-use borrow.Author.Rules.{rules}
+use Rattle.coded_flags.proofs.Spread.{Spreading}
 use Rattle.coded_flags.proofs.spread_flags.Given as goal
 
 abbrev pub invariant-loop-k : goal.invariant-loop-k

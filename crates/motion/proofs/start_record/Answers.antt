@@ -1,11 +1,10 @@
 -- `motion::start_record` meets its contract. Assumes nothing.
-use mathlib.Core.Path.{◌≡◌, sym, ap, ◌∙◌, subst}
+use mathlib.Core.Path.{sym, ap, ◌∙◌}
 use Rattle.block_record.specs.declared.Vector.{Vector}
 use Rattle.block_record.specs.declared.Prediction.TheVariants.{Previous}
-use Rattle.block_record.specs.Record.{VectorInRange, with_prediction}
+use Rattle.block_record.specs.Record.{with_prediction}
 use Rattle.block_record.specs.Packed.{packed, unpacked}
-use Rattle.motion.proofs.Kept.{zero_small, started_coded, started_not}
-use borrow.Author.Rules.{rules}
+use Rattle.motion.proofs.Kept.{started_coded, started_not}
 use Rattle.motion.proofs.start_record.Goals as goal
 
 pub returns-then-is_coded : goal.returns-then-is_coded

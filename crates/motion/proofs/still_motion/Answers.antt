@@ -5,7 +5,6 @@ use Rattle.block_record.specs.declared.Prediction.TheVariants.{Previous, Golden}
 use Rattle.motion.specs.declared.Motion.TheVariants.{One}
 use Rattle.motion.specs.Kept.{behind}
 use Rattle.motion.proofs.Kept.{still_intra, still_last, still_last2, still_golden, still_nomv}
-use borrow.Author.Rules.{rules}
 use Rattle.motion.proofs.still_motion.Goals as goal
 
 pub returns-then-mode-eq1 : goal.returns-then-mode-eq1
