@@ -9,8 +9,7 @@ use Rattle.numeric.specs.Divide.{floor_shift}
 use Rattle.numeric.proofs.Magnitude.{sub_cases}
 use Rattle.numeric.proofs.Known.{Known, k_any, k_lit, k_add, ask_add, k_shr}
 use Rattle.transform.specs.Residual.{rounded}
-use Rattle.transform.proofs.rounded.Statement.{statement}
-use Rattle.transform.proofs.rounded.Tie as tie
+use Rattle.transform.proofs.rounded.Goals as goal
 
 -- 8 is added once 3 bits are shifted out
 shifted-before : (x : ℤ) → floor_shift (floor_shift x 3 +ℤ pos 1) 1 ≡ floor_shift (x +ℤ pos 8) 4
@@ -24,19 +23,11 @@ shifted-before (negsuc a) =
     (λ k. absurd (omega arith))
     (λ k. let e : (1 - suc (a / 8)) / 2 ≡ (8 - suc a) / 16 = omega arith in ap pos e))
 
-module _ (c : tie.Start) where
-  abbrev eighth : Known w16 (floor_shift c.args.x 3) 4096
-  eighth = k_shr 3 4096 (k_any c.ranges.x) tt tt tt
-
-  abbrev half : Known w16 (floor_shift (floor_shift c.args.x 3 +ℤ pos 1) 1) 2049
-  half = k_shr 1 2049 (k_add eighth (k_lit 1 tt) tt) tt tt tt
-
-add-result : tie.Need-overflow-add-result
-add-result c = ask_add (eighth c) (k_lit 1 tt) tt
-
-returns : tie.Need-returns
+pub returns : goal.returns
 unfolding rounded
-returns c = (half c).reads ∙ shifted-before c.args.x
-
-pub rounded-spec : {M : Type 1} → statement M
-rounded-spec = tie.close (tie.spec add-result returns)
+returns c =
+    let eighth : Known w16 (floor_shift c.args.x 3) 4096 =
+        k_shr 3 4096 (k_any c.ranges.x) tt tt tt in
+    let half : Known w16 (floor_shift (floor_shift c.args.x 3 +ℤ pos 1) 1) 2049 =
+        k_shr 1 2049 (k_add eighth (k_lit 1 tt) tt) tt tt tt in
+    (half).reads ∙ shifted-before c.args.x
