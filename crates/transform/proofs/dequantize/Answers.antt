@@ -1,10 +1,8 @@
 -- `transform::dequantize` meets its contract. Assumes nothing.
-use borrow.Author.Rules.{rules}
 use mathlib.Core.Path.{ap, ap₂, ◌∙◌}
 use mathlib.Core.List.{List}
-use native.Mathlib.Omega.{arith}
 use lib.IntN.{ℤ}
-use lib.ListN.{set, length-set}
+use lib.ListN.{set}
 use mir.Syntax.{w16}
 use mir.Val.{to_z, of_z}
 use Rattle.numeric.proofs.Known.{back, k_any}

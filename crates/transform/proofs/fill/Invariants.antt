@@ -1,9 +1,8 @@
 -- `transform::fill` meets its contract. The loop's invariant: the first i are v. Assumes nothing.
-use mathlib.Core.Path.{◌≡◌, refl, ap, ◌∙◌}
+use mathlib.Core.Path.{◌≡◌}
 use Prim.Native.Nat.{ℕ, ◌≤◌, ◌-◌}
-use native.Mathlib.Omega.{arith}
-use lib.IntN.{ℤ, pos}
-use lib.ListN.{length, length-set, replicate}
+use lib.IntN.{ℤ}
+use lib.ListN.{length}
 use Rattle.transform.proofs.Sweep.{changed}
 use Rattle.transform.proofs.fill.Given as goal
 

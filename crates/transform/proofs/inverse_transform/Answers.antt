@@ -1,5 +1,4 @@
 -- `transform::inverse_transform` meets its contract. Assumes nothing.
-use borrow.Author.Rules.{rules}
 use mathlib.Core.Path.{ap, ◌∙◌}
 use Rattle.transform.specs.Block.{columns, inverse}
 use Rattle.transform.proofs.inverse_transform.Goals as goal

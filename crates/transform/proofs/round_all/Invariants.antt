@@ -1,14 +1,10 @@
 -- `transform::round_all` meets its contract. The loop's invariant: the first i are rounded. Assumes nothing.
-use mathlib.Core.Path.{◌≡◌, refl, ap, ◌∙◌}
+use mathlib.Core.Path.{◌≡◌}
 use Prim.Native.Nat.{ℕ, ◌≤◌, ◌-◌}
-use native.Mathlib.Omega.{arith}
-use borrow.Author.Rules.{rules}
-use lib.IntN.{ℤ, pos}
-use lib.ListN.{length, get_or, length-set}
-use mir.Syntax.{w16}
-use Rattle.numeric.proofs.Known.{back}
+use lib.IntN.{ℤ}
+use lib.ListN.{length}
 use Rattle.transform.specs.Residual.{rounded}
-use Rattle.transform.proofs.Sweep.{changed, turn, all_mapped}
+use Rattle.transform.proofs.Sweep.{changed}
 use Rattle.transform.proofs.round_all.Given as goal
 
 abbrev pub invariant-loop-i : goal.invariant-loop-i

@@ -7,7 +7,7 @@ use lib.Signed.{shr_z}
 use mir.Syntax.{w16}
 use Rattle.numeric.specs.Divide.{floor_shift}
 use Rattle.numeric.proofs.Magnitude.{sub_cases}
-use Rattle.numeric.proofs.Known.{Known, k_any, k_lit, k_add, ask_add, k_shr}
+use Rattle.numeric.proofs.Known.{Known, k_any, k_lit, k_add, k_shr}
 use Rattle.transform.specs.Residual.{rounded}
 use Rattle.transform.proofs.rounded.Goals as goal
 
@@ -27,7 +27,7 @@ pub returns : goal.returns
 unfolding rounded
 returns c =
     let eighth : Known w16 (floor_shift c.args.x 3) 4096 =
-        k_shr 3 4096 (k_any c.ranges.x) tt tt tt in
+    k_shr 3 4096 (k_any c.ranges.x) tt tt tt in
     let half : Known w16 (floor_shift (floor_shift c.args.x 3 +ℤ pos 1) 1) 2049 =
-        k_shr 1 2049 (k_add eighth (k_lit 1 tt) tt) tt tt tt in
+    k_shr 1 2049 (k_add eighth (k_lit 1 tt) tt) tt tt tt in
     (half).reads ∙ shifted-before c.args.x

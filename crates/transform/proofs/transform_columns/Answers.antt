@@ -1,9 +1,8 @@
 use mathlib.Core.Path.{◌≡◌, refl, ap, ◌∙◌}
 use mathlib.Core.List.{List}
-use Prim.Native.Nat.{ℕ, ◌≤◌, ◌+◌, ◌-◌}
+use Prim.Native.Nat.{ℕ, ◌+◌}
 use native.Mathlib.Numerals.{add-one}
 use native.Mathlib.Omega.{arith}
-use lib.ListN.{length}
 use lib.IntN.{ℤ}
 use Rattle.transform.specs.Block.{columns}
 use Rattle.lines.specs.Places.{transform_line}
@@ -19,7 +18,7 @@ loop-i-init c = (omega arith, refl, refl)
 
 pub loop-i-preserved : goal.loop-i-preserved
 loop-i-preserved c = (
-      omega arith,
-      c.transform_line.auto.s ∙ c.loop-i.invariant.1,
-      c.transform_line.ensures ∙ ap (λ (l : List ℤ). transform_line l (c.loop-i.i) 8) c.loop-i.invariant.2 ∙ more c.loop-i.i c.args.s.now,
-    )
+  omega arith,
+  c.transform_line.auto.s ∙ c.loop-i.invariant.1,
+  c.transform_line.ensures ∙ ap (λ (l : List ℤ). transform_line l (c.loop-i.i) 8) c.loop-i.invariant.2 ∙ more c.loop-i.i c.args.s.now,
+)

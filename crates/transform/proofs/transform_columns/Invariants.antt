@@ -1,13 +1,8 @@
 -- `transform::transform_columns` meets its contract. The loop's invariant: the first i columns are made. Assumes nothing.
-use mathlib.Core.Path.{◌≡◌, refl, ap, ◌∙◌}
-use mathlib.Core.List.{List}
-use Prim.Native.Nat.{ℕ, ◌≤◌, ◌+◌, ◌-◌}
-use native.Mathlib.Numerals.{add-one}
-use native.Mathlib.Omega.{arith}
+use mathlib.Core.Path.{◌≡◌}
+use Prim.Native.Nat.{◌≤◌, ◌-◌}
 use lib.ListN.{length}
-use lib.IntN.{ℤ}
 use Rattle.transform.specs.Block.{columns}
-use Rattle.lines.specs.Places.{transform_line}
 use Rattle.transform.proofs.transform_columns.Given as goal
 
 abbrev pub invariant-loop-i : goal.invariant-loop-i

@@ -1,9 +1,7 @@
-use borrow.Author.Rules.{rules}
 use mathlib.Core.Path.{◌≡◌, sym, ap, subst, ◌∙◌}
 use mathlib.Core.List.{List}
-use Prim.Native.Nat.{ℕ, ◌≤◌, ◌+◌, ◌*◌, ◌-◌}
+use Prim.Native.Nat.{ℕ, ◌+◌, ◌*◌}
 use native.Mathlib.Omega.{arith}
-use lib.ListN.{length}
 use lib.IntN.{ℤ}
 use Rattle.lines.specs.Line.{transformed_line}
 use Rattle.zig_zag.specs.Placing.{turned}
@@ -16,11 +14,11 @@ loop-i-init c = (omega arith, c.requires.1, no_row c.args.out.now c.args.turned.
 
 pub loop-i-preserved : goal.loop-i-preserved
 loop-i-preserved c = (
-      omega arith,
-      c.put_line.auto.s ∙ c.loop-i.invariant.1,
-      subst (λ (m : List ℤ). Both ((c.loop-i.i + 1) * 8) m (rows (c.loop-i.i + 1) (turned c.args.turned.now))) (sym c.put_line.ensures)
-          (next_row c.loop-i.out c.args.turned.now c.loop-i.i c.transformed_line-l.result (omega arith) (c.transformed_line-l.ensures ∙ ap transformed_line c.line_at.ensures) c.loop-i.invariant.2),
-    )
+  omega arith,
+  c.put_line.auto.s ∙ c.loop-i.invariant.1,
+  subst (λ (m : List ℤ). Both ((c.loop-i.i + 1) * 8) m (rows (c.loop-i.i + 1) (turned c.args.turned.now))) (sym c.put_line.ensures)
+      (next_row c.loop-i.out c.args.turned.now c.loop-i.i c.transformed_line-l.result (omega arith) (c.transformed_line-l.ensures ∙ ap transformed_line c.line_at.ensures) c.loop-i.invariant.2),
+)
 
 pub returns : goal.returns
 unfolding turned

@@ -1,11 +1,6 @@
 -- `transform::used` meets its contract. The loop's invariant: from 8 g on the coefficients are 0. Assumes nothing.
-use borrow.Author.Rules.{rules}
-use mathlib.Core.Path.{◌≡◌, refl, sym, ◌∙◌}
-use mathlib.Core.Bool.{Bool, true, false, not}
-use Prim.Native.Nat.{◌*◌, ◌-◌, ◌≤◌}
-use native.Mathlib.Omega.{arith}
+use Prim.Native.Nat.{◌*◌, ◌≤◌}
 use Rattle.zig_zag.specs.Placing.{ZerosFrom}
-use Rattle.transform.proofs.Zeros.{zeros_before}
 use Rattle.transform.proofs.used.Given as goal
 
 abbrev pub invariant-loop-g : goal.invariant-loop-g
