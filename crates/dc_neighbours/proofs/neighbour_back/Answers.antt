@@ -1,6 +1,5 @@
 -- `dc_neighbours::neighbour_back` meets its contract. Assumes nothing.
 use mathlib.Core.Path.{sym, ◌∙◌}
-use native.Mathlib.Omega.{arith}
 use Rattle.dc_neighbours.specs.Neighbours.{neighbour_back}
 use Rattle.dc_neighbours.proofs.neighbour_back.Goals as goal
 
