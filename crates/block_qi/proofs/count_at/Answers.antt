@@ -1,10 +1,7 @@
-use Prim.Native.Nat.{◌+◌, ◌-◌, ◌≤◌, ◌<◌}
+use Prim.Native.Nat.{◌<◌}
 use native.Mathlib.Omega.{arith}
-use mathlib.Core.Path.{◌≡◌}
-use lib.ListN.{length, get_or, drop}
+use lib.ListN.{length, get_or}
 use Rattle.bitstream.proofs.ListLaws.{all_at}
-use Rattle.block_record.specs.Memory.{records_of}
-use Rattle.block_qi.specs.BlockQi.{at_step}
 use Rattle.block_qi.proofs.Steps.{at_step_law, at_end}
 use borrow.Author.Rules.{rules}
 use Rattle.block_qi.proofs.count_at.Goals as goal

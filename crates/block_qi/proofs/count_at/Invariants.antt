@@ -1,13 +1,9 @@
 -- `block_qi::count_at` meets its contract. The invariant: those so far, and those of the rest, are all. Assumes nothing.
-use Prim.Native.Nat.{◌+◌, ◌-◌, ◌≤◌, ◌<◌}
-use native.Mathlib.Omega.{arith}
+use Prim.Native.Nat.{◌+◌, ◌-◌, ◌≤◌}
 use mathlib.Core.Path.{◌≡◌}
-use lib.ListN.{length, get_or, drop}
-use Rattle.bitstream.proofs.ListLaws.{all_at}
+use lib.ListN.{length, drop}
 use Rattle.block_record.specs.Memory.{records_of}
 use Rattle.block_qi.specs.BlockQi.{at_step}
-use Rattle.block_qi.proofs.Steps.{at_step_law, at_end}
-use borrow.Author.Rules.{rules}
 use Rattle.block_qi.proofs.count_at.Given as goal
 
 abbrev pub invariant-loop-i : goal.invariant-loop-i

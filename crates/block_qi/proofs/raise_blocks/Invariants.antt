@@ -1,11 +1,8 @@
 -- `block_qi::raise_blocks` meets its contract. The invariant: the records so far, and what is left of the coded blocks and of the bits. Assumes nothing.
 use Prim.Native.Nat.{◌-◌}
-use native.Mathlib.Omega.{arith}
-use mathlib.Core.Path.{◌≡◌, refl, ◌∙◌}
+use mathlib.Core.Path.{◌≡◌}
 use lib.ListN.{length}
-use Rattle.bitstream.proofs.ListLaws.{all_at}
-use Rattle.block_qi.proofs.Steps.{Raising, raising_start, raising_done, raising_needs, raising_on}
-use borrow.Author.Rules.{rules}
+use Rattle.block_qi.proofs.Steps.{Raising}
 use Rattle.block_qi.proofs.raise_blocks.Given as goal
 
 abbrev pub invariant-loop-i : goal.invariant-loop-i

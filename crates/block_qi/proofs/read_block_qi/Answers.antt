@@ -1,15 +1,11 @@
-use Prim.Native.Nat.{ℕ, ◌+◌, ◌-◌, ◌≤◌}
 use native.Mathlib.Omega.{arith}
-use mathlib.Core.Path.{◌≡◌, refl, sym, ◌∙◌, subst}
+use mathlib.Core.Path.{◌≡◌, refl, ◌∙◌}
 use mathlib.Core.List.{map}
-use lib.ListN.{length}
-use Rattle.bitstream.specs.Lists.{AllBelow}
 use Rattle.bitstream.proofs.Ends.{on_refused, end_refused}
 use Rattle.block_record.specs.Packed.{packed}
-use Rattle.block_record.specs.Memory.{AllPacked, records_of}
-use Rattle.block_qi.specs.BlockQi.{one_step, qi_steps, block_qi}
+use Rattle.block_record.specs.Memory.{records_of}
+use Rattle.block_qi.specs.BlockQi.{one_step, block_qi}
 use Rattle.block_qi.proofs.Steps.{steps_start, steps_refused, steps_on, steps_done, on_all, records_at}
-use borrow.Author.Rules.{rules}
 use Rattle.bitstream.proofs.Clauses.{two}
 use Rattle.block_qi.proofs.read_block_qi.Goals as goal
 

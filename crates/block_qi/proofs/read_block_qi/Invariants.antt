@@ -1,16 +1,9 @@
 -- `block_qi::read_block_qi` meets its contract. The invariant: all steps are the steps that are left, with the records as they are. Assumes nothing.
-use Prim.Native.Nat.{ℕ, ◌+◌, ◌-◌, ◌≤◌}
-use native.Mathlib.Omega.{arith}
-use mathlib.Core.Path.{◌≡◌, refl, sym, ◌∙◌, subst}
-use mathlib.Core.List.{map}
+use Prim.Native.Nat.{◌+◌, ◌-◌, ◌≤◌}
+use mathlib.Core.Path.{◌≡◌}
 use lib.ListN.{length}
-use Rattle.bitstream.specs.Lists.{AllBelow}
-use Rattle.bitstream.proofs.Ends.{on_refused, end_refused}
-use Rattle.block_record.specs.Packed.{packed}
 use Rattle.block_record.specs.Memory.{AllPacked, records_of}
-use Rattle.block_qi.specs.BlockQi.{one_step, qi_steps, block_qi}
-use Rattle.block_qi.proofs.Steps.{steps_start, steps_refused, steps_on, steps_done, on_all, records_at}
-use borrow.Author.Rules.{rules}
+use Rattle.block_qi.specs.BlockQi.{qi_steps, block_qi}
 use Rattle.block_qi.proofs.read_block_qi.Given as goal
 
 abbrev pub invariant-loop-q : goal.invariant-loop-q
