@@ -8,14 +8,13 @@ use mir.Syntax.{w32}
 use Rattle.numeric.proofs.Known.{back}
 use Rattle.fetches.specs.Motion.{inside, fetch}
 use Rattle.fetches.proofs.Leads.{in_plane}
-use borrow.Author.Rules.{rules}
 use Rattle.fetches.proofs.fetch.Goals as goal
 
 pub bounds-s-at : goal.bounds-s-at
 bounds-s-at c =
     let below : c.args.plane.offset + (c.inside-y.result * (8 * c.args.plane.across) + c.inside-x.result) < length c.args.s.now =
-        let i = in_plane c.args.plane c.inside-x.result c.inside-y.result c.inside-x.ensures.1 c.inside-y.ensures.1 in
-        omega (arith, i, c.requires.end) in
+    let i = in_plane c.args.plane c.inside-x.result c.inside-y.result c.inside-x.ensures.1 c.inside-y.ensures.1 in
+    omega (arith, i, c.requires.end) in
     below
 
 pub returns : goal.returns

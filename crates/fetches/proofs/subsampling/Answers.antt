@@ -3,7 +3,6 @@
 use mathlib.Core.Path.{sym, ap}
 use Rattle.fetches.specs.Motion.{subsampled_across, subsampled_up}
 use Rattle.fetches.proofs.Leads.{chroma}
-use borrow.Author.Rules.{rules}
 use Rattle.fetches.proofs.subsampling.Goals as goal
 
 pub returns-then-p-eq0 : goal.returns-then-p-eq0
