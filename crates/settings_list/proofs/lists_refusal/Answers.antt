@@ -1,5 +1,4 @@
 -- `settings_list::lists_refusal` meets its contract. Assumes nothing.
-use borrow.Author.Rules.{rules}
 use mathlib.Core.Path.{sym, ◌∙◌}
 use Rattle.settings_list.proofs.ShotLists.{number_1, number_20, number_lists, number_0}
 use Rattle.settings_list.proofs.lists_refusal.Goals as goal
