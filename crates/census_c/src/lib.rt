@@ -6,8 +6,7 @@ ghost use Rattle.census.specs.Call.{census_call};
 ghost use Rattle.census_c.specs.Face.{census_gives, census_face};
 
 // Adds a recording to a report of 34 numbers.
-#[unsafe(no_mangle)]
-pub extern "C" fn wedgepetal_census(
+pub fn wedgepetal_census(
     lengths: &[u64],
     packets: &[u8],
     report: &mut [u64],

@@ -6,8 +6,7 @@ ghost use Rattle.check_c.specs.Face.{check_gives, check_face};
 ghost use Rattle.check_answer.specs.Found.{returned};
 
 // Checks a file against two headers and packets.
-#[unsafe(no_mangle)]
-pub extern "C" fn wedgepetal_check(
+pub fn wedgepetal_check(
     identification: &[u8],
     setup: &[u8],
     lengths: &[u64],

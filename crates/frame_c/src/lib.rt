@@ -6,8 +6,7 @@ ghost use Rattle.calls.specs.Call.{call};
 ghost use Rattle.frame_c.specs.Face.{frame_gives, frame_call};
 
 // Decodes a frame packet into new.
-#[unsafe(no_mangle)]
-pub extern "C" fn wedgepetal_frame(
+pub fn wedgepetal_frame(
     session: &mut [u64],
     packet: &[u8],
     table: &[u8],

@@ -52,8 +52,7 @@ pub fn return_shot(answer: ShotAnswer, session: &mut [u64], names: &mut [u64]) -
 }
 
 // A whole shot: packets joined together, applied in order.
-#[unsafe(no_mangle)]
-pub extern "C" fn wedgepetal_shot(
+pub fn wedgepetal_shot(
     session: &mut [u64],
     names: &mut [u64],
     lengths: &[u64],

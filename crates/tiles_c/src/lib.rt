@@ -37,8 +37,7 @@ fn return_length(answer: MapLength, list: &mut [u64]) -> u32
 }
 
 // How many bytes a map of changed tiles has.
-#[unsafe(no_mangle)]
-pub extern "C" fn wedgepetal_tiles_length(
+pub fn wedgepetal_tiles_length(
     settings: &[u64],
     session: &[u64],
     length: &mut [u64],
@@ -55,8 +54,7 @@ pub extern "C" fn wedgepetal_tiles_length(
 }
 
 // Decodes a frame packet into new, and says in map which tiles changed.
-#[unsafe(no_mangle)]
-pub extern "C" fn wedgepetal_tiles_frame(
+pub fn wedgepetal_tiles_frame(
     settings: &[u64],
     session: &mut [u64],
     packet: &[u8],
