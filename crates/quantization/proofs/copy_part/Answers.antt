@@ -1,10 +1,6 @@
-use Prim.Native.Nat.{◌-◌, ◌≤◌}
 use native.Mathlib.Omega.{arith}
-use mathlib.Core.Path.{◌≡◌, refl, ap, ◌∙◌}
-use lib.ListN.{length, drop, length-set}
-use lib.Seq.{paste, paste-zero}
+use lib.ListN.{length-set}
 use Rattle.quantization.proofs.Layouts.{copy_more}
-use borrow.Author.Rules.{rules}
 use Rattle.quantization.proofs.copy_part.Goals as goal
 
 pub loop-k-preserved : goal.loop-k-preserved

@@ -1,10 +1,8 @@
 -- `quantization::matrices_end` meets its contract. Assumes nothing.
-use Prim.Native.Nat.{◌-◌}
 use native.Mathlib.Omega.{arith}
 use mathlib.Core.Path.{ap, sym}
 use Rattle.bitstream.specs.Answer.{as_end}
 use Rattle.quantization.proofs.Steps.{matrices_end, matrices_place}
-use borrow.Author.Rules.{rules}
 use Rattle.quantization.proofs.matrices_end.Goals as goal
 
 pub returns-then-left-count : goal.returns-then-left-count

@@ -1,11 +1,7 @@
 -- `quantization::read_set` meets its contract. Assumes nothing.
-use Rattle.quantization.proofs.Sets.{one_le}
 use Prim.Native.Nat.{◌+◌, ◌-◌, ◌*◌}
 use native.Mathlib.Omega.{arith}
-use mathlib.Core.Path.{◌≡◌, ◌∙◌}
-use borrow.Rule.Slice.PartMut.{mid_len}
 use Rattle.quantization.proofs.Sets.{new_answer, copy_answer}
-use borrow.Author.Rules.{rules}
 use Rattle.quantization.proofs.read_set.Goals as goal
 
 pub returns-then-back-eq0 : goal.returns-then-back-eq0

@@ -1,0 +1,32 @@
+-- `tokens::read_positions` meets its contract. The invariant: all positions from the start are the positions that are left, from what is stored; and the two lists hold the unfinished blocks. Assumes nothing.
+use borrow.Author.Rules.{rules}
+use Prim.Native.Nat.{ℕ, ◌+◌, ◌-◌, ◌<◌, ◌≤◌}
+use native.Mathlib.Omega.{arith}
+use native.Mathlib.Nat.{le_trans}
+use mathlib.Core.Path.{◌≡◌, refl, sym, ◌∙◌}
+use mathlib.Core.List.{List}
+use lib.ListN.{length, take, drop}
+use Rattle.bitstream.specs.Reading.{Outcome, got}
+use Rattle.huffman.specs.Tree.{Tree}
+use Rattle.block_visits.specs.Visits.{TokenState, state_of}
+use Rattle.table_choices.specs.Choices.{Choices, choices_of, choices}
+use Rattle.tokens.specs.Tokens.{at_position, positions_from, ranks}
+use Rattle.token_visits.specs.Answer.{room}
+use Rattle.tokens.specs.Answer.{trees_of, Current}
+use Rattle.token_visits.proofs.Goes.{room_most}
+use Rattle.table_choices.proofs.Choices.{chosen_tables, chosen_refused, choices_small}
+use Rattle.tokens.proofs.Positions.{position_goes, positions_none, positions_choices, positions_refused, positions_got, ranks_below}
+use Rattle.tokens.proofs.Groups.{current_start, current_chosen, current_on}
+use Rattle.tokens.proofs.Lists.{Lists, lists_start, luma_below, chroma_below, lists_on, lists_position}
+use Rattle.block_visits.proofs.Ways.{on_state, on_refusal, on_refused, visit_done, visit_refused}
+use Rattle.tokens.proofs.read_positions.Given as goal
+
+abbrev pub invariant-loop-k : goal.invariant-loop-k
+invariant-loop-k l = (l.k ≤ 64) × (length l.positions ≡ length l.initial.positions) × (length l.lasts ≡ length l.initial.lasts) × (length l.coefs ≡ length l.initial.coefs) × (length l.active ≡ length l.initial.active) × (l.y < 16) × (l.c < 16)
+    × (l.count + room l.positions ≤ room l.initial.positions) × Lists (length l.initial.positions) l.positions l.active l.luma l.lumas l.end
+    × (positions_from (trees_of l.nodes) (ranks 0 l.luma) (ranks l.luma (length l.initial.positions - l.luma)) 64 0 (choices_of 0 0) (state_of l.initial.positions l.initial.lasts l.initial.coefs 0 0) l.packet l.at
+    ≡ positions_from (trees_of l.nodes) (ranks 0 l.luma) (ranks l.luma (length l.initial.positions - l.luma)) (64 - l.k) l.k (choices_of l.y l.c) (state_of l.positions l.lasts l.coefs l.left l.count) l.packet l.place)
+    × Current l.nodes l.k l.y l.lumas l.luma_lookup × Current l.nodes l.k l.c (l.end - l.luma) l.chroma_lookup
+
+abbrev pub decreases-loop-k : goal.decreases-loop-k
+decreases-loop-k l = 64 - l.k
