@@ -1,6 +1,5 @@
 -- `super_list::list_block` meets its contract. Assumes nothing.
 use Prim.Native.Nat.{ℕ}
-use native.Mathlib.Omega.{arith}
 use mathlib.Core.Path.{◌≡◌, sym, ap, ◌∙◌, subst}
 use lib.Dec.{eqb}
 use lib.ListN.{get_or, set}
@@ -11,10 +10,7 @@ use Rattle.geometry.specs.Frame.{InFrame}
 use Rattle.geometry.proofs.FrameLaws.{frame_back}
 use Rattle.geometry.specs.Raster.{raster_number}
 use Rattle.coded_flags.specs.Coded.{order}
-use Rattle.bitstream.proofs.ListLaws.{if_other}
 use Rattle.coded_flags.proofs.Order.{order_at}
-use borrow.Author.Rules.{rules}
-use Rattle.bitstream.proofs.Clauses.{three}
 use Rattle.super_list.proofs.list_block.Goals as goal
 
 pub raster_number-n-requires : goal.raster_number-n-requires
@@ -23,7 +19,7 @@ raster_number-n-requires c = (c.requires.0, c.requires.1, subst (InFrame c.args.
 pub returns : goal.returns
 returns c =
     let number : c.raster_number-n.result ≡ get_or (order c.args.format c.args.w c.args.h) c.args.i 0 =
-        c.raster_number-n.ensures.0 ∙ ap (raster_number c.args.format c.args.w c.args.h) c.block_at-b.ensures ∙ sym (order_at c.args.format c.args.w c.args.h c.args.i c.requires.2) in
+    c.raster_number-n.ensures.0 ∙ ap (raster_number c.args.format c.args.w c.args.h) c.block_at-b.ensures ∙ sym (order_at c.args.format c.args.w c.args.h c.args.i c.requires.2) in
     record {
       value = c.list_number.ensures.value;
       records_after = c.list_number.ensures.records_after ∙ ap (λ (n : ℕ). choose (eqb c.args.flag 1) (set c.args.records.now n (packed now_coded)) c.args.records.now) number;

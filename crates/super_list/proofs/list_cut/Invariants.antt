@@ -1,13 +1,9 @@
 -- `super_list::list_cut` meets its contract. The invariant: the blocks from the first to before i are done. Assumes nothing.
-use Prim.Native.Nat.{ℕ, ◌-◌, ◌≤◌}
-use native.Mathlib.Omega.{arith}
-use mathlib.Core.Path.{◌≡◌, refl, ◌∙◌, subst}
-use lib.ListN.{length, get_or}
+use Prim.Native.Nat.{◌-◌, ◌≤◌}
+use mathlib.Core.Path.{◌≡◌}
+use lib.ListN.{length}
 use Rattle.coded_flags.specs.Coded.{order}
 use Rattle.super_list.specs.Listing.{Goes}
-use Rattle.coded_flags.proofs.Order.{order_length}
-use Rattle.super_list.proofs.Listing.{goes_on, counts_on}
-use borrow.Author.Rules.{rules}
 use Rattle.super_list.proofs.list_cut.Given as goal
 
 abbrev pub invariant-loop-i : goal.invariant-loop-i

@@ -1,40 +1,37 @@
-use Prim.Native.Nat.{ℕ, ◌+◌, ◌-◌, ◌*◌, ◌/◌, ◌%◌, ◌≤◌, ◌<◌}
+use Prim.Native.Nat.{ℕ, ◌+◌, ◌*◌, ◌/◌, ◌%◌, ◌<◌}
 use native.Mathlib.Omega.{arith}
-use mathlib.Core.Path.{◌≡◌, refl, sym, ap, ◌∙◌, subst}
-use mathlib.Core.List.{List}
+use mathlib.Core.Path.{◌≡◌, sym, ap, ◌∙◌, subst}
 use lib.Dec.{eqb}
-use lib.ListN.{length, get_or, set}
+use lib.ListN.{get_or, set}
 use Rattle.bitstream.specs.Reading.{choose}
 use Rattle.block_record.specs.Record.{now_coded}
 use Rattle.block_record.specs.Packed.{packed}
 use Rattle.geometry.specs.declared.Plane.{Plane}
 use Rattle.geometry.specs.Frame.{InFrame}
 use Rattle.geometry.proofs.FrameLaws.{frame_back}
-use Rattle.geometry.proofs.SizeLaws.{sizes_small, plane_of_small}
 use Rattle.coded_flags.specs.Coded.{order}
 use Rattle.super_list.specs.Listing.{Goes, walk_places}
 use Rattle.coded_flags.proofs.Order.{order_length, order_small}
-use Rattle.super_list.proofs.Listing.{goes_none, goes_on, counts_on}
-use Rattle.super_list.proofs.Whole.{walk_small, row_small, whole_number}
-use borrow.Author.Rules.{rules}
+use Rattle.super_list.proofs.Listing.{goes_on, counts_on}
+use Rattle.super_list.proofs.Whole.{whole_number}
 use Rattle.super_list.proofs.list_whole.Goals as goal
 
 pub raster_number-corner-requires : goal.raster_number-corner-requires
 raster_number-corner-requires c =
     let in_frame : InFrame c.args.format c.args.w c.args.h c.block_at-b.result =
-        subst (InFrame c.args.format c.args.w c.args.h) (sym c.block_at-b.ensures) (frame_back c.args.format c.args.w c.args.h c.args.first (omega (arith, c.requires.6))).0 in
+    subst (InFrame c.args.format c.args.w c.args.h) (sym c.block_at-b.ensures) (frame_back c.args.format c.args.w c.args.h c.args.first (omega (arith, c.requires.6))).0 in
     (c.requires.0, c.requires.1, in_frame)
 
 pub plane_of-plane-requires : goal.plane_of-plane-requires
 plane_of-plane-requires c =
     let in_frame : InFrame c.args.format c.args.w c.args.h c.block_at-b.result =
-        subst (InFrame c.args.format c.args.w c.args.h) (sym c.block_at-b.ensures) (frame_back c.args.format c.args.w c.args.h c.args.first (omega (arith, c.requires.6))).0 in
+    subst (InFrame c.args.format c.args.w c.args.h) (sym c.block_at-b.ensures) (frame_back c.args.format c.args.w c.args.h c.args.first (omega (arith, c.requires.6))).0 in
     (c.requires.0, c.requires.1, (in_frame).of_three)
 
 pub list_number-count-requires : goal.list_number-count-requires
 list_number-count-requires c =
     let number : (i : ℕ) → i < 16 → c.raster_number-corner.result + get_or walk_places i 0 / 4 * c.plane_of-plane.result.across + get_or walk_places i 0 % 4 ≡ get_or (order c.args.format c.args.w c.args.h) (c.args.first + i) 0 =
-        λ i l. whole_number c.args.format c.args.w c.args.h c.args.first c.requires.7 c.requires.6 c.block_at-b.result c.block_at-b.ensures c.raster_number-corner.result c.plane_of-plane.result.across c.raster_number-corner.ensures.0 (ap (λ (q : Plane). q.across) c.plane_of-plane.ensures) i l in
+    λ i l. whole_number c.args.format c.args.w c.args.h c.args.first c.requires.7 c.requires.6 c.block_at-b.result c.block_at-b.ensures c.raster_number-corner.result c.plane_of-plane.result.across c.raster_number-corner.ensures.0 (ap (λ (q : Plane). q.across) c.plane_of-plane.ensures) i l in
     let s = order_small c.args.format c.args.w c.args.h (c.args.first + c.loop-j.j) (omega (arith, c.loop-j-test.true, c.requires.6)) in
     (omega (arith, number c.loop-j.j c.loop-j-test.true, s, c.loop-j.invariant.0, c.requires.3), omega (arith, c.loop-j-test.true, c.loop-j.invariant.3, c.loop-j.invariant.1, c.requires.6, c.requires.4))
 
@@ -56,7 +53,7 @@ loop-j-preserved c = let flag = get_or c.args.flags.now (c.args.first + c.loop-j
 pub returns : goal.returns
 returns c =
     let number : (i : ℕ) → i < 16 → c.raster_number-corner.result + get_or walk_places i 0 / 4 * c.plane_of-plane.result.across + get_or walk_places i 0 % 4 ≡ get_or (order c.args.format c.args.w c.args.h) (c.args.first + i) 0 =
-        λ i l. whole_number c.args.format c.args.w c.args.h c.args.first c.requires.7 c.requires.6 c.block_at-b.result c.block_at-b.ensures c.raster_number-corner.result c.plane_of-plane.result.across c.raster_number-corner.ensures.0 (ap (λ (q : Plane). q.across) c.plane_of-plane.ensures) i l in
+    λ i l. whole_number c.args.format c.args.w c.args.h c.args.first c.requires.7 c.requires.6 c.block_at-b.result c.block_at-b.ensures c.raster_number-corner.result c.plane_of-plane.result.across c.raster_number-corner.ensures.0 (ap (λ (q : Plane). q.across) c.plane_of-plane.ensures) i l in
     let z : c.loop-j.j ≡ 16 = omega (arith, c.loop-j-test.false, c.loop-j.invariant.2) in
     let g = c.loop-j.invariant.4 (order c.args.format c.args.w c.args.h) (omega (arith, c.requires.6, order_length c.args.format c.args.w c.args.h)) (omega (arith, c.requires.6, c.requires.2)) (omega (arith, c.requires.6, c.requires.4)) (number) in
     (omega (arith, c.loop-j.invariant.3, z), subst (λ (k : ℕ). Goes (order c.args.format c.args.w c.args.h) c.args.flags.now c.args.records.now c.args.coded.now c.args.before c.args.first c.loop-j.records c.loop-j.coded c.loop-j.count (c.args.first + k)) z g)

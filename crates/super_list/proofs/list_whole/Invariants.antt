@@ -1,23 +1,9 @@
 -- `super_list::list_whole` meets its contract. The invariant: the first j blocks are done, for any list whose numbers the walk gives. Assumes nothing.
 use Prim.Native.Nat.{ℕ, ◌+◌, ◌-◌, ◌*◌, ◌/◌, ◌%◌, ◌≤◌, ◌<◌}
-use native.Mathlib.Omega.{arith}
-use mathlib.Core.Path.{◌≡◌, refl, sym, ap, ◌∙◌, subst}
+use mathlib.Core.Path.{◌≡◌}
 use mathlib.Core.List.{List}
-use lib.Dec.{eqb}
-use lib.ListN.{length, get_or, set}
-use Rattle.bitstream.specs.Reading.{choose}
-use Rattle.block_record.specs.Record.{now_coded}
-use Rattle.block_record.specs.Packed.{packed}
-use Rattle.geometry.specs.declared.Plane.{Plane}
-use Rattle.geometry.specs.Frame.{InFrame}
-use Rattle.geometry.proofs.FrameLaws.{frame_back}
-use Rattle.geometry.proofs.SizeLaws.{sizes_small, plane_of_small}
-use Rattle.coded_flags.specs.Coded.{order}
+use lib.ListN.{length, get_or}
 use Rattle.super_list.specs.Listing.{Goes, walk_places}
-use Rattle.coded_flags.proofs.Order.{order_length, order_small}
-use Rattle.super_list.proofs.Listing.{goes_none, goes_on, counts_on}
-use Rattle.super_list.proofs.Whole.{walk_small, row_small, whole_number}
-use borrow.Author.Rules.{rules}
 use Rattle.super_list.proofs.list_whole.Given as goal
 
 abbrev pub invariant-loop-j : goal.invariant-loop-j

@@ -1,10 +1,5 @@
-use Prim.Native.Nat.{◌-◌, ◌≤◌}
 use native.Mathlib.Omega.{arith}
-use mathlib.Core.Path.{◌≡◌, subst}
-use mathlib.Core.Bool.{true}
-use Rattle.super_list.specs.Listing.{NoneSet}
 use Rattle.super_list.proofs.Listing.{none_first, none_next}
-use borrow.Author.Rules.{rules}
 use Rattle.super_list.proofs.none_set.Goals as goal
 
 pub loop-i-init : goal.loop-i-init

@@ -1,11 +1,8 @@
 -- `super_list::none_set` meets its contract. The invariant: if so, none of the flags before i is 1. Assumes nothing.
 use Prim.Native.Nat.{◌-◌, ◌≤◌}
-use native.Mathlib.Omega.{arith}
-use mathlib.Core.Path.{◌≡◌, subst}
+use mathlib.Core.Path.{◌≡◌}
 use mathlib.Core.Bool.{true}
 use Rattle.super_list.specs.Listing.{NoneSet}
-use Rattle.super_list.proofs.Listing.{none_first, none_next}
-use borrow.Author.Rules.{rules}
 use Rattle.super_list.proofs.none_set.Given as goal
 
 abbrev pub invariant-loop-i : goal.invariant-loop-i
