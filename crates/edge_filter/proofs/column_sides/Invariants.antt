@@ -1,12 +1,9 @@
 -- `edge_filter::column_sides` meets its contract. The loop's invariant: k of the 8 are made.
 -- Assumes nothing.
-use mathlib.Core.Path.{◌≡◌, refl}
+use mathlib.Core.Path.{◌≡◌}
 use Prim.Native.Nat.{ℕ, ◌-◌, ◌≤◌, ◌<◌}
-use native.Mathlib.Omega.{arith}
-use lib.ListN.{length, get_or, length-set}
+use lib.ListN.{length, get_or}
 use Rattle.edge_filter.specs.Edge.{Pair, of_four}
-use Rattle.edge_filter.proofs.Edge.{set_more, pair_of}
-use borrow.Author.Rules.{rules}
 use Rattle.edge_filter.proofs.column_sides.Given as goal
 
 abbrev pub invariant-loop-k : goal.invariant-loop-k

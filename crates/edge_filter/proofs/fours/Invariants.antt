@@ -1,13 +1,9 @@
 -- `edge_filter::fours` meets its contract. The loop's invariant: k of the 8 are made.
 -- Assumes nothing.
-use mathlib.Core.Path.{◌≡◌, refl}
+use mathlib.Core.Path.{◌≡◌}
 use Prim.Native.Nat.{ℕ, ◌+◌, ◌-◌, ◌*◌, ◌≤◌, ◌<◌}
-use native.Mathlib.Nat.{mul-le-mul_right}
-use native.Mathlib.Omega.{arith}
-use lib.ListN.{length, get_or, length-set}
+use lib.ListN.{length, get_or}
 use Rattle.edge_filter.specs.Edge.{Four}
-use Rattle.edge_filter.proofs.Edge.{set_more}
-use borrow.Author.Rules.{rules}
 use Rattle.edge_filter.proofs.fours.Given as goal
 
 abbrev pub invariant-loop-k : goal.invariant-loop-k

@@ -1,11 +1,10 @@
-use mathlib.Core.Path.{◌≡◌, refl, sym, ap, ◌∙◌}
-use Prim.Native.Nat.{ℕ, ◌+◌, ◌-◌, ◌*◌, ◌≤◌, ◌<◌}
+use mathlib.Core.Path.{◌≡◌, sym, ap, ◌∙◌}
+use Prim.Native.Nat.{ℕ, ◌+◌, ◌*◌}
 use native.Mathlib.Omega.{arith}
-use lib.ListN.{length, get_or, length-set}
+use lib.ListN.{get_or, length-set}
 use Rattle.edge_filter.specs.Filter.{filtered}
 use Rattle.edge_filter.specs.Edge.{crossed}
 use Rattle.edge_filter.proofs.Edge.{sides_more}
-use borrow.Author.Rules.{rules}
 use Rattle.edge_filter.proofs.row_sides.Goals as goal
 
 pub loop-k-preserved : goal.loop-k-preserved

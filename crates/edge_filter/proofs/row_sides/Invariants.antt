@@ -1,13 +1,9 @@
 -- `edge_filter::row_sides` meets its contract. The loop's invariant: k of the 8 are made.
 -- Assumes nothing.
-use mathlib.Core.Path.{◌≡◌, refl, sym, ap, ◌∙◌}
-use Prim.Native.Nat.{ℕ, ◌+◌, ◌-◌, ◌*◌, ◌≤◌, ◌<◌}
-use native.Mathlib.Omega.{arith}
-use lib.ListN.{length, get_or, length-set}
-use Rattle.edge_filter.specs.Filter.{filtered}
+use mathlib.Core.Path.{◌≡◌}
+use Prim.Native.Nat.{ℕ, ◌+◌, ◌-◌, ◌≤◌, ◌<◌}
+use lib.ListN.{length, get_or}
 use Rattle.edge_filter.specs.Edge.{crossed}
-use Rattle.edge_filter.proofs.Edge.{sides_more}
-use borrow.Author.Rules.{rules}
 use Rattle.edge_filter.proofs.row_sides.Given as goal
 
 abbrev pub invariant-loop-k : goal.invariant-loop-k

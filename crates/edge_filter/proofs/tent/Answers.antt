@@ -3,7 +3,6 @@
 use mathlib.Core.Path.{◌∙◌}
 use native.Mathlib.Omega.{arith}
 use Rattle.edge_filter.proofs.Facts.{tent_low, tent_high}
-use borrow.Author.Rules.{rules}
 use Rattle.edge_filter.proofs.tent.Goals as goal
 
 pub returns-then-n-m : goal.returns-then-n-m

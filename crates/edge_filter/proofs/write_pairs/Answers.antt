@@ -1,13 +1,11 @@
 use mathlib.Core.Path.{◌≡◌, refl, sym, ap, ◌∙◌}
 use mathlib.Core.List.{List}
-use Prim.Native.Nat.{ℕ, ◌+◌, ◌-◌, ◌*◌, ◌/◌, ◌%◌, ◌≤◌}
-use native.Mathlib.Nat.{mul-le-mul_right}
+use Prim.Native.Nat.{ℕ, ◌+◌, ◌*◌, ◌/◌, ◌%◌}
 use native.Mathlib.Omega.{arith}
-use lib.ListN.{length, get_or, set, length-set}
+use lib.ListN.{get_or, set, length-set}
 use Rattle.ways.specs.Loops.{up_to}
 use Rattle.ways.proofs.Steps.{up_to_more}
 use Rattle.edge_filter.specs.Edge.{pairs_at}
-use borrow.Author.Rules.{rules}
 use Rattle.edge_filter.proofs.write_pairs.Goals as goal
 
 -- pair k, in its row

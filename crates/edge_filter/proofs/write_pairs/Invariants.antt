@@ -1,15 +1,10 @@
 -- `edge_filter::write_pairs` meets its contract. The loop's invariant: k of the 8 are written.
 -- Assumes nothing.
-use mathlib.Core.Path.{◌≡◌, refl, sym, ap, ◌∙◌}
+use mathlib.Core.Path.{◌≡◌}
 use mathlib.Core.List.{List}
 use Prim.Native.Nat.{ℕ, ◌+◌, ◌-◌, ◌*◌, ◌/◌, ◌%◌, ◌≤◌}
-use native.Mathlib.Nat.{mul-le-mul_right}
-use native.Mathlib.Omega.{arith}
-use lib.ListN.{length, get_or, set, length-set}
+use lib.ListN.{length, get_or, set}
 use Rattle.ways.specs.Loops.{up_to}
-use Rattle.ways.proofs.Steps.{up_to_more}
-use Rattle.edge_filter.specs.Edge.{pairs_at}
-use borrow.Author.Rules.{rules}
 use Rattle.edge_filter.proofs.write_pairs.Given as goal
 
 -- pair k, in its row
