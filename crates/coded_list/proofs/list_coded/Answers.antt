@@ -1,10 +1,9 @@
-use Prim.Native.Nat.{ℕ, ◌+◌, ◌-◌, ◌≤◌, ◌<◌}
+use Prim.Native.Nat.{ℕ, ◌+◌, ◌≤◌, ◌<◌}
 use native.Mathlib.Omega.{arith}
 use mathlib.Core.Path.{◌≡◌, refl, sym, ap, ◌∙◌, subst}
 use lib.ListN.{length, take, length-replicate}
 use Rattle.geometry.specs.declared.FrameSizes.{FrameSizes}
 use Rattle.geometry.specs.Sizes.{blocks_of, super_blocks_of}
-use Rattle.geometry.proofs.SizeLaws.{sizes_small}
 use Rattle.block_record.specs.Record.{now_coded}
 use Rattle.block_record.specs.Packed.{packed}
 use Rattle.coded_flags.specs.Coded.{order, coded_luma, coded_blocks, set_at}
@@ -15,8 +14,6 @@ use Rattle.super_list.proofs.Listing.{listing_start, listing_count, listing_numb
 use Rattle.coded_list.proofs.Listing.{records_packed, listed_by, luma_blocks, luma_part}
 use Rattle.coded_flags.proofs.Spread.{first_of, first_zero, first_next, first_all}
 use Rattle.super_list.proofs.Whole.{whole_at}
-use borrow.Author.Rules.{rules}
-use Rattle.bitstream.proofs.Clauses.{three}
 use Rattle.coded_list.proofs.list_coded.Goals as goal
 
 pub loop-k-init : goal.loop-k-init
@@ -25,7 +22,7 @@ loop-k-init c = (refl, refl, omega arith, omega arith, subst (λ (i : ℕ). List
 pub list_super-count-requires : goal.list_super-count-requires
 list_super-count-requires c =
     let all-supers : c.sizes-sizes.result.super_blocks ≡ super_blocks_of c.args.format c.args.w c.args.h =
-        ap (λ (s : FrameSizes). s.super_blocks) c.sizes-sizes.ensures in
+    ap (λ (s : FrameSizes). s.super_blocks) c.sizes-sizes.ensures in
     let n : length c.args.records.now ≡ blocks_of c.args.format c.args.w c.args.h = ap length c.requires.3 ∙ length-replicate {A = ℕ} _ 0 in
     let k : c.loop-k.k < super_blocks_of c.args.format c.args.w c.args.h = omega (arith, c.loop-k-test.true, all-supers) in (
       c.requires.0,
@@ -56,15 +53,13 @@ pub returns : goal.returns
 unfolding coded_blocks coded_luma
 returns c =
     let all-supers : c.sizes-sizes.result.super_blocks ≡ super_blocks_of c.args.format c.args.w c.args.h =
-        ap (λ (s : FrameSizes). s.super_blocks) c.sizes-sizes.ensures in
+    ap (λ (s : FrameSizes). s.super_blocks) c.sizes-sizes.ensures in
     let n = order_length c.args.format c.args.w c.args.h in
     let z : c.loop-k.k ≡ super_blocks_of c.args.format c.args.w c.args.h = omega (arith, c.loop-k-test.false, c.loop-k.invariant.2, all-supers) in
     let y : (first_of c.args.format c.args.w c.args.h c.loop-k.k) ≡ blocks_of c.args.format c.args.w c.args.h = ap (first_of c.args.format c.args.w c.args.h) z ∙ first_all c.args.format c.args.w c.args.h in
     let r : length (order c.args.format c.args.w c.args.h) ≤ (first_of c.args.format c.args.w c.args.h c.loop-k.k) = omega (arith, n, y) in
-    let m : c.loop-k.count ≤ length c.loop-k.coded = omega (arith, c.loop-k.invariant.1, c.loop-k.invariant.3, y, c.requires.4) in three (λ a b d. record { value = a; records_after = b; coded_after = d }) ((
-      listed_by c.args.format c.args.w c.args.h c.args.flags.now c.loop-k.count c.count_ones-first.result (listing_count (order c.args.format c.args.w c.args.h) c.args.flags.now c.args.records.now c.args.coded.now c.loop-k.records c.loop-k.coded c.loop-k.count (first_of c.args.format c.args.w c.args.h c.loop-k.k) c.loop-k.invariant.4 r m) (c.count_ones-first.ensures.0 ∙ ap (λ (k : ℕ). ones (take k c.args.flags.now)) (luma_blocks c.args.format c.args.w c.args.h c.plane_of-luma.result c.plane_of-luma.ensures)),
-      (
-        listing_marks (order c.args.format c.args.w c.args.h) c.args.flags.now c.args.records.now c.args.coded.now c.loop-k.records c.loop-k.coded c.loop-k.count (first_of c.args.format c.args.w c.args.h c.loop-k.k) c.loop-k.invariant.4 r m ∙ ap (set_at (packed now_coded) (coded_blocks c.args.format c.args.w c.args.h c.args.flags.now)) c.requires.3 ∙ sym (records_packed c.args.format c.args.w c.args.h c.args.flags.now),
-        listing_numbers (order c.args.format c.args.w c.args.h) c.args.flags.now c.args.records.now c.args.coded.now c.loop-k.records c.loop-k.coded c.loop-k.count (first_of c.args.format c.args.w c.args.h c.loop-k.k) c.loop-k.invariant.4 r m,
-      ),
-    ))
+    let m : c.loop-k.count ≤ length c.loop-k.coded = omega (arith, c.loop-k.invariant.1, c.loop-k.invariant.3, y, c.requires.4) in record {
+      value = listed_by c.args.format c.args.w c.args.h c.args.flags.now c.loop-k.count c.count_ones-first.result (listing_count (order c.args.format c.args.w c.args.h) c.args.flags.now c.args.records.now c.args.coded.now c.loop-k.records c.loop-k.coded c.loop-k.count (first_of c.args.format c.args.w c.args.h c.loop-k.k) c.loop-k.invariant.4 r m) (c.count_ones-first.ensures.0 ∙ ap (λ (k : ℕ). ones (take k c.args.flags.now)) (luma_blocks c.args.format c.args.w c.args.h c.plane_of-luma.result c.plane_of-luma.ensures));
+      records_after = listing_marks (order c.args.format c.args.w c.args.h) c.args.flags.now c.args.records.now c.args.coded.now c.loop-k.records c.loop-k.coded c.loop-k.count (first_of c.args.format c.args.w c.args.h c.loop-k.k) c.loop-k.invariant.4 r m ∙ ap (set_at (packed now_coded) (coded_blocks c.args.format c.args.w c.args.h c.args.flags.now)) c.requires.3 ∙ sym (records_packed c.args.format c.args.w c.args.h c.args.flags.now);
+      coded_after = listing_numbers (order c.args.format c.args.w c.args.h) c.args.flags.now c.args.records.now c.args.coded.now c.loop-k.records c.loop-k.coded c.loop-k.count (first_of c.args.format c.args.w c.args.h c.loop-k.k) c.loop-k.invariant.4 r m;
+    }

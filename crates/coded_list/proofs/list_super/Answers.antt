@@ -6,7 +6,6 @@ use Rattle.coded_flags.specs.Coded.{order}
 use Rattle.super_list.specs.Listing.{Goes, NoneSet}
 use Rattle.coded_flags.proofs.Order.{order_length}
 use Rattle.super_list.proofs.Listing.{goes_over}
-use borrow.Author.Rules.{rules}
 use Rattle.coded_list.proofs.list_super.Goals as goal
 
 pub returns-then-none_set : goal.returns-then-none_set
