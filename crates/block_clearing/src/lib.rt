@@ -1,4 +1,6 @@
 // Clearing the lists of a frame's blocks once the frame is made.
+#![tactic(auto)]
+
 ghost use Rattle.std.specs.Prelude.{◌≡◌, ◌-◌, ◌*◌, ◌≤◌, pos, length, drop, replicate};
 
 // What held the first `count` coded blocks becomes 0 everywhere. Behind their elements there is nothing to clear.

@@ -1,4 +1,6 @@
 // The place of a block by its raster number, for most without a division: the blocks of a super block stand in four rows, and those of the next one mostly in the same four.
+#![tactic(auto)]
+
 ghost use Rattle.std.specs.Prelude.{◌≡◌, ◌≤◌, ◌<◌};
 ghost use Rattle.geometry.specs.Sizes.{blocks_of, largest};
 ghost use Rattle.geometry.specs.Raster.{block_no};

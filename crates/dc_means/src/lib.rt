@@ -1,4 +1,6 @@
 // The means of neighbouring DC values, and which of them replaces a mean that is far.
+#![tactic(auto)]
+
 ghost use Rattle.std.specs.Prelude.{◌≡◌, ◌≤◌, nat_abs};
 ghost use Rattle.dc_means.specs.Means.{far, mean_ldl_d, mean_ldr, mean_dl_ddr, mean_of_two, replaced};
 

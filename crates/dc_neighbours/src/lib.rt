@@ -1,4 +1,6 @@
 // DC prediction of one block: the neighbours that count, and the prediction from them.
+#![tactic(auto)]
+
 ghost use Rattle.std.specs.Prelude.{◌≡◌, true, map, ◌+◌, ◌-◌, ◌≤◌, ◌<◌, nat_abs, length};
 ghost use Rattle.block_record.specs.Packed.{unpacked};
 ghost use Rattle.dc_neighbours.specs.Neighbours.{neighbour_at, neighbour_back, predicted};

@@ -1,4 +1,6 @@
 // DC prediction: what is added to the first coefficient of each coded block, over the planes of a frame.
+#![tactic(auto)]
+
 ghost use Rattle.std.specs.Prelude.{◌≡◌, true, map, ◌+◌, ◌*◌, ◌-◌, ◌≤◌, ◌<◌, length};
 ghost use Rattle.block_record.specs.Packed.{unpacked};
 ghost use Rattle.dc_prediction.specs.Planes.{RowFits, NoneCoded, coded_step, block_step, row, plane, predicted_dc};

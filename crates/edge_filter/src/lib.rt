@@ -1,4 +1,6 @@
 // The loop filter at one edge: 8 times across it, along a row or along a column.
+#![tactic(auto)]
+
 ghost use Rattle.std.specs.Prelude.{◌≡◌, ◌+◌, ◌*◌, ◌-◌, ◌≤◌, ◌<◌, nat_abs, length};
 ghost use Rattle.ways.specs.Ways.{edge};
 ghost use Rattle.edge_filter.specs.Filter.{response_of, tent_of, limited_of, filtered};

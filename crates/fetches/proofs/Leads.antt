@@ -14,8 +14,8 @@ use lib.Seq.{get_or-set_same, get_or-set_other}
 use lib.Signed.{lt_z, quot_z}
 use Rattle.numeric.proofs.Magnitude.{neg_yes, neg_no}
 use Rattle.geometry.specs.declared.PixelFormat.{PixelFormat}
+use Rattle.geometry.specs.declared.PixelFormat.TheVariants.{Chroma420, Chroma422, Chroma444}
 use Rattle.geometry.specs.declared.Plane.{Plane}
-use Rattle.geometry.specs.Sizes.{across, up}
 use Rattle.geometry.proofs.Raster.{raster_below}
 use Rattle.fetches.specs.Motion.{subsampled_across, subsampled_up, down, rounded_up, inside}
 
@@ -62,10 +62,17 @@ pub in_plane : (q : Plane) (x y : ℕ) → x < 8 * q.across → y < 8 * q.up →
 in_plane q x y hx hy = omega (arith, raster_below (8 * q.across) (8 * q.up) x y hx hy, mul-mul-mul_comm 8 q.up 8 q.across)
 
 -- ---- which planes are subsampled
+past_luma : (f : PixelFormat) (p : ℕ) → (subsampled_across f (suc p) ≡ subsampled_across f 1) × (subsampled_up f (suc p) ≡ subsampled_up f 1)
+unfolding subsampled_across subsampled_up
+past_luma Chroma420 p = (refl, refl)
+past_luma Chroma422 p = (refl, refl)
+past_luma Chroma444 p = (refl, refl)
+
 pub chroma : (f g : PixelFormat) (p : ℕ) → (p ≡ 0 → ⊥) → f ≡ g → (subsampled_across f p ≡ subsampled_across g 1) × (subsampled_up f p ≡ subsampled_up g 1)
 unfolding subsampled_across subsampled_up
 chroma f g zero n e = absurd (n refl)
-chroma f g (suc p) n e = (ap (λ (v : PixelFormat). subsampled_across v 1) e, ap (λ (v : PixelFormat). subsampled_up v 1) e)
+chroma f g (suc p) n e =
+    ((past_luma f p).0 ∙ ap (λ (v : PixelFormat). subsampled_across v 1) e, (past_luma f p).1 ∙ ap (λ (v : PixelFormat). subsampled_up v 1) e)
 
 -- a list of values f, one more
 pub set_each : (m : List ℕ) (f : ℕ → ℕ) (i v : ℕ) → i < length m → v ≡ f i → ((j : ℕ) → j < i → get_or m j 0 ≡ f j) → (j : ℕ) → j < i + 1 → get_or (set m i v) j 0 ≡ f j

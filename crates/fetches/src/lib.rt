@@ -1,4 +1,6 @@
 // What a vector fetches for a block: where its two fetches begin, and the means of them.
+#![tactic(auto)]
+
 ghost use Rattle.std.specs.Prelude.{◌≡◌, cond, ◌+◌, ◌*◌, ◌≤◌, ◌<◌, pos, nat_abs, ◌+ℤ◌, length};
 ghost use Rattle.geometry.specs.Sizes.{across};
 ghost use Rattle.block_record.specs.Record.{VectorInRange};

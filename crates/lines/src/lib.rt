@@ -1,4 +1,6 @@
 // Eight numbers that are transformed together: a row or a column of a block, found in a slice and put back.
+#![tactic(auto)]
+
 ghost use Rattle.std.specs.Prelude.{◌≡◌, ◌+◌, ◌*◌, ◌<◌, ◌+ℤ◌, ◌-ℤ◌, length};
 ghost use Rattle.numeric.specs.Cut.{cut};
 ghost use Rattle.lines.specs.Line.{upper_product, times_c4, first_terms, last_terms, outputs, transformed_line};

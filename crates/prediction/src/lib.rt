@@ -1,4 +1,6 @@
 // Prediction: the samples of a block, from golden or previous by its vector, with its residual.
+#![tactic(auto)]
+
 ghost use Rattle.std.specs.Prelude.{◌≡◌, ◌+◌, ◌*◌, ◌≤◌, ◌<◌, pos, nat_abs, ◌+ℤ◌, length, get_or};
 ghost use Rattle.numeric.specs.Clamp.{clamp255};
 ghost use Rattle.geometry.specs.Sizes.{across, blocks_of, largest};

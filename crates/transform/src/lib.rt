@@ -1,4 +1,6 @@
 // The residual of a block: its coefficients dequantised, and the inverse transform.
+#![tactic(auto)]
+
 ghost use Rattle.std.specs.Prelude.{◌≡◌, true, map, ℕ, ◌+◌, ◌*◌, ◌/◌, ◌%◌, ◌≤◌, ◌<◌, pos, length, get_or, replicate};
 ghost use Rattle.transform.specs.Block.{rows, columns, inverse};
 ghost use Rattle.zig_zag.specs.Values.{tabulated, values};

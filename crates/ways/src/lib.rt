@@ -1,4 +1,6 @@
 // The two ways of making a frame: definitions in specs/, theorems in proofs/. The crates above have the code, but for the row of 8 samples that two of them copy.
+#![tactic(auto)]
+
 ghost use Rattle.std.specs.Prelude.{◌≡◌, ◌+◌, ◌≤◌, length, get_or};
 ghost use Rattle.ways.specs.Corner.{row_at};
 

@@ -1,4 +1,6 @@
 // The values of a block: its coefficients, which stand in zig-zag order, dequantised and put to their places.
+#![tactic(auto)]
+
 ghost use Rattle.std.specs.Prelude.{◌≡◌, ◌+◌, ◌≤◌, length};
 ghost use Rattle.zig_zag.specs.Values.{dequantized};
 ghost use Rattle.zig_zag.specs.Placing.{StandsAt, Four, Grows, Fills};

@@ -1,5 +1,4 @@
 -- `lines::times_c4` meets its contract. Assumes nothing.
-use borrow.Author.Rules.{rules}
 use mathlib.Core.Path.{ap, ◌∙◌}
 use mir.Syntax.{w16}
 use Rattle.numeric.specs.Cut.{cut}

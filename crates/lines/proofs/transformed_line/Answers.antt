@@ -1,5 +1,4 @@
 -- `lines::transformed_line` meets its contract. Assumes nothing.
-use borrow.Author.Rules.{rules}
 use mathlib.Core.Path.{◌≡◌, ◌∙◌}
 use Rattle.numeric.specs.Cut.{cut}
 use Rattle.lines.specs.declared.Terms.{Terms}

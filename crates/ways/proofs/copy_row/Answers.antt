@@ -1,12 +1,11 @@
 use mathlib.Core.Path.{◌≡◌, refl, sym, ap, ◌∙◌}
 use mathlib.Core.List.{List}
-use Prim.Native.Nat.{ℕ, ◌+◌, ◌-◌, ◌≤◌}
+use Prim.Native.Nat.{ℕ, ◌+◌}
 use native.Mathlib.Omega.{arith}
-use lib.ListN.{length, get_or, set, length-set}
+use lib.ListN.{get_or, set, length-set}
 use Rattle.ways.specs.Loops.{up_to}
 use Rattle.ways.specs.Corner.{row_at}
 use Rattle.ways.proofs.Steps.{up_to_more}
-use borrow.Author.Rules.{rules}
 use Rattle.ways.proofs.copy_row.Goals as goal
 
 -- the sample in column c

@@ -1,14 +1,10 @@
 -- `ways::copy_row` meets its contract. The loop's invariant: c of the 8 samples are copied.
 -- Assumes nothing.
-use mathlib.Core.Path.{◌≡◌, refl, sym, ap, ◌∙◌}
+use mathlib.Core.Path.{◌≡◌}
 use mathlib.Core.List.{List}
 use Prim.Native.Nat.{ℕ, ◌+◌, ◌-◌, ◌≤◌}
-use native.Mathlib.Omega.{arith}
-use lib.ListN.{length, get_or, set, length-set}
+use lib.ListN.{length, get_or, set}
 use Rattle.ways.specs.Loops.{up_to}
-use Rattle.ways.specs.Corner.{row_at}
-use Rattle.ways.proofs.Steps.{up_to_more}
-use borrow.Author.Rules.{rules}
 use Rattle.ways.proofs.copy_row.Given as goal
 
 -- the sample in column c

@@ -1,5 +1,4 @@
 -- `zig_zag::place` meets its contract: a number goes to its other place in a turned block. Assumes nothing.
-use borrow.Author.Rules.{rules}
 use mathlib.Core.Path.{refl, ap, ◌∙◌}
 use mathlib.Core.List.{List}
 use Prim.Native.Nat.{ℕ, ◌+◌}

@@ -1,6 +1,4 @@
 -- `zig_zag::place_four` meets its contract. Assumes nothing.
-use mathlib.Core.Path.{refl, ◌∙◌}
-use Prim.Native.Nat.{◌+◌}
 use native.Mathlib.Omega.{arith}
 use Rattle.zig_zag.proofs.Placed.{stands_lt}
 use Rattle.zig_zag.proofs.place_four.Goals as goal

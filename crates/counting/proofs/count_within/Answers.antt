@@ -1,0 +1,18 @@
+use Prim.Native.Nat.{◌+◌, ◌-◌, ◌≤◌}
+use native.Mathlib.Omega.{arith}
+use mathlib.Core.Path.{◌≡◌}
+use mathlib.Core.Bool.{◌&&◌}
+use lib.Dec.{leb, ltb}
+use lib.ListN.{length, drop}
+use Rattle.counting.specs.Counts.{count_within}
+use Rattle.counting.proofs.Laws.{count_step, count_done}
+use borrow.Author.Rules.{rules}
+use Rattle.counting.proofs.count_within.Goals as goal
+
+pub loop-i-preserved : goal.loop-i-preserved
+loop-i-preserved c = let s = count_step (λ n. leb c.args.low n && ltb n c.args.high) c.args.numbers.now c.loop-i.i c.loop-i-test.true in
+    (omega arith, omega arith, omega arith)
+
+pub returns : goal.returns
+returns c = let s = count_done (λ n. leb c.args.low n && ltb n c.args.high) c.args.numbers.now c.loop-i.i c.loop-i-test.false in
+    omega arith
