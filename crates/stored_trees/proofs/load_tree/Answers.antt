@@ -1,10 +1,8 @@
-use borrow.Author.Rules.{rules}
-use Prim.Native.Nat.{ℕ, ◌+◌, ◌-◌, ◌*◌, ◌/◌, ◌%◌, ◌^◌, ◌≤◌}
+use Prim.Native.Nat.{ℕ, ◌+◌, ◌*◌, ◌/◌, ◌%◌, ◌^◌}
 use native.Mathlib.Omega.{arith}
-use mathlib.Core.Path.{◌≡◌, sym, ap, ◌∙◌}
-use mathlib.Core.Logic.{⊎_elim}
-use lib.ListN.{length, length-set}
-use Rattle.stored_trees.proofs.Loads.{Head, State, head_start, head_room, head_kept, head_filled, state_room, state_fork, state_full, state_cut, state_whole, state_open, state_leaf}
+use mathlib.Core.Path.{◌≡◌, ap, ◌∙◌}
+use lib.ListN.{length-set}
+use Rattle.stored_trees.proofs.Loads.{State, head_start, head_room, head_kept, head_filled, state_room, state_fork, state_full, state_cut, state_whole, state_open, state_leaf}
 use Rattle.bitstream.proofs.Clauses.{two}
 use Rattle.stored_trees.proofs.load_tree.Goals as goal
 use Rattle.stored_trees.proofs.load_tree.Goals.{then-leaves-eq0, else-leaves-eq0}
@@ -23,11 +21,11 @@ overflow_add-from c = let r = head_room c.args.packet.now c.args.at c.loop-leave
 pub loop-window-init : goal.loop-window-init
 loop-window-init c =
     let filled : (c.if-leaves-eq0.from ≡ c.args.at + (c.loop-leaves.leaves + 1 + 3) / 4 * 20) × State c.args.packet.now c.args.at c.if-leaves-eq0.window c.loop-leaves.index c.loop-leaves.leaves c.loop-leaves.open c.loop-leaves.nodes =
-        let k = c.loop-leaves.from + c.loop-leaves.index in
-        elim c.if-leaves-eq0.branch [
-            | then-leaves-eq0 x ↦ (omega (arith, c.loop-leaves.invariant.0, x.if-leaves-eq0.true, x.from-is), head_filled c.args.packet.now c.args.at c.loop-leaves.window c.loop-leaves.index c.loop-leaves.leaves c.loop-leaves.open c.loop-leaves.nodes c.loop-leaves.invariant.1 c.if-leaves-eq0.window k x.if-leaves-eq0.true (omega (arith, c.loop-leaves.invariant.0, x.if-leaves-eq0.true)) (x.window-is ∙ ap (λ (y : ℕ). y * 2 ^ (k % 8) % 2 ^ 64) x.window.ensures))
-            | else-leaves-eq0 x ↦ (omega (arith, c.loop-leaves.invariant.0, x.if-leaves-eq0.false, x.from-is), head_kept c.args.packet.now c.args.at c.loop-leaves.window c.loop-leaves.index c.loop-leaves.leaves c.loop-leaves.open c.loop-leaves.nodes c.loop-leaves.invariant.1 c.if-leaves-eq0.window x.window-is x.if-leaves-eq0.false)
-        ] in
+    let k = c.loop-leaves.from + c.loop-leaves.index in
+    elim c.if-leaves-eq0.branch [
+      | then-leaves-eq0 x ↦ (omega (arith, c.loop-leaves.invariant.0, x.if-leaves-eq0.true, x.from-is), head_filled c.args.packet.now c.args.at c.loop-leaves.window c.loop-leaves.index c.loop-leaves.leaves c.loop-leaves.open c.loop-leaves.nodes c.loop-leaves.invariant.1 c.if-leaves-eq0.window k x.if-leaves-eq0.true (omega (arith, c.loop-leaves.invariant.0, x.if-leaves-eq0.true)) (x.window-is ∙ ap (λ (y : ℕ). y * 2 ^ (k % 8) % 2 ^ 64) x.window.ensures))
+      | else-leaves-eq0 x ↦ (omega (arith, c.loop-leaves.invariant.0, x.if-leaves-eq0.false, x.from-is), head_kept c.args.packet.now c.args.at c.loop-leaves.window c.loop-leaves.index c.loop-leaves.leaves c.loop-leaves.open c.loop-leaves.nodes c.loop-leaves.invariant.1 c.if-leaves-eq0.window x.window-is x.if-leaves-eq0.false)
+    ] in
     (omega arith, (filled).1)
 
 pub returns-then-index-leaves : goal.returns-then-index-leaves
@@ -98,10 +96,10 @@ loop-leaves-smaller c = let r = state_room c.args.packet.now c.args.at c.loop-wi
 pub loop-leaves-preserved : goal.loop-leaves-preserved
 loop-leaves-preserved c =
     let filled : (c.if-leaves-eq0.from ≡ c.args.at + (c.loop-leaves.leaves + 1 + 3) / 4 * 20) × State c.args.packet.now c.args.at c.if-leaves-eq0.window c.loop-leaves.index c.loop-leaves.leaves c.loop-leaves.open c.loop-leaves.nodes =
-        let k = c.loop-leaves.from + c.loop-leaves.index in
-        elim c.if-leaves-eq0.branch [
-            | then-leaves-eq0 x ↦ (omega (arith, c.loop-leaves.invariant.0, x.if-leaves-eq0.true, x.from-is), head_filled c.args.packet.now c.args.at c.loop-leaves.window c.loop-leaves.index c.loop-leaves.leaves c.loop-leaves.open c.loop-leaves.nodes c.loop-leaves.invariant.1 c.if-leaves-eq0.window k x.if-leaves-eq0.true (omega (arith, c.loop-leaves.invariant.0, x.if-leaves-eq0.true)) (x.window-is ∙ ap (λ (y : ℕ). y * 2 ^ (k % 8) % 2 ^ 64) x.window.ensures))
-            | else-leaves-eq0 x ↦ (omega (arith, c.loop-leaves.invariant.0, x.if-leaves-eq0.false, x.from-is), head_kept c.args.packet.now c.args.at c.loop-leaves.window c.loop-leaves.index c.loop-leaves.leaves c.loop-leaves.open c.loop-leaves.nodes c.loop-leaves.invariant.1 c.if-leaves-eq0.window x.window-is x.if-leaves-eq0.false)
-        ] in
+    let k = c.loop-leaves.from + c.loop-leaves.index in
+    elim c.if-leaves-eq0.branch [
+      | then-leaves-eq0 x ↦ (omega (arith, c.loop-leaves.invariant.0, x.if-leaves-eq0.true, x.from-is), head_filled c.args.packet.now c.args.at c.loop-leaves.window c.loop-leaves.index c.loop-leaves.leaves c.loop-leaves.open c.loop-leaves.nodes c.loop-leaves.invariant.1 c.if-leaves-eq0.window k x.if-leaves-eq0.true (omega (arith, c.loop-leaves.invariant.0, x.if-leaves-eq0.true)) (x.window-is ∙ ap (λ (y : ℕ). y * 2 ^ (k % 8) % 2 ^ 64) x.window.ensures))
+      | else-leaves-eq0 x ↦ (omega (arith, c.loop-leaves.invariant.0, x.if-leaves-eq0.false, x.from-is), head_kept c.args.packet.now c.args.at c.loop-leaves.window c.loop-leaves.index c.loop-leaves.leaves c.loop-leaves.open c.loop-leaves.nodes c.loop-leaves.invariant.1 c.if-leaves-eq0.window x.window-is x.if-leaves-eq0.false)
+    ] in
     let r = state_room c.args.packet.now c.args.at c.loop-window.window c.loop-window.index c.loop-leaves.leaves c.loop-window.open c.loop-window.nodes c.loop-window.invariant.1 in
     ((filled).0, state_leaf c.args.packet.now c.args.at c.loop-window.window c.loop-window.index c.loop-leaves.leaves c.loop-window.open c.loop-window.nodes c.loop-window.invariant.1 (omega (arith, c.loop-window-test.false)) c.if-open-eq64.false)

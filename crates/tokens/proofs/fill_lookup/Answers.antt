@@ -1,12 +1,6 @@
 -- `tokens::fill_lookup` meets its contract. Assumes nothing.
-use borrow.Author.Rules.{rules}
-use Prim.Native.Nat.{ℕ}
-use mathlib.Core.Path.{ap, ◌∙◌}
-use lib.ListN.{replicate}
-use Rattle.code_lookup.specs.Lookup.{lookup_of}
 use Rattle.token.proofs.Rows.{values_length, value_small}
 use Rattle.token.proofs.Complete.{complete_length, complete_small}
-use Rattle.token_reader.proofs.Lookups.{lookup_empty, lookup_filled}
 use Rattle.tokens.proofs.fill_lookup.Goals as goal
 
 pub fill_by-requires : goal.fill_by-requires

@@ -1,8 +1,4 @@
 -- `tokens::keep_active` meets its contract. Assumes nothing.
-use borrow.Author.Rules.{rules}
-use native.Mathlib.Omega.{arith}
-use mathlib.Core.Path.{sym}
-use lib.Seq.{length-take-le}
 use Rattle.tokens.proofs.Unfinished.{behind_front, both_kept}
 use Rattle.tokens.proofs.keep_active.Goals as goal
 

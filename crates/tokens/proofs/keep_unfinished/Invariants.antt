@@ -1,12 +1,9 @@
 -- `tokens::keep_unfinished` meets its contract. The invariant: what is kept, and the unfinished ones of those still to be seen, are all unfinished ones. Assumes nothing.
-use borrow.Author.Rules.{rules}
-use Prim.Native.Nat.{◌+◌, ◌-◌, ◌≤◌}
-use native.Mathlib.Omega.{arith}
-use mathlib.Core.Path.{◌≡◌, refl, ◌∙◌}
+use Prim.Native.Nat.{◌-◌, ◌≤◌}
+use mathlib.Core.Path.{◌≡◌}
 use mathlib.Core.List.{◌++◌}
 use lib.ListN.{length, take, drop}
 use Rattle.tokens.specs.Answer.{unfinished_of}
-use Rattle.tokens.proofs.Unfinished.{keeps_start, keeps_on, keeps_end, same_head, same_rest}
 use Rattle.tokens.proofs.keep_unfinished.Given as goal
 
 abbrev pub invariant-loop-j : goal.invariant-loop-j

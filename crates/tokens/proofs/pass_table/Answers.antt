@@ -1,5 +1,4 @@
 -- `tokens::pass_table` meets its contract. Assumes nothing.
-use borrow.Author.Rules.{rules}
 use Prim.Native.Nat.{ℕ, ◌*◌}
 use native.Mathlib.Omega.{arith}
 use mathlib.Core.Path.{refl, sym, ap, ◌∙◌}
@@ -25,3 +24,11 @@ returns c = let s = state_of c.args.positions.now c.args.lasts.now c.args.coefs.
     (ap (λ (t : Tree). pass t c.args.k c.args.blocks.now s c.args.packet.now c.args.at)
     (tree_at_law c.args.nodes.now c.args.j c.requires.packet_len_bound.2 ∙ ap (λ (n : ℕ). tree_of (take n (drop (64 * c.args.j) c.args.nodes.now))) (sym (wide c.args.j))))
     c.pass_blocks.ensures.0 c.pass_blocks.ensures.1
+
+pub slice_bounds-pass_blocks-end : goal.slice_bounds-pass_blocks-end
+slice_bounds-pass_blocks-end c = omega (arith, nodes_long c.args.nodes.now c.requires.packet_len_bound.1, c.requires.packet_len_bound.2)
+
+pub pass_blocks-requires-clause-packet_len_bound : goal.pass_blocks-requires-clause-packet_len_bound
+pass_blocks-requires-clause-packet_len_bound c =
+    let p = c.requires.packet_len_bound in
+    (p.0, rw (wide c.args.j) (formed_at c.args.nodes.now p.1 c.args.j p.2), λ h. rw (wide c.args.j) (p.3 h), refl)

@@ -1,24 +1,13 @@
 -- `tokens::read_positions` meets its contract. The invariant: all positions from the start are the positions that are left, from what is stored; and the two lists hold the unfinished blocks. Assumes nothing.
-use borrow.Author.Rules.{rules}
-use Prim.Native.Nat.{ℕ, ◌+◌, ◌-◌, ◌<◌, ◌≤◌}
-use native.Mathlib.Omega.{arith}
-use native.Mathlib.Nat.{le_trans}
-use mathlib.Core.Path.{◌≡◌, refl, sym, ◌∙◌}
-use mathlib.Core.List.{List}
-use lib.ListN.{length, take, drop}
-use Rattle.bitstream.specs.Reading.{Outcome, got}
-use Rattle.huffman.specs.Tree.{Tree}
-use Rattle.block_visits.specs.Visits.{TokenState, state_of}
-use Rattle.table_choices.specs.Choices.{Choices, choices_of, choices}
-use Rattle.tokens.specs.Tokens.{at_position, positions_from, ranks}
+use Prim.Native.Nat.{◌+◌, ◌-◌, ◌<◌, ◌≤◌}
+use mathlib.Core.Path.{◌≡◌}
+use lib.ListN.{length}
+use Rattle.block_visits.specs.Visits.{state_of}
+use Rattle.table_choices.specs.Choices.{choices_of}
+use Rattle.tokens.specs.Tokens.{positions_from, ranks}
 use Rattle.token_visits.specs.Answer.{room}
 use Rattle.tokens.specs.Answer.{trees_of, Current}
-use Rattle.token_visits.proofs.Goes.{room_most}
-use Rattle.table_choices.proofs.Choices.{chosen_tables, chosen_refused, choices_small}
-use Rattle.tokens.proofs.Positions.{position_goes, positions_none, positions_choices, positions_refused, positions_got, ranks_below}
-use Rattle.tokens.proofs.Groups.{current_start, current_chosen, current_on}
-use Rattle.tokens.proofs.Lists.{Lists, lists_start, luma_below, chroma_below, lists_on, lists_position}
-use Rattle.block_visits.proofs.Ways.{on_state, on_refusal, on_refused, visit_done, visit_refused}
+use Rattle.tokens.proofs.Lists.{Lists}
 use Rattle.tokens.proofs.read_positions.Given as goal
 
 abbrev pub invariant-loop-k : goal.invariant-loop-k

@@ -1,10 +1,7 @@
-use borrow.Author.Rules.{rules}
-use Prim.Native.Nat.{◌-◌, ◌≤◌}
 use native.Mathlib.Omega.{arith}
-use mathlib.Core.Path.{◌≡◌, refl, ap, ◌∙◌}
-use lib.ListN.{length, take, length-set}
-use Rattle.tokens.specs.Tokens.{ranks}
-use Rattle.tokens.proofs.Positions.{written_start, written_on, written_all}
+use mathlib.Core.Path.{refl, ◌∙◌}
+use lib.ListN.{length-set}
+use Rattle.tokens.proofs.Positions.{written_start, written_on}
 use Rattle.tokens.proofs.write_ranks.Goals as goal
 
 pub loop-b-init : goal.loop-b-init

@@ -1,11 +1,8 @@
 -- `tokens::write_ranks` meets its contract. The invariant: the first b are the ranks of b blocks. Assumes nothing.
-use borrow.Author.Rules.{rules}
 use Prim.Native.Nat.{◌-◌, ◌≤◌}
-use native.Mathlib.Omega.{arith}
-use mathlib.Core.Path.{◌≡◌, refl, ap, ◌∙◌}
-use lib.ListN.{length, take, length-set}
+use mathlib.Core.Path.{◌≡◌}
+use lib.ListN.{length, take}
 use Rattle.tokens.specs.Tokens.{ranks}
-use Rattle.tokens.proofs.Positions.{written_start, written_on, written_all}
 use Rattle.tokens.proofs.write_ranks.Given as goal
 
 abbrev pub invariant-loop-b : goal.invariant-loop-b
