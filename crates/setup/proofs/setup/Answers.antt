@@ -12,6 +12,9 @@ use borrow.Author.Rules.{rules}
 use Rattle.bitstream.proofs.Clauses.{two}
 use Rattle.setup.proofs.setup.Goals as goal
 
+pub returns-then-table-ne-TABLE_BYTES : goal.returns-then-table-ne-TABLE_BYTES
+returns-then-table-ne-TABLE_BYTES c = two (λ a b. record { value = a; table_after = b }) (call_length c.args.table.now c.args.packet.now c.if-table-ne-TABLE_BYTES.true)
+
 pub scan-answer-requires : goal.scan-answer-requires
 scan-answer-requires c = subst⁻¹ (λ (l : List ℕ). length l ≤ 2 ^ 58) c.readable.ensures (readable_short c.args.packet.now)
 

@@ -12,6 +12,9 @@ use borrow.Author.Rules.{rules}
 use Rattle.bitstream.proofs.Clauses.{two}
 use Rattle.setup.proofs.table_is_genuine.Goals as goal
 
+pub returns-then-table-ne-TABLE_BYTES : goal.returns-then-table-ne-TABLE_BYTES
+returns-then-table-ne-TABLE_BYTES c = two (λ a b. record { value = a; left_by_some = b }) (both c.args.table.now (λ k h. (c.shared_slice_known-1.given k).fits) _ (not_length c.args.table.now c.if-table-ne-TABLE_BYTES.true))
+
 pub returns-in-Refused : goal.returns-in-Refused
 returns-in-Refused c = two (λ a b. record { value = a; left_by_some = b }) (both c.args.table.now (λ k h. (c.shared_slice_known-1.given k).fits) _ (not_read c.args.table.now c.if-table-ne-TABLE_BYTES.false (told_refused {B = Setup} false (setup_header c.args.table.now 0) (end_refused (told false (setup_header c.args.table.now 0)) c.scan.ensures c.in-Refused.is)).2))
 
