@@ -24,24 +24,24 @@ pub overflow_mul-place : goal.overflow_mul-place
 overflow_mul-place c =
     let more : (c.loop-k.place + 7 * c.load_tree-leaves.result - 1 ≤ bits c.args.packet.now) × (c.load_tree-leaves.result ≤ 32)
     × Trees c.args.count c.args.packet.now c.args.at (c.loop-k.place + 7 * c.load_tree-leaves.result - 1) (c.loop-k.k + 1) (put_mid (c.loop-k.k * 64) (c.loop-k.k * 64 + 64 - c.loop-k.k * 64) c.loop-k.nodes c.load_tree-leaves.new.nodes) =
-        let t = trees_loaded c.args.count c.args.packet.now c.args.at c.loop-k.place c.loop-k.k c.loop-k.nodes c.loop-k.invariant.2 c.loop-k-test.true (c.loop-k.k * 64 + 64 - c.loop-k.k * 64) (omega arith) c.load_tree-leaves.new.nodes c.load_tree-leaves.result c.load_tree-leaves.ensures.value c.if-leaves-eq0.false c.loop-k.invariant.1 c.load_tree-leaves.ensures.if_got in
-        (t.0, few_leaves c.args.count c.args.packet.now c.args.at c.loop-k.place c.loop-k.k c.loop-k.nodes c.loop-k.invariant.2 c.loop-k-test.true (c.loop-k.k * 64 + 64 - c.loop-k.k * 64) (omega arith) c.load_tree-leaves.new.nodes c.load_tree-leaves.result c.load_tree-leaves.ensures.value, t.1) in
+    let t = trees_loaded c.args.count c.args.packet.now c.args.at c.loop-k.place c.loop-k.k c.loop-k.nodes c.loop-k.invariant.2 c.loop-k-test.true (c.loop-k.k * 64 + 64 - c.loop-k.k * 64) (omega arith) c.load_tree-leaves.new.nodes c.load_tree-leaves.result c.load_tree-leaves.ensures.value c.if-leaves-eq0.false c.loop-k.invariant.1 c.load_tree-leaves.ensures.if_got in
+    (t.0, few_leaves c.args.count c.args.packet.now c.args.at c.loop-k.place c.loop-k.k c.loop-k.nodes c.loop-k.invariant.2 c.loop-k-test.true (c.loop-k.k * 64 + 64 - c.loop-k.k * 64) (omega arith) c.load_tree-leaves.new.nodes c.load_tree-leaves.result c.load_tree-leaves.ensures.value, t.1) in
     record { fits = omega (arith, (more).1) }
 
 pub overflow_add-place : goal.overflow_add-place
 overflow_add-place c =
     let more : (c.loop-k.place + 7 * c.load_tree-leaves.result - 1 ≤ bits c.args.packet.now) × (c.load_tree-leaves.result ≤ 32)
     × Trees c.args.count c.args.packet.now c.args.at (c.loop-k.place + 7 * c.load_tree-leaves.result - 1) (c.loop-k.k + 1) (put_mid (c.loop-k.k * 64) (c.loop-k.k * 64 + 64 - c.loop-k.k * 64) c.loop-k.nodes c.load_tree-leaves.new.nodes) =
-        let t = trees_loaded c.args.count c.args.packet.now c.args.at c.loop-k.place c.loop-k.k c.loop-k.nodes c.loop-k.invariant.2 c.loop-k-test.true (c.loop-k.k * 64 + 64 - c.loop-k.k * 64) (omega arith) c.load_tree-leaves.new.nodes c.load_tree-leaves.result c.load_tree-leaves.ensures.value c.if-leaves-eq0.false c.loop-k.invariant.1 c.load_tree-leaves.ensures.if_got in
-        (t.0, few_leaves c.args.count c.args.packet.now c.args.at c.loop-k.place c.loop-k.k c.loop-k.nodes c.loop-k.invariant.2 c.loop-k-test.true (c.loop-k.k * 64 + 64 - c.loop-k.k * 64) (omega arith) c.load_tree-leaves.new.nodes c.load_tree-leaves.result c.load_tree-leaves.ensures.value, t.1) in
+    let t = trees_loaded c.args.count c.args.packet.now c.args.at c.loop-k.place c.loop-k.k c.loop-k.nodes c.loop-k.invariant.2 c.loop-k-test.true (c.loop-k.k * 64 + 64 - c.loop-k.k * 64) (omega arith) c.load_tree-leaves.new.nodes c.load_tree-leaves.result c.load_tree-leaves.ensures.value c.if-leaves-eq0.false c.loop-k.invariant.1 c.load_tree-leaves.ensures.if_got in
+    (t.0, few_leaves c.args.count c.args.packet.now c.args.at c.loop-k.place c.loop-k.k c.loop-k.nodes c.loop-k.invariant.2 c.loop-k-test.true (c.loop-k.k * 64 + 64 - c.loop-k.k * 64) (omega arith) c.load_tree-leaves.new.nodes c.load_tree-leaves.result c.load_tree-leaves.ensures.value, t.1) in
     record { fits = omega (arith, (more).1, c.loop-k.invariant.1, c.requires.0) }
 
 pub loop-k-preserved : goal.loop-k-preserved
 loop-k-preserved c =
     let more : (c.loop-k.place + 7 * c.load_tree-leaves.result - 1 ≤ bits c.args.packet.now) × (c.load_tree-leaves.result ≤ 32)
     × Trees c.args.count c.args.packet.now c.args.at (c.loop-k.place + 7 * c.load_tree-leaves.result - 1) (c.loop-k.k + 1) (put_mid (c.loop-k.k * 64) (c.loop-k.k * 64 + 64 - c.loop-k.k * 64) c.loop-k.nodes c.load_tree-leaves.new.nodes) =
-        let t = trees_loaded c.args.count c.args.packet.now c.args.at c.loop-k.place c.loop-k.k c.loop-k.nodes c.loop-k.invariant.2 c.loop-k-test.true (c.loop-k.k * 64 + 64 - c.loop-k.k * 64) (omega arith) c.load_tree-leaves.new.nodes c.load_tree-leaves.result c.load_tree-leaves.ensures.value c.if-leaves-eq0.false c.loop-k.invariant.1 c.load_tree-leaves.ensures.if_got in
-        (t.0, few_leaves c.args.count c.args.packet.now c.args.at c.loop-k.place c.loop-k.k c.loop-k.nodes c.loop-k.invariant.2 c.loop-k-test.true (c.loop-k.k * 64 + 64 - c.loop-k.k * 64) (omega arith) c.load_tree-leaves.new.nodes c.load_tree-leaves.result c.load_tree-leaves.ensures.value, t.1) in
+    let t = trees_loaded c.args.count c.args.packet.now c.args.at c.loop-k.place c.loop-k.k c.loop-k.nodes c.loop-k.invariant.2 c.loop-k-test.true (c.loop-k.k * 64 + 64 - c.loop-k.k * 64) (omega arith) c.load_tree-leaves.new.nodes c.load_tree-leaves.result c.load_tree-leaves.ensures.value c.if-leaves-eq0.false c.loop-k.invariant.1 c.load_tree-leaves.ensures.if_got in
+    (t.0, few_leaves c.args.count c.args.packet.now c.args.at c.loop-k.place c.loop-k.k c.loop-k.nodes c.loop-k.invariant.2 c.loop-k-test.true (c.loop-k.k * 64 + 64 - c.loop-k.k * 64) (omega arith) c.load_tree-leaves.new.nodes c.load_tree-leaves.result c.load_tree-leaves.ensures.value, t.1) in
     (omega (arith, c.loop-k-test.true), (more).0, (more).2)
 
 pub returns : goal.returns

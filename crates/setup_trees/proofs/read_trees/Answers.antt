@@ -17,9 +17,9 @@ returns-in-Refused c = two (λ a b. record { value = a; trees_filled = b }) (tre
 
 pub loop-k-preserved : goal.loop-k-preserved
 loop-k-preserved c = (
-      omega (arith, c.loop-k-test.true),
-      trees_more 80 c.args.packet.now c.args.at c.loop-k.place c.loop-k.k c.loop-k.nodes c.loop-k.invariant.1 c.loop-k-test.true (c.loop-k.k * 64 + 64 - c.loop-k.k * 64) (omega arith) c.read_tree-one.new.nodes c.read_tree-one.ensures.value c.read_tree-one.ensures.nodes_after c.in-At.is,
-    )
+  omega (arith, c.loop-k-test.true),
+  trees_more 80 c.args.packet.now c.args.at c.loop-k.place c.loop-k.k c.loop-k.nodes c.loop-k.invariant.1 c.loop-k-test.true (c.loop-k.k * 64 + 64 - c.loop-k.k * 64) (omega arith) c.read_tree-one.new.nodes c.read_tree-one.ensures.value c.read_tree-one.ensures.nodes_after c.in-At.is,
+)
 
 pub returns : goal.returns
 returns c = two (λ a b. record { value = a; trees_filled = b }) (trees_done 80 c.args.packet.now c.args.at c.loop-k.place c.loop-k.k c.loop-k.nodes c.loop-k.invariant.1 c.loop-k-test.false c.loop-k.invariant.0)
