@@ -1,9 +1,6 @@
 -- `counting::count_blocks` meets its contract. Assumes nothing.
-use Prim.Native.Nat.{ℕ, ◌/◌}
-use native.Mathlib.Omega.{arith}
-use mathlib.Core.Path.{◌≡◌}
+use Prim.Native.Nat.{◌/◌}
 use Rattle.counting.proofs.Planes.{Three, three, three_fit, three_counts}
-use borrow.Author.Rules.{rules}
 use Rattle.counting.proofs.count_blocks.Goals as goal
 
 pub overflow_sub-first_rest : goal.overflow_sub-first_rest

@@ -1,10 +1,8 @@
-use Prim.Native.Nat.{ℕ, ◌-◌, ◌≤◌, ◌<◌}
+use Prim.Native.Nat.{◌<◌}
 use native.Mathlib.Omega.{arith}
-use mathlib.Core.Path.{◌≡◌, refl}
-use lib.ListN.{length, get_or}
+use lib.ListN.{get_or}
 use Rattle.bitstream.proofs.ListLaws.{all_at}
-use Rattle.counting.proofs.Laws.{ModesSoFar, modes_start, modes_more, modes_all}
-use borrow.Author.Rules.{rules}
+use Rattle.counting.proofs.Laws.{modes_more, modes_all}
 use Rattle.counting.proofs.count_modes.Goals as goal
 
 pub bounds-counts-mode : goal.bounds-counts-mode
