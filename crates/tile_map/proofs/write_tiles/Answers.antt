@@ -1,8 +1,7 @@
-use Prim.Native.Nat.{ℕ, ◌+◌, ◌-◌, ◌*◌, ◌/◌, ◌%◌, ◌≤◌, ◌<◌, min}
+use Prim.Native.Nat.{ℕ, ◌+◌, ◌-◌, ◌*◌, ◌≤◌}
 use native.Mathlib.Nat.{suc-mul, zero-mul}
 use native.Mathlib.Omega.{arith}
-use mathlib.Core.Path.{◌≡◌, refl, sym, ap, ◌∙◌, subst}
-use mathlib.Core.List.{List}
+use mathlib.Core.Path.{◌≡◌, refl, sym, ap, ◌∙◌}
 use lib.ListN.{length, take, drop}
 use lib.Seq.{take_all}
 use Rattle.geometry.specs.Sizes.{squares as tiles}
@@ -11,9 +10,7 @@ use Rattle.geometry.specs.Square.{reach}
 use Rattle.output.proofs.Splices.{part_length}
 use Rattle.rows.proofs.Facts.{row_fits}
 use Rattle.tile_map.specs.Tiles.{strip_map}
-use Rattle.tile_map.proofs.Strips.{column_inside}
-use Rattle.tile_map.proofs.Planes.{strip_inside, strip_at, strips_all, no_strip, strips_more, tiles_small}
-use borrow.Author.Rules.{rules}
+use Rattle.tile_map.proofs.Planes.{strip_inside, strip_at, strips_all, no_strip, strips_more}
 use Rattle.tile_map.proofs.write_tiles.Goals as goal
 
 pub loop-y-init : goal.loop-y-init
@@ -22,9 +19,9 @@ loop-y-init c = (omega arith, sym (zero-mul _), refl, no_strip c.args.first c.ar
 pub write_tile_row-requires : goal.write_tile_row-requires
 write_tile_row-requires c =
     let inside : c.args.tile * c.loop-y.y * c.args.row + reach c.args.tile c.args.rows c.loop-y.y * c.args.row ≤ c.args.rows * c.args.row =
-        strip_inside c.args.row c.args.rows c.args.tile c.loop-y.y c.loop-y-test.true c.requires.tile.0 in
+    strip_inside c.args.row c.args.rows c.args.tile c.loop-y.y c.loop-y-test.true c.requires.tile.0 in
     let room : c.loop-y.at + tiles c.args.tile c.args.row ≤ length c.loop-y.map =
-        omega (arith, row_fits c.loop-y.y (tiles c.args.tile c.args.rows) (tiles c.args.tile c.args.row) c.loop-y-test.true, c.loop-y.invariant.1, c.loop-y.invariant.2, c.requires.tile.3) in
+    omega (arith, row_fits c.loop-y.y (tiles c.args.tile c.args.rows) (tiles c.args.tile c.args.row) c.loop-y-test.true, c.loop-y.invariant.1, c.loop-y.invariant.2, c.requires.tile.3) in
     let i = inside in
     let n = tiles c.args.tile c.args.row in
     let d : c.loop-y.at + n - c.loop-y.at ≡ n = omega arith in
@@ -34,7 +31,7 @@ write_tile_row-requires c =
 pub loop-y-preserved : goal.loop-y-preserved
 loop-y-preserved c =
     let room : c.loop-y.at + tiles c.args.tile c.args.row ≤ length c.loop-y.map =
-        omega (arith, row_fits c.loop-y.y (tiles c.args.tile c.args.rows) (tiles c.args.tile c.args.row) c.loop-y-test.true, c.loop-y.invariant.1, c.loop-y.invariant.2, c.requires.tile.3) in
+    omega (arith, row_fits c.loop-y.y (tiles c.args.tile c.args.rows) (tiles c.args.tile c.args.row) c.loop-y-test.true, c.loop-y.invariant.1, c.loop-y.invariant.2, c.requires.tile.3) in
     let t = tiles c.args.tile c.args.row in (
       omega arith,
       omega (arith, c.loop-y.invariant.1, suc-mul c.loop-y.y t),
