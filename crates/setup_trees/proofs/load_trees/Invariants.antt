@@ -1,0 +1,12 @@
+-- `setup_trees::load_trees` meets its contract. The invariant: the trees so far, an even number of them, lie in the slice, zeros behind them. Assumes nothing.
+use Prim.Native.Nat.{◌-◌, ◌%◌, ◌≤◌}
+use mathlib.Core.Path.{◌≡◌}
+use Rattle.bitstream.specs.Bits.{bits}
+use Rattle.setup_trees.proofs.Loop.{Trees}
+use Rattle.setup_trees.proofs.load_trees.Given as goal
+
+abbrev pub invariant-loop-k : goal.invariant-loop-k
+invariant-loop-k l = (l.k ≤ 80) × (l.k % 2 ≡ 0) × (l.place ≤ bits l.packet) × Trees 80 l.packet l.at l.place l.k l.nodes
+
+abbrev pub decreases-loop-k : goal.decreases-loop-k
+decreases-loop-k l = 80 - l.k
