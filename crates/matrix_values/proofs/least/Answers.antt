@@ -1,5 +1,4 @@
 -- `matrix_values::least` meets its contract. Assumes nothing.
-use Prim.Native.Nat.{◌-◌}
 use native.Mathlib.Omega.{arith}
 use Rattle.matrix_values.proofs.Values.{least_intra_dc, least_inter_dc, least_intra_ac, least_inter_ac}
 use Rattle.matrix_values.proofs.least.Goals as goal

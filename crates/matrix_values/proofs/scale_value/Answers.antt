@@ -1,8 +1,5 @@
 -- `matrix_values::scale_value` meets its contract. Assumes nothing.
-use Prim.Native.Nat.{◌-◌}
-use native.Mathlib.Omega.{arith}
-use Rattle.matrix_values.proofs.Values.{product_fits, scaled_high, scaled_low, scaled_middle}
-use borrow.Author.Rules.{rules}
+use Rattle.matrix_values.proofs.Values.{scaled_high, scaled_low, scaled_middle}
 use Rattle.matrix_values.proofs.scale_value.Goals as goal
 
 pub returns-then-quarter-ge25600 : goal.returns-then-quarter-ge25600

@@ -1,11 +1,7 @@
 -- `quant_ranges::range_of` meets its contract. The invariant: all ranges so far end before qi. Assumes nothing.
-use Prim.Native.Nat.{ℕ, ◌+◌, ◌-◌, ◌≤◌, ◌<◌}
-use native.Mathlib.Omega.{arith}
-use mathlib.Core.Path.{◌≡◌, ap, sym, ◌∙◌}
-use native.Mathlib.Nat.{add-zero}
-use lib.ListN.{get_or, take, drop}
-use Rattle.quant_ranges.proofs.Ranges.{Walk, walk_start, walk_more, walk_done, part_long, part_at}
-use borrow.Author.Rules.{rules}
+use Prim.Native.Nat.{◌-◌, ◌≤◌, ◌<◌}
+use lib.ListN.{take, drop}
+use Rattle.quant_ranges.proofs.Ranges.{Walk}
 use Rattle.quant_ranges.proofs.range_of.Given as goal
 
 abbrev pub invariant-loop-start : goal.invariant-loop-start

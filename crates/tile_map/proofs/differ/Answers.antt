@@ -14,6 +14,6 @@ loop-i-init c = (omega arith, differ_none c.args.previous.now c.args.new.now c.a
 
 pub loop-i-preserved : goal.loop-i-preserved
 loop-i-preserved c = let k = c.args.at + c.loop-i.i in (
-      omega arith,
-      ap (λ (b : Bool). b || not (eqb (get_or c.args.previous.now k 0) (get_or c.args.new.now k 0))) c.loop-i.invariant.1 ∙ differ_more c.args.previous.now c.args.new.now c.args.at c.loop-i.i,
-    )
+  omega arith,
+  ap (λ (b : Bool). b || not (eqb (get_or c.args.previous.now k 0) (get_or c.args.new.now k 0))) c.loop-i.invariant.1 ∙ differ_more c.args.previous.now c.args.new.now c.args.at c.loop-i.i,
+)

@@ -13,7 +13,7 @@ loop-i-init c = (omega arith, refl, differ_none c.args.previous.now c.args.new.n
 
 pub loop-i-preserved : goal.loop-i-preserved
 loop-i-preserved c = (
-      omega arith,
-      omega arith,
-      (λ j. c.loop-i.invariant.2 j || c.differ-eight.ensures j) ∙ differ_add c.args.previous.now c.args.new.now c.args.at c.loop-i.i 8,
-    )
+  omega arith,
+  omega arith,
+  (λ j. c.loop-i.invariant.2 j || c.differ-eight.ensures j) ∙ differ_add c.args.previous.now c.args.new.now c.args.at c.loop-i.i 8,
+)

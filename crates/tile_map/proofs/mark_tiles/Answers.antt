@@ -18,9 +18,9 @@ after previous new from row tile map x = choose (differ previous new (from + til
 pub mark-requires : goal.mark-requires
 mark-requires c =
     let inside : c.loop-x.x < tiles c.args.tile c.args.row =
-        omega (arith, c.loop-x-test.true, c.loop-x.invariant.1, c.requires.3) in
+    omega (arith, c.loop-x-test.true, c.loop-x.invariant.1, c.requires.3) in
     let fits : c.args.tile * c.loop-x.x + reach c.args.tile c.args.row c.loop-x.x ≤ c.args.row =
-        reach_inside c.args.tile c.args.row c.loop-x.x (inside) c.requires.0 in
+    reach_inside c.args.tile c.args.row c.loop-x.x (inside) c.requires.0 in
     let f = fits in (
       subst (λ (v : ℕ). v ≤ 1) (sym (c.loop-x.invariant.3 c.loop-x.x (omega arith))) (c.requires.4 c.loop-x.x (omega (arith, c.loop-x-test.true, c.loop-x.invariant.1))),
       (omega (arith, f, c.lesser-n.ensures, c.requires.2.0), omega (arith, f, c.lesser-n.ensures, c.requires.2.1)),

@@ -13,10 +13,10 @@ use Rattle.tile_map.proofs.write_tile_row.Goals as goal
 
 pub loop-r-init : goal.loop-r-init
 loop-r-init c = let e : 0 * c.args.row ≡ 0 = zero-mul c.args.row in (
-      omega arith,
-      omega (arith, e),
-      c.clear_bytes.ensures ∙ cleared_all 0 c.args.map.now ∙ strip_none c.args.previous.now c.args.new.now c.args.from c.args.row c.args.tile c.args.map.now c.requires.3,
-    )
+  omega arith,
+  omega (arith, e),
+  c.clear_bytes.ensures ∙ cleared_all 0 c.args.map.now ∙ strip_none c.args.previous.now c.args.new.now c.args.from c.args.row c.args.tile c.args.map.now c.requires.3,
+)
 
 pub mark_row-requires : goal.mark_row-requires
 mark_row-requires c = let h = row_fits c.loop-r.r c.args.rows c.args.row c.loop-r-test.true in
@@ -25,9 +25,9 @@ mark_row-requires c = let h = row_fits c.loop-r.r c.args.rows c.args.row c.loop-
 
 pub loop-r-preserved : goal.loop-r-preserved
 loop-r-preserved c = let s = suc-mul c.loop-r.r c.args.row in (
-      omega arith,
-      omega (arith, c.loop-r.invariant.1, s),
-      c.mark_row.ensures
-          ∙ (λ i. marked c.args.previous.now c.args.new.now (c.loop-r.invariant.1 i) c.args.row c.args.tile (c.loop-r.invariant.2 i))
-          ∙ strip_more c.args.previous.now c.args.new.now c.args.from c.args.row c.args.tile c.loop-r.r,
-    )
+  omega arith,
+  omega (arith, c.loop-r.invariant.1, s),
+  c.mark_row.ensures
+      ∙ (λ i. marked c.args.previous.now c.args.new.now (c.loop-r.invariant.1 i) c.args.row c.args.tile (c.loop-r.invariant.2 i))
+      ∙ strip_more c.args.previous.now c.args.new.now c.args.from c.args.row c.args.tile c.loop-r.r,
+)

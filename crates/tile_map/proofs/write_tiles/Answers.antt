@@ -22,9 +22,9 @@ loop-y-init c = (omega arith, sym (zero-mul _), refl, no_strip c.args.first c.ar
 pub write_tile_row-requires : goal.write_tile_row-requires
 write_tile_row-requires c =
     let inside : c.args.tile * c.loop-y.y * c.args.row + reach c.args.tile c.args.rows c.loop-y.y * c.args.row ≤ c.args.rows * c.args.row =
-        strip_inside c.args.row c.args.rows c.args.tile c.loop-y.y c.loop-y-test.true c.requires.tile.0 in
+    strip_inside c.args.row c.args.rows c.args.tile c.loop-y.y c.loop-y-test.true c.requires.tile.0 in
     let room : c.loop-y.at + tiles c.args.tile c.args.row ≤ length c.loop-y.map =
-        omega (arith, row_fits c.loop-y.y (tiles c.args.tile c.args.rows) (tiles c.args.tile c.args.row) c.loop-y-test.true, c.loop-y.invariant.1, c.loop-y.invariant.2, c.requires.tile.3) in
+    omega (arith, row_fits c.loop-y.y (tiles c.args.tile c.args.rows) (tiles c.args.tile c.args.row) c.loop-y-test.true, c.loop-y.invariant.1, c.loop-y.invariant.2, c.requires.tile.3) in
     let i = inside in
     let n = tiles c.args.tile c.args.row in
     let d : c.loop-y.at + n - c.loop-y.at ≡ n = omega arith in
@@ -34,7 +34,7 @@ write_tile_row-requires c =
 pub loop-y-preserved : goal.loop-y-preserved
 loop-y-preserved c =
     let room : c.loop-y.at + tiles c.args.tile c.args.row ≤ length c.loop-y.map =
-        omega (arith, row_fits c.loop-y.y (tiles c.args.tile c.args.rows) (tiles c.args.tile c.args.row) c.loop-y-test.true, c.loop-y.invariant.1, c.loop-y.invariant.2, c.requires.tile.3) in
+    omega (arith, row_fits c.loop-y.y (tiles c.args.tile c.args.rows) (tiles c.args.tile c.args.row) c.loop-y-test.true, c.loop-y.invariant.1, c.loop-y.invariant.2, c.requires.tile.3) in
     let t = tiles c.args.tile c.args.row in (
       omega arith,
       omega (arith, c.loop-y.invariant.1, suc-mul c.loop-y.y t),

@@ -1,11 +1,8 @@
 -- `tree_pairs::push` meets its contract. The loop's invariant: k entries are pushed. Assumes nothing.
-use Prim.Native.Nat.{ℕ, ◌+◌, ◌-◌, ◌≤◌, ◌<◌}
-use native.Mathlib.Omega.{arith}
-use mathlib.Core.Path.{◌≡◌, refl, ◌∙◌, subst}
-use lib.ListN.{length, length-set}
+use Prim.Native.Nat.{◌-◌, ◌≤◌}
+use mathlib.Core.Path.{◌≡◌}
+use lib.ListN.{length}
 use Rattle.tree_pairs.specs.Pair.{Pushed}
-use Rattle.tree_pairs.proofs.Entries.{pushed_none, pushed_more}
-use borrow.Author.Rules.{rules}
 use Rattle.tree_pairs.proofs.push.Given as goal
 
 abbrev pub invariant-loop-k : goal.invariant-loop-k
