@@ -44,12 +44,12 @@ module _ (q : ℕ) (coded l : List ℕ) (i : ℕ) where
   at_end h = rw (drop_of_length-le coded h)
 
 -- another block's record does not count
-at_other : (q : ℕ) {coded : List ℕ} (rs : List BlockRecord) (b : ℕ) (r : BlockRecord) → All (Other b) coded → at_step q coded (set rs b r) ≡ at_step q coded rs
+at_other : (q b : ℕ) (r : BlockRecord) {coded : List ℕ} (rs : List BlockRecord) → All (Other b) coded → at_step q coded (set rs b r) ≡ at_step q coded rs
 unfolding at_step
-at_other q rs b r none = refl
-at_other q rs b r (one {x} h a) =
+at_other q b r rs none = refl
+at_other q b r rs (one {x} h a) =
     let e = get_or-set_other rs b x r uncoded (λ z. h (sym z)) in
-    λ i. choose (eqb (e i).qi_index q) 1 0 + at_other q rs b r a i
+    λ i. choose (eqb (e i).qi_index q) 1 0 + at_other q b r rs a i
 
 -- ---- the records, from coded block i on, after j bits
 module _ (q : ℕ) (coded bits l : List ℕ) (i j : ℕ) (h : i < length coded) where
@@ -108,7 +108,7 @@ module _ (q : ℕ) (coded bits l₀ l : List ℕ) (i j : ℕ) (r : Raising q cod
             let fits : InRange n = record { qi_index = omega arith; prediction = (packed_at l b r.held).in_range.prediction } in
             let e : records_of (set l b (packed n)) ≡ set (records_of l) b n = records_set l b (packed n) ∙ ap (set (records_of l) b) (unpacked_packed n fits) in
             let m : at_step q (drop (i + 1) coded) (records_of (set l b (packed n))) ≡ at_step q (drop (i + 1) coded) (records_of l) =
-            ap (at_step q (drop (i + 1) coded)) e ∙ at_other q (records_of l) b n (once_next coded i o h) in
+            ap (at_step q (drop (i + 1) coded)) e ∙ at_other q b n (records_of l) (once_next coded i o h) in
             record {
               reaches = omega arith;
               held = packed_set l b (packed n) r.held (is_packed n fits);

@@ -1,6 +1,6 @@
 -- Which of the frame's qi each coded block has: the index in its record. The coded blocks are raster numbers in coded order, the records go by raster number.
 use Rattle.std.specs.Prelude.{ℕ, zero, suc, ◌+◌, ◌-◌, List, [], ◌∷◌, eqb, get_or, drop, set}
-use Rattle.bitstream.specs.Reading.{Parse, pure, bind, choose, ◌>>=◌, ◌>>◌}
+use Rattle.bitstream.specs.Reading.{Parse, pure, bind, choose, ◌>>=◌}
 use Rattle.runs.specs.Runs.{bit_string}
 use Rattle.runs.specs.declared.RunCode.TheVariants.{Long}
 use Rattle.block_record.specs.declared.BlockRecord.{BlockRecord}

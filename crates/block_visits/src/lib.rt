@@ -1,4 +1,6 @@
 // What a token does for the block that it is read for, and the visit of one block, which is named by its rank in coded order.
+#![tactic(auto)]
+
 ghost use Rattle.std.specs.Prelude.{◌≡◌, ◌<◌, ◌≤◌, ◌^◌, length, get_or};
 ghost use Rattle.bitstream.specs.Bits.{longest};
 ghost use Rattle.huffman.specs.Code.{tree_of, Formed};

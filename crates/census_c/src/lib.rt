@@ -1,4 +1,6 @@
 // The face of `census` for C and other languages: include/wedgepetal.h says what the call is for.
+#![tactic(auto)]
+
 ghost use Rattle.std.specs.Prelude.{◌≡◌};
 ghost use Rattle.work_memory.specs.Memory.{memory};
 ghost use Rattle.census_packets.specs.Recording.{lent};
@@ -6,8 +8,7 @@ ghost use Rattle.census.specs.Call.{census_call};
 ghost use Rattle.census_c.specs.Face.{census_gives, census_face};
 
 // Adds a recording to a report of 34 numbers.
-#[unsafe(no_mangle)]
-pub extern "C" fn wedgepetal_census(
+pub fn wedgepetal_census(
     lengths: &[u64],
     packets: &[u8],
     report: &mut [u64],

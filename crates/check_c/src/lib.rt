@@ -1,4 +1,6 @@
 // The face of `vendor_check` for C and other languages: include/wedgepetal.h says what the call is for.
+#![tactic(auto)]
+
 ghost use Rattle.std.specs.Prelude.{◌≡◌};
 ghost use Rattle.work_memory.specs.Memory.{memory};
 ghost use Rattle.vendor_check.specs.Check.{lent};
@@ -6,8 +8,7 @@ ghost use Rattle.check_c.specs.Face.{check_gives, check_face};
 ghost use Rattle.check_answer.specs.Found.{returned};
 
 // Checks a file against two headers and packets.
-#[unsafe(no_mangle)]
-pub extern "C" fn wedgepetal_check(
+pub fn wedgepetal_check(
     identification: &[u8],
     setup: &[u8],
     lengths: &[u64],

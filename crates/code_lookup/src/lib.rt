@@ -1,4 +1,6 @@
 // Fills the lookup of a tree, which has an entry for each string of eight bits.
+#![tactic(auto)]
+
 ghost use Rattle.std.specs.Prelude.{◌≡◌, ℕ, ◌+◌, ◌/◌, ◌<◌, ◌≤◌, ◌^◌, length, get_or, replicate};
 ghost use Rattle.bitstream.specs.Lists.{tabulated};
 ghost use Rattle.code_walk.specs.Walk.{Values};

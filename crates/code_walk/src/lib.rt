@@ -1,4 +1,6 @@
 // Finds a token by its code: a walk over the nodes of a tree, bit by bit.
+#![tactic(auto)]
+
 ghost use Rattle.std.specs.Prelude.{◌≡◌, ◌-◌, ◌/◌, ◌%◌, ◌<◌, ◌≤◌, ◌^◌};
 ghost use Rattle.huffman.specs.Code.{tree_of, Formed};
 ghost use Rattle.code_walk.specs.Walk.{Values, branch, entry_in};

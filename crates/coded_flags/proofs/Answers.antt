@@ -10,7 +10,6 @@ use Rattle.bitstream.proofs.Laws.{bind_got}
 use Rattle.runs.proofs.Strings.{string_length}
 use Rattle.runs.specs.Runs.{bit_string}
 use Rattle.runs.specs.declared.RunCode.TheVariants.{Long, Short}
-use Rattle.bitstream.specs.declared.End.TheVariants as end
 use Rattle.geometry.specs.declared.PixelFormat.{PixelFormat}
 use Rattle.geometry.specs.Sizes.{super_blocks_of}
 use Rattle.coded_flags.specs.declared.SuperRead.{SuperRead}

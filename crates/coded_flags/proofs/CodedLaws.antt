@@ -85,10 +85,10 @@ module _ {A : Type 0} (v d : A) where
   set_at_hit (n ∷ ns) l zero h r = set_at_all (λ x. x ≡ v) ns (set l n v) n refl (get_or-set_same l n v d r)
   set_at_hit (n ∷ ns) l (suc k) h r = set_at_hit ns (set l n v) k (le_of_suc-le-suc h) (rw length-set r)
 
-  set_at_miss : {ns : List ℕ} (l : List A) (n : ℕ) → All (Other n) ns → get_or (set_at v ns l) n d ≡ get_or l n d
+  set_at_miss : (n : ℕ) {ns : List ℕ} (l : List A) → All (Other n) ns → get_or (set_at v ns l) n d ≡ get_or l n d
   unfolding set_at
-  set_at_miss l n none = refl
-  set_at_miss l n (one {x} h a) = set_at_miss (set l x v) n a ∙ get_or-set_other l x n v d h
+  set_at_miss n l none = refl
+  set_at_miss n l (one {x} h a) = set_at_miss n (set l x v) a ∙ get_or-set_other l x n v d h
 
 -- a number stands in a list, or every number there is another
 stands : (n : ℕ) (l : List ℕ) → ((k : ℕ) × (k < length l) × (get_or l k 0 ≡ n)) ⊎ All (Other n) l
@@ -177,7 +177,7 @@ module _ (f : PixelFormat) (w h : ℕ) where
       where
         go : All (Other n) (coded_blocks f w h flags) → ⊥
         go other =
-            let z = set_at_miss now_coded uncoded (replicate (blocks_of f w h) uncoded) n other ∙ get_or-replicate (blocks_of f w h) n uncoded uncoded l in
+            let z = set_at_miss now_coded uncoded n (replicate (blocks_of f w h) uncoded) other ∙ get_or-replicate (blocks_of f w h) n uncoded uncoded l in
             true≢false (sym c ∙ ap (λ (r : BlockRecord). r.coded) z)
 
     -- nothing else is known yet of any block
@@ -214,7 +214,7 @@ module _ (f : PixelFormat) (w h : ℕ) where
               ap (λ (m : ℕ). get_or (set_at now_coded (flagged (order f w h) flags) (replicate (blocks_of f w h) uncoded)) m uncoded) (sym k.2)
               ∙ set_at_hit now_coded uncoded (flagged (order f w h) flags) (replicate (blocks_of f w h) uncoded) k.0 k.1 (subst (λ (m : ℕ). m < length (replicate (blocks_of f w h) uncoded)) (sym k.2) (omega (arith, n, order_small f w h i l)))
           go false q =
-              set_at_miss now_coded uncoded (replicate (blocks_of f w h) uncoded) (get_or (order f w h) i 0) (flagged_misses flags i order_once (omega (arith, order_length f w h)) (eqb-false (get_or flags i 0) 1 q))
+              set_at_miss now_coded uncoded (get_or (order f w h) i 0) (replicate (blocks_of f w h) uncoded) (flagged_misses flags i order_once (omega (arith, order_length f w h)) (eqb-false (get_or flags i 0) 1 q))
               ∙ get_or-replicate (blocks_of f w h) (get_or (order f w h) i 0) uncoded uncoded (order_small f w h i l)
 
       -- of the coded blocks, luma's are the flagged among the first of the order, and the others among the rest

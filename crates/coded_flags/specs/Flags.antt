@@ -1,6 +1,6 @@
 -- Which blocks of a frame of w by h macro blocks are coded: a flag, 1 or 0, for each block in coded order.
 use Rattle.std.specs.Prelude.{ℕ, zero, suc, ◌+◌, ◌-◌, List, [], ◌∷◌, ◌++◌, eqb, length, get_or, take, drop, replicate}
-use Rattle.bitstream.specs.Reading.{Parse, pure, choose, ◌>>=◌, ◌>>◌}
+use Rattle.bitstream.specs.Reading.{Parse, pure, choose, ◌>>=◌}
 use Rattle.runs.specs.Runs.{bit_string}
 use Rattle.runs.specs.declared.RunCode.TheVariants.{Long, Short}
 use Rattle.geometry.specs.declared.PixelFormat.{PixelFormat}

@@ -1,5 +1,5 @@
 -- What each chroma sample adds, laid out so that the bytes of neighbouring pixels are sums of neighbours.
-use Rattle.std.specs.Prelude.{ℕ, ◌+◌, ◌-◌, ◌/◌, List, [], ◌∷◌, ltb, ℤ, pos, ◌+ℤ◌}
+use Rattle.std.specs.Prelude.{ℕ, ◌-◌, ◌/◌, List, [], ◌∷◌, ltb, ℤ, pos, ◌+ℤ◌}
 use Rattle.bitstream.specs.Reading.{choose}
 use Rattle.geometry.specs.Order.{in_turn}
 use Rattle.colour_tables.specs.declared.Chroma.{Chroma}

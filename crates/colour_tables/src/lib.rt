@@ -1,4 +1,6 @@
 // Red, green and blue of a pixel as sums: five tables of contributions, and what each chroma sample adds, laid out in rows of nine.
+#![tactic(auto)]
+
 ghost use Rattle.std.specs.Prelude.{◌≡◌, ◌++◌, ◌+◌, ◌*◌, ◌≤◌, ◌<◌, length, take};
 ghost use Rattle.colour_tables.specs.Rule.{contributions};
 ghost use Rattle.colour_tables.specs.Parts.{three, part_of, chroma_rows};

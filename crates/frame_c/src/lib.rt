@@ -1,4 +1,6 @@
 // The frame call for C and other languages, alone in its crate since it passes many slices: include/wedgepetal.h says what it is for.
+#![tactic(auto)]
+
 ghost use Rattle.std.specs.Prelude.{◌≡◌};
 ghost use Rattle.session_list.specs.List.{answers};
 ghost use Rattle.work_memory.specs.Memory.{memory};
@@ -6,8 +8,7 @@ ghost use Rattle.calls.specs.Call.{call};
 ghost use Rattle.frame_c.specs.Face.{frame_gives, frame_call};
 
 // Decodes a frame packet into new.
-#[unsafe(no_mangle)]
-pub extern "C" fn wedgepetal_frame(
+pub fn wedgepetal_frame(
     session: &mut [u64],
     packet: &[u8],
     table: &[u8],

@@ -1,4 +1,6 @@
 // Whether frames of a stream begin with their line.
+#![tactic(auto)]
+
 ghost use Rattle.std.specs.Prelude.{◌≡◌, length, drop, ◌+◌, ◌≤◌, ◌*◌};
 ghost use Rattle.output.specs.Output.{part};
 ghost use Rattle.text.specs.Same.{same};

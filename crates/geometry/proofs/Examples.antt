@@ -2,7 +2,6 @@
 use mathlib.Core.Path.{◌≡◌, refl, sym, ◌∙◌}
 use Prim.Native.Nat.{ℕ, ◌≤◌}
 use native.Mathlib.Omega.{arith}
-use lib.ListN.{length}
 use Rattle.geometry.specs.declared.PixelFormat.TheVariants.{Chroma420, Chroma444}
 use Rattle.geometry.specs.Sizes.{blocks_of, super_blocks_of, plane_of, total}
 use Rattle.geometry.specs.Order.{block_walk, ordered, row, square, in_turn, shifted, present, find, block_order, coded_macros}

@@ -1,4 +1,6 @@
 // Sizes of a frame, the coded order of its blocks and macro blocks, and where samples lie.
+#![tactic(auto)]
+
 mod squares;
 
 ghost use Rattle.std.specs.Prelude.{◌≡◌, ℕ, suc, ◌+◌, ◌-◌, ◌*◌, ◌/◌, ◌%◌, ◌≤◌, ◌<◌, length, get_or};

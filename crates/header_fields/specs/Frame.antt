@@ -1,6 +1,6 @@
 -- The first groups of the identification header: the version, and the frame's size.
 use Rattle.std.specs.Prelude.{ℕ, ◌-◌, ◌*◌}
-use Rattle.bitstream.specs.Reading.{Outcome, got, refused, Parse, pure, bind, field, ◌>>=◌, ◌>>◌}
+use Rattle.bitstream.specs.Reading.{Outcome, got, refused, Parse, pure, field, ◌>>=◌}
 use Rattle.bitstream.specs.Numbers.{other_version}
 use Rattle.header_fields.specs.declared.FrameSize.{FrameSize}
 use Rattle.header_fields.specs.declared.FrameSizeAnswer.{FrameSizeAnswer}

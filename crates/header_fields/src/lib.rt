@@ -1,4 +1,6 @@
 // The fields of headers, judged at once, and the first groups of the identification header: the version, and the frame's size.
+#![tactic(auto)]
+
 ghost use Rattle.bitstream.specs.Bits.{longest};
 ghost use Rattle.std.specs.Prelude.{◌≡◌, ◌≤◌, ◌<◌, length};
 ghost use Rattle.bitstream.specs.Answer.{as_field};

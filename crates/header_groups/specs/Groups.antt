@@ -1,5 +1,5 @@
 -- Groups of fields of the identification header.
-use Rattle.bitstream.specs.Reading.{Outcome, got, refused, Parse, pure, bind, field, ◌>>=◌, ◌>>◌}
+use Rattle.bitstream.specs.Reading.{Outcome, got, refused, Parse, pure, field, ◌>>=◌}
 use Rattle.bitstream.specs.Numbers.{bad_format}
 use Rattle.header_groups.specs.declared.Rates.{Rates}
 use Rattle.header_groups.specs.declared.RatesAnswer.{RatesAnswer}

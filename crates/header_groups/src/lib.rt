@@ -1,4 +1,6 @@
 // Groups of fields of headers: what every header begins with, the rates, the coding.
+#![tactic(auto)]
+
 ghost use Rattle.bitstream.specs.Bits.{longest};
 ghost use Rattle.std.specs.Prelude.{◌≡◌, ◌≤◌, length};
 ghost use Rattle.bitstream.specs.Answer.{as_end};

@@ -1,6 +1,6 @@
 -- The identification header, field by field.
 use Rattle.std.specs.Prelude.{ℕ, false}
-use Rattle.bitstream.specs.Reading.{Outcome, got, refused, Parse, pure, bind, ◌>>=◌, ◌>>◌}
+use Rattle.bitstream.specs.Reading.{Outcome, got, refused, Parse, pure, ◌>>=◌, ◌>>◌}
 use Rattle.headers.specs.declared.Session.{Session}
 use Rattle.header_fields.specs.declared.FrameSize.{FrameSize}
 use Rattle.header_groups.specs.declared.Rates.{Rates}

@@ -1,4 +1,6 @@
 // The session record, the identification header, and the sizes of a session's frames.
+#![tactic(auto)]
+
 ghost use Rattle.bitstream.specs.Bits.{longest};
 ghost use Rattle.std.specs.Prelude.{◌≡◌, ◌≤◌, ◌<◌, ◌^◌, length};
 ghost use Rattle.headers.specs.Identification.{identification, as_identification};

@@ -1,4 +1,6 @@
 // One value of a quantization matrix, between those of two base matrices.
+#![tactic(auto)]
+
 ghost use Rattle.std.specs.Prelude.{◌≡◌, ◌+◌, ◌*◌, ◌≤◌, ◌<◌, length};
 ghost use Rattle.bitstream.specs.Bits.{bits, number, longest};
 ghost use Rattle.quant_ranges.specs.Ranges.{InRange};

@@ -1,6 +1,6 @@
 -- "Modes (inter)": the mode of each rank, by the scheme; and which macro blocks send a mode.
 use Rattle.std.specs.Prelude.{ℕ, zero, suc, ◌+◌, ◌-◌, ◌*◌, ◌/◌, ◌%◌, ◌^◌, List, [], ◌∷◌, Bool, eqb, ltb, get_or, set, replicate}
-use Rattle.bitstream.specs.Reading.{Parse, pure, bind, pick, choose, field, ◌>>=◌}
+use Rattle.bitstream.specs.Reading.{Parse, pure, pick, choose, field, ◌>>=◌}
 
 -- "0 sends for each mode its 3-bit unary (a later one overwrites)": n more modes, from mode m on, where `alphabet` has the mode of each unary so far
 unfoldable pub ranks_from : ℕ → ℕ → List ℕ → Parse (List ℕ)

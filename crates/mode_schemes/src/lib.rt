@@ -1,4 +1,6 @@
 // The schemes of modes: the mode of each rank, sent or listed; and which macro blocks send a mode.
+#![tactic(auto)]
+
 ghost use Rattle.std.specs.Prelude.{◌≡◌, ◌+◌, ◌*◌, ◌<◌, ◌≤◌, length, replicate};
 ghost use Rattle.bitstream.specs.Bits.{longest};
 ghost use Rattle.bitstream.specs.Answer.{Stored, as_end};

@@ -1,4 +1,6 @@
 // How a macro block moves, and the vectors that are kept behind it; how the record of a block starts.
+#![tactic(auto)]
+
 ghost use Rattle.std.specs.Prelude.{◌≡◌};
 ghost use Rattle.block_record.specs.Memory.{IsPacked};
 ghost use Rattle.motion.specs.Kept.{started, zero_vector, behind, still, last_read};

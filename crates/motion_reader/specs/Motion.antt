@@ -1,5 +1,5 @@
 -- How a macro block moves: its prediction by its mode, and the vectors that are kept for the macro blocks behind it.
-use Rattle.std.specs.Prelude.{ℕ, ◌%◌, [], ◌∷◌, Bool, eqb, ltb, ℤ, ◌+ℤ◌, get_or}
+use Rattle.std.specs.Prelude.{ℕ, ◌%◌, [], ◌∷◌, Bool, eqb, ltb, ◌+ℤ◌, get_or}
 use Rattle.bitstream.specs.Reading.{Outcome, got, refused, Parse, pure, pick, choose, ◌>>=◌}
 use Rattle.numeric.specs.Divide.{round_over}
 use Rattle.geometry.specs.declared.PixelFormat.{PixelFormat}

@@ -1,4 +1,6 @@
 // How a macro block moves: its vectors as they are sent, and the prediction of each of its blocks by them.
+#![tactic(auto)]
+
 ghost use Rattle.std.specs.Prelude.{◌≡◌, ◌+◌, ◌-◌, ◌<◌, ◌≤◌, ◌^◌, ◌+ℤ◌, nat_abs, length};
 ghost use Rattle.bitstream.specs.Bits.{longest};
 ghost use Rattle.numeric.specs.Divide.{round_over};

@@ -1,4 +1,6 @@
 // What a call that writes bytes into a lent slice answers and leaves.
+#![tactic(auto)]
+
 ghost use Rattle.std.specs.Prelude.{◌≡◌, ◌+◌, ◌≤◌, length};
 ghost use Rattle.output.specs.Output.{spliced};
 

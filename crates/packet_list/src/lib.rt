@@ -1,4 +1,6 @@
 // Packets that are joined together in one buffer, with a list of their lengths.
+#![tactic(auto)]
+
 ghost use Rattle.std.specs.Prelude.{◌≡◌, ◌+◌, ◌<◌, ◌^◌, leb, length, get_or};
 ghost use Rattle.packet_list.specs.Packets.{total};
 

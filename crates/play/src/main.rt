@@ -1,13 +1,18 @@
 // Decodes the packet files that its arguments name. For each packet it prints the answer, and for a frame its hash.
+#![tactic(auto)]
+
 mod report;
 
-ghost use Rattle.std.specs.Prelude.{◌≡◌, ◌≤◌, ◌<◌, length};
-ghost use Rattle.io.specs.Counts.{IsPrefixLen};
+ghost use Rattle.std.specs.Prelude.{◌≡◌, ◌≤◌, ◌<◌, ◌×◌, length, take, IfOk};
 
 use headers::{IdentificationAnswer, Session};
 use reading::{FrameAnswer, Verdict};
 use report::{print, print_frame, print_frame_number, print_refused};
 use setup::SetupAnswer;
+use std::fs::File;
+use std::io;
+use std::io::Read;
+use std::rt::{Env, Files};
 use theora::WorkAnswer;
 use work_memory::WorkLengths;
 
@@ -15,6 +20,9 @@ use work_memory::WorkLengths;
 const BLOCKS: usize = 96;
 
 const SAMPLES: usize = 6144;
+
+// The longest packet that is read.
+const BUFFER: usize = 65536;
 
 // A packet of a file: so many bytes at the start of a buffer.
 #[derive(Clone, Copy)]
@@ -34,27 +42,46 @@ fn length_of(head: [u8; 4]) -> usize {
     wide(head[0]) + 256 * wide(head[1]) + 65536 * wide(head[2]) + 16777216 * wide(head[3])
 }
 
+// Reads until the buffer is full or the file ends: so many bytes at the start of the buffer.
+fn read_full(file: &mut impl Read, buffer: &mut [u8]) -> io::Result<usize>
+    ensures { IfOk result (λ n. n ≤ length buffer.new) }
+{
+    let size = buffer.len();
+    let mut done = 0;
+    for _ in 0..u64::MAX {
+        if size <= done {
+            break;
+        }
+        let got = file.read(&mut buffer[done..])?;
+        if got == 0 {
+            break;
+        }
+        done += got;
+    }
+    Ok(done)
+}
+
 // The next packet of a packet file: its length in 4 bytes, and its bytes.
-fn read_packet(fd: i32, buffer: &mut [u8]) -> Packet
-    ensures { IsPrefixLen result.length buffer.new }
+fn read_packet(file: &mut impl Read, buffer: &mut [u8]) -> io::Result<Packet>
+    ensures { IfOk result (λ p. (p.length ≤ length buffer.new) × (p.length ≡ length (take p.length buffer.new))) }
 {
     let none = Packet {
         is_whole: false,
         length: 0,
     };
     let mut head = [0u8; 4];
-    if io::read_full(fd, &mut head) < 4 {
-        return none;
+    if read_full(file, &mut head)? < 4 {
+        return Ok(none);
     }
     let length = length_of(head);
     if buffer.len() < length {
-        return none;
+        return Ok(none);
     }
-    let got = io::read_full(fd, &mut buffer[..length]);
-    Packet {
+    let got = read_full(file, &mut buffer[..length])?;
+    Ok(Packet {
         is_whole: got == length,
         length: got,
-    }
+    })
 }
 
 // A published length, or 0 where we have no such memory: the frame call then refuses by 1.
@@ -114,6 +141,7 @@ fn decode(
 
 // A packet's answer is printed and its frame handed on. The session is that for the next packet.
 fn play_packet(
+    rt: &impl Print,
     number: u64,
     l: WorkLengths,
     s: Session,
@@ -122,43 +150,50 @@ fn play_packet(
     golden: &mut [u8],
     previous: &mut [u8],
     new: &mut [u8],
-) -> Session
+) -> io::Result<Session>
     requires { (length golden.old ≡ length new.old) × (length previous.old ≡ length new.old) }
 {
-    print_frame_number(number);
+    print_frame_number(rt, number)?;
     let answer = decode(l, s, packet, table, golden, previous, new);
     let verdict = answer.verdict;
     let header = answer.header;
     let next = answer.session;
     match verdict {
         Verdict::Refused(k, place) => {
-            print_refused(k, place);
-            next
+            print_refused(rt, k, place)?;
+            Ok(next)
         }
         Verdict::Accepted(tokens) => {
             let kind = header.kind;
-            print_frame(header, tokens, new);
+            print_frame(rt, header, tokens, new)?;
             player::hand_on(kind, golden, previous, new);
-            next
+            Ok(next)
         }
     }
 }
 
 // The frame packets, to the file's end or a million of them.
-fn play_frames(fd: i32, l: WorkLengths, s: Session, buffer: &mut [u8], table: &[u8]) {
+fn play_frames(
+    rt: &impl Print,
+    file: &mut impl Read,
+    l: WorkLengths,
+    s: Session,
+    buffer: &mut [u8],
+    table: &[u8],
+) -> io::Result<()> {
     let n = 64 * lent(l.records);
     let mut golden = [0u8; SAMPLES];
     let mut previous = [0u8; SAMPLES];
     let mut new = [0u8; SAMPLES];
     let mut session = s;
-    let mut number: u64 = 3;
-    while number < 1000000 {
-        let packet = read_packet(fd, buffer);
+    for number in 3..1000000 {
+        let packet = read_packet(file, buffer)?;
         let end = packet.length;
         if !packet.is_whole {
-            return;
+            return Ok(());
         }
         session = play_packet(
+            rt,
             number,
             l,
             session,
@@ -167,64 +202,68 @@ fn play_frames(fd: i32, l: WorkLengths, s: Session, buffer: &mut [u8], table: &[
             &mut golden[..n],
             &mut previous[..n],
             &mut new[..n],
-        );
-        number += 1;
+        )?;
     }
+    Ok(())
 }
 
 // The setup header is the packet behind the comment header.
-fn play_setup(fd: i32, buffer: &mut [u8], table: &mut [u8]) {
-    read_packet(fd, buffer);
-    let packet = read_packet(fd, buffer);
+fn play_setup(
+    rt: &impl Print,
+    file: &mut impl Read,
+    buffer: &mut [u8],
+    table: &mut [u8],
+) -> io::Result<()> {
+    read_packet(file, buffer)?;
+    let packet = read_packet(file, buffer)?;
     let end = packet.length;
-    print(b"header 2 ");
+    print(rt, "header 2 ")?;
     match theora::setup(&buffer[..end], table) {
-        SetupAnswer::Accepted => print(b"accepted\n"),
-        SetupAnswer::Refused(k, place) => print_refused(k, place),
+        SetupAnswer::Accepted => print(rt, "accepted\n"),
+        SetupAnswer::Refused(k, place) => print_refused(rt, k, place),
     }
 }
 
 // The rest of a stream after its identification header.
-fn play_stream(fd: i32, s: Session, buffer: &mut [u8]) {
+fn play_stream(
+    rt: &impl Print,
+    file: &mut impl Read,
+    s: Session,
+    buffer: &mut [u8],
+) -> io::Result<()> {
     let mut table = [0u8; setup::TABLE_BYTES];
-    play_setup(fd, buffer, &mut table);
+    play_setup(rt, file, buffer, &mut table)?;
     if let WorkAnswer::Is(l) = theora::work_lengths(s) {
-        play_frames(fd, l, s, buffer, &table);
+        play_frames(rt, file, l, s, buffer, &table)?;
     }
+    Ok(())
 }
 
-fn play(fd: i32, buffer: &mut [u8]) {
-    let packet = read_packet(fd, buffer);
+fn play(rt: &impl Print, file: &mut impl Read, buffer: &mut [u8]) -> io::Result<()> {
+    let packet = read_packet(file, buffer)?;
     let end = packet.length;
-    print(b"header 0 ");
+    print(rt, "header 0 ")?;
     match theora::identification(&buffer[..end]) {
-        IdentificationAnswer::Refused(k, place) => print_refused(k, place),
+        IdentificationAnswer::Refused(k, place) => print_refused(rt, k, place),
         IdentificationAnswer::Accepted(s) => {
-            print(b"accepted\n");
-            play_stream(fd, s, buffer);
+            print(rt, "accepted\n")?;
+            play_stream(rt, file, s, buffer)
         }
     }
 }
 
-fn play_file(i: usize) {
-    let mut name = io::buffer();
-    let n = os::arg(i, &mut name);
-    print(&name[..n]);
-    print(b"\n");
-    let fd = os::open_read(&name[..n]);
-    if fd < 0 {
-        os::fail(&name[..n]);
-        return;
+// A file that cannot be opened is named on the standard error, and the next one follows.
+fn play_file(rt: &(impl Print + Eprint + Files), name: &str) -> io::Result<()> {
+    println!(rt; "{name}")?;
+    match File::open(rt, name) {
+        Ok(mut file) => play(rt, &mut file, &mut [0u8; BUFFER]),
+        Err(error) => eprintln!(rt; "{name}: {error}"),
     }
-    play(fd, &mut io::large_buffer());
-    libc::close(fd);
 }
 
-fn main() {
-    let count = os::arg_count();
-    let mut i: usize = 1;
-    while i < count {
-        play_file(i);
-        i += 1;
+fn main(rt: HostRuntime) -> io::Result<()> {
+    for name in std::env::args(&rt)?.skip(1) {
+        play_file(&rt, &name)?;
     }
+    Ok(())
 }

@@ -1,4 +1,6 @@
 // The range of a qi in a set of quant ranges.
+#![tactic(auto)]
+
 ghost use Rattle.std.specs.Prelude.{◌≡◌, ◌+◌, ◌≤◌, length, take, drop};
 ghost use Rattle.quantization.specs.Sound.{total};
 ghost use Rattle.quant_ranges.specs.Ranges.{range_of};

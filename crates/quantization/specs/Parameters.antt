@@ -1,6 +1,6 @@
 -- The quantization parameters of the setup header, as 002 lists them ("Quantization Parameters Decode").
 use Rattle.std.specs.Prelude.{ℕ, zero, suc, ◌+◌, ◌-◌, List, [], ◌∷◌, ◌++◌, eqb, leb, length, get_or}
-use Rattle.bitstream.specs.Reading.{Parse, pure, bind, ◌>>=◌, ◌>>◌, here, pick, field, judged, many, until}
+use Rattle.bitstream.specs.Reading.{Parse, pure, ◌>>=◌, here, pick, field, judged, many, until}
 use Rattle.bitstream.specs.Numbers.{bad_setup}
 use Rattle.set_fields.specs.Fields.{index, range_size, origin}
 

@@ -1,4 +1,6 @@
 // The quantization parameters of the setup header, read into lent slices; the base matrices stay in the packet.
+#![tactic(auto)]
+
 ghost use Rattle.std.specs.Prelude.{◌≡◌, [], ◌+◌, ◌-◌, ◌*◌, ◌≤◌, ◌<◌, length, drop, replicate};
 ghost use Rattle.std.proofs.Math.Seq.{paste};
 ghost use Rattle.bitstream.specs.Bits.{bits, longest};

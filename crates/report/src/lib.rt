@@ -1,4 +1,6 @@
 // The report of a census: 34 numbers that packets add to, each sum tested, and what a census answers. docs/MEMORY.md says where each number stands.
+#![tactic(auto)]
+
 ghost use Rattle.std.specs.Prelude.{◌≡◌, ℕ, ◌-◌, ◌<◌, ◌≤◌, List, length};
 ghost use Rattle.bitstream.specs.Numbers.{wrong_length};
 ghost use Rattle.report.specs.Report.{report_size, plus, only, Numbered, refusal_adds};

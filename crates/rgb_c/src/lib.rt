@@ -20,8 +20,7 @@ fn return_written(answer: Written, list: &mut [u64]) -> u32
 }
 
 // A frame in red, green and blue: three bytes a pixel, the whole coded frame, top row first.
-#[unsafe(no_mangle)]
-pub extern "C" fn wedgepetal_rgb(
+pub fn wedgepetal_rgb(
     session: &[u64],
     planes: &[u8],
     out: &mut [u8],

@@ -1,4 +1,6 @@
 // The scoring product's face for C and other languages: numbers, lists of numbers and bytes alone.
+#![tactic(auto)]
+
 ghost use Rattle.std.specs.Prelude.{◌≡◌, [], ◌∷◌, length};
 ghost use Rattle.output.specs.Output.{left_by, as_written};
 ghost use Rattle.y4m.specs.Film.{film_in, as_film};
@@ -68,8 +70,7 @@ fn tell_settings(answer: Loaded, list: &mut [u64]) -> u32
 }
 
 // Writes frames as a stream.
-#[unsafe(no_mangle)]
-pub extern "C" fn wedgepetal_y4m_write(
+pub fn wedgepetal_y4m_write(
     session: &[u64],
     frames: &[u8],
     out: &mut [u8],
@@ -87,8 +88,7 @@ pub extern "C" fn wedgepetal_y4m_write(
 }
 
 // Writes the header of a session's stream.
-#[unsafe(no_mangle)]
-pub extern "C" fn wedgepetal_y4m_header(session: &[u64], out: &mut [u8], bytes: &mut [u64]) -> u32
+pub fn wedgepetal_y4m_header(session: &[u64], out: &mut [u8], bytes: &mut [u64]) -> u32
     ensures bytes_after { gives result bytes.new ≡ wrote_returned bytes.old (as_written (header_call session.now (length out.old) (length bytes.old))) }
     ensures out_after { out.new ≡ left_by (header_call session.now (length out.old) (length bytes.old)) out.old }
 {
@@ -101,8 +101,7 @@ pub extern "C" fn wedgepetal_y4m_header(session: &[u64], out: &mut [u8], bytes: 
 }
 
 // Writes one frame of a session's stream.
-#[unsafe(no_mangle)]
-pub extern "C" fn wedgepetal_y4m_frame(
+pub fn wedgepetal_y4m_frame(
     session: &[u64],
     planes: &[u8],
     out: &mut [u8],
@@ -120,8 +119,7 @@ pub extern "C" fn wedgepetal_y4m_frame(
 }
 
 // Reads a stream.
-#[unsafe(no_mangle)]
-pub extern "C" fn wedgepetal_y4m_read(stream: &[u8], planes: &mut [u8], film: &mut [u64]) -> u32
+pub fn wedgepetal_y4m_read(stream: &[u8], planes: &mut [u8], film: &mut [u64]) -> u32
     ensures film_after { gives result film.new ≡ film_call film.old (as_film (film_in stream.now (length planes.old))) }
     ensures planes_after { planes.new ≡ planes_left (length film.old) (film_in stream.now (length planes.old)) planes.old }
 {
@@ -132,8 +130,7 @@ pub extern "C" fn wedgepetal_y4m_read(stream: &[u8], planes: &mut [u8], film: &m
 }
 
 // Writes the text of settings.
-#[unsafe(no_mangle)]
-pub extern "C" fn wedgepetal_settings_write(
+pub fn wedgepetal_settings_write(
     version: u64,
     list: &[u64],
     out: &mut [u8],
@@ -153,8 +150,7 @@ pub extern "C" fn wedgepetal_settings_write(
 }
 
 // Reads the text of settings into the list of those in use.
-#[unsafe(no_mangle)]
-pub extern "C" fn wedgepetal_settings_read(version: u64, text: &[u8], list: &mut [u64]) -> u32
+pub fn wedgepetal_settings_read(version: u64, text: &[u8], list: &mut [u64]) -> u32
     ensures { gives result list.new ≡ read_call list.old (as_loaded (settings_of list.old) (read version text.now)) }
 {
     if list.len() != 4 {

@@ -1,4 +1,6 @@
 // A session as a list of numbers, as the faces for C lend it.
+#![tactic(auto)]
+
 ghost use Rattle.std.specs.Prelude.{◌≡◌, length};
 ghost use Rattle.session_list.specs.List.{session_of, lists_number};
 

@@ -1,4 +1,6 @@
 // The settings of the scoring scripts as key=value lines, written and read.
+#![tactic(auto)]
+
 ghost use Rattle.std.specs.Prelude.{◌≡◌, true, [], ◌+◌, ◌^◌, ◌≤◌, ◌<◌, length};
 ghost use Rattle.output.specs.Output.{spliced, left_by, as_written};
 ghost use Rattle.settings.specs.Settings.{settings_fit, holds, line, first_lines, text_of, said_in, is_text_of, text_found, read, as_found, as_loaded, settings_text};

@@ -1,4 +1,6 @@
 // Settings as a list of numbers, as the faces for C lend them, and by what the lists of a shot call with settings are refused.
+#![tactic(auto)]
+
 ghost use Rattle.std.specs.Prelude.{◌≡◌, length};
 ghost use Rattle.settings_list.specs.List.{settings_of};
 ghost use Rattle.settings_list.specs.ShotLists.{tiles_shot_number};

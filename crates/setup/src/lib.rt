@@ -1,4 +1,6 @@
 // The setup header: read into a struct, kept in table memory, and read from there.
+#![tactic(auto)]
+
 ghost use Rattle.bitstream.specs.Bits.{longest};
 ghost use Rattle.std.specs.Prelude.{◌≡◌, ◌≤◌, length};
 ghost use Rattle.bitstream.specs.Reading.{refused};

@@ -1,4 +1,6 @@
 // The Huffman trees of a setup header, read from its packet or out of table memory.
+#![tactic(auto)]
+
 ghost use Rattle.std.specs.Prelude.{false, ◌≡◌, ◌*◌, ◌≤◌, length, replicate};
 ghost use Rattle.bitstream.specs.Bits.{bits, longest};
 ghost use Rattle.bitstream.specs.Reading.{many};

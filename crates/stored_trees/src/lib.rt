@@ -1,4 +1,6 @@
 // Huffman trees out of table memory, where each stands as in the setup packet.
+#![tactic(auto)]
+
 ghost use Rattle.std.specs.Prelude.{◌≡◌, ◌≤◌, length, replicate};
 ghost use Rattle.bitstream.specs.Bits.{bits, longest};
 ghost use Rattle.bitstream.specs.Answer.{IfGot};

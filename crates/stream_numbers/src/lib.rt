@@ -1,4 +1,6 @@
 // The numbers that the header of a stream says, and those of a session's streams.
+#![tactic(auto)]
+
 ghost use Rattle.std.specs.Prelude.{◌≡◌, true};
 ghost use Rattle.headers.specs.Fits.{session_fits};
 ghost use Rattle.stream_numbers.specs.Numbers.{aspect, numbers_of};

@@ -1,4 +1,6 @@
 // The coded blocks of one super block, put into the list, and their records.
+#![tactic(auto)]
+
 ghost use Rattle.std.specs.Prelude.{◌≡◌, true, ◌+◌, ◌≤◌, ◌<◌, eqb, length, get_or, set};
 ghost use Rattle.bitstream.specs.Reading.{choose};
 ghost use Rattle.geometry.specs.Sizes.{blocks_of, largest};

@@ -1,4 +1,6 @@
 // Whole numbers in text, written and read, and texts compared.
+#![tactic(auto)]
+
 ghost use Rattle.std.specs.Prelude.{◌≡◌, ◌+◌, ◌^◌, ◌≤◌, ◌<◌, length};
 ghost use Rattle.output.specs.Output.{spliced, part};
 ghost use Rattle.text.specs.Decimal.{digits, decimal, is_digit, FoundAt};

@@ -1,4 +1,6 @@
 // The face for C and other languages, but for the frame call: include/wedgepetal.h says what each call is for.
+#![tactic(auto)]
+
 ghost use Rattle.std.specs.Prelude.{◌≡◌, length};
 ghost use Rattle.session_list.specs.List.{gives, answers};
 ghost use Rattle.theora_c.specs.Face.{identification_call, sizes_call, block_at_call, block_number_call, macro_block_at_call, macro_block_number_call, macro_block_of_call, sample_offset_call, setup_call, limit_call, matrix_call, lengths_returned, work_lengths_call};
@@ -24,8 +26,7 @@ fn return_lengths(answer: WorkAnswer, list: &mut [u64]) -> u32
 }
 
 // Reads an identification header; session receives the fresh session, place the bit place of a refusal.
-#[unsafe(no_mangle)]
-pub extern "C" fn wedgepetal_identification(
+pub fn wedgepetal_identification(
     packet: &[u8],
     session: &mut [u64],
     place: &mut [u64],
@@ -39,8 +40,7 @@ pub extern "C" fn wedgepetal_identification(
 }
 
 // The sizes of a session's frames.
-#[unsafe(no_mangle)]
-pub extern "C" fn wedgepetal_sizes(session: &[u64], sizes: &mut [u64]) -> u32
+pub fn wedgepetal_sizes(session: &[u64], sizes: &mut [u64]) -> u32
     ensures { gives result sizes.new ≡ sizes_call session.now sizes.old }
 {
     let k = session_list::lists_refusal(session, sizes.len(), 16);
@@ -51,8 +51,7 @@ pub extern "C" fn wedgepetal_sizes(session: &[u64], sizes: &mut [u64]) -> u32
 }
 
 // The block that is this number in coded order.
-#[unsafe(no_mangle)]
-pub extern "C" fn wedgepetal_block_at(session: &[u64], number: u64, block: &mut [u64]) -> u32
+pub fn wedgepetal_block_at(session: &[u64], number: u64, block: &mut [u64]) -> u32
     ensures { gives result block.new ≡ block_at_call session.now number block.old }
 {
     let k = session_list::lists_refusal(session, block.len(), 3);
@@ -66,8 +65,7 @@ pub extern "C" fn wedgepetal_block_at(session: &[u64], number: u64, block: &mut 
 }
 
 // The number in coded order of block (x, y) of a plane.
-#[unsafe(no_mangle)]
-pub extern "C" fn wedgepetal_block_number(
+pub fn wedgepetal_block_number(
     session: &[u64],
     plane: u64,
     x: u64,
@@ -87,8 +85,7 @@ pub extern "C" fn wedgepetal_block_number(
 }
 
 // The macro block that is this number in coded order.
-#[unsafe(no_mangle)]
-pub extern "C" fn wedgepetal_macro_block_at(session: &[u64], number: u64, place: &mut [u64]) -> u32
+pub fn wedgepetal_macro_block_at(session: &[u64], number: u64, place: &mut [u64]) -> u32
     ensures { gives result place.new ≡ macro_block_at_call session.now number place.old }
 {
     let k = session_list::lists_refusal(session, place.len(), 2);
@@ -102,8 +99,7 @@ pub extern "C" fn wedgepetal_macro_block_at(session: &[u64], number: u64, place:
 }
 
 // The number in coded order of macro block (x, y).
-#[unsafe(no_mangle)]
-pub extern "C" fn wedgepetal_macro_block_number(
+pub fn wedgepetal_macro_block_number(
     session: &[u64],
     x: u64,
     y: u64,
@@ -122,8 +118,7 @@ pub extern "C" fn wedgepetal_macro_block_number(
 }
 
 // The macro block that block (x, y) of a plane belongs to.
-#[unsafe(no_mangle)]
-pub extern "C" fn wedgepetal_macro_block_of(
+pub fn wedgepetal_macro_block_of(
     session: &[u64],
     plane: u64,
     x: u64,
@@ -143,8 +138,7 @@ pub extern "C" fn wedgepetal_macro_block_of(
 }
 
 // Where in a plane buffer a sample of block (x, y) of a plane lies.
-#[unsafe(no_mangle)]
-pub extern "C" fn wedgepetal_sample_offset(
+pub fn wedgepetal_sample_offset(
     session: &[u64],
     plane: u64,
     x: u64,
@@ -166,8 +160,7 @@ pub extern "C" fn wedgepetal_sample_offset(
 }
 
 // Reads a setup header into table memory; place receives the bit place of a refusal.
-#[unsafe(no_mangle)]
-pub extern "C" fn wedgepetal_setup(packet: &[u8], table: &mut [u8], place: &mut [u64]) -> u32
+pub fn wedgepetal_setup(packet: &[u8], table: &mut [u8], place: &mut [u64]) -> u32
     ensures { answers result table.new place.new ≡ setup_call packet.now table.old place.old }
 {
     if place.len() != 1 {
@@ -186,16 +179,14 @@ pub extern "C" fn wedgepetal_setup(packet: &[u8], table: &mut [u8], place: &mut 
 }
 
 // Whether some accepted setup packet leaves this table memory: 0 if so, else 8.
-#[unsafe(no_mangle)]
-pub extern "C" fn wedgepetal_table(table: &[u8]) -> u32
+pub fn wedgepetal_table(table: &[u8]) -> u32
     ensures { result ≡ table_call table.now }
 {
     answer_lists::table_number(table)
 }
 
 // The loop limit of a qi.
-#[unsafe(no_mangle)]
-pub extern "C" fn wedgepetal_loop_limit(table: &[u8], qi: u64, limit: &mut [u64]) -> u32
+pub fn wedgepetal_loop_limit(table: &[u8], qi: u64, limit: &mut [u64]) -> u32
     ensures { gives result limit.new ≡ limit_call table.now qi limit.old }
 {
     if limit.len() == 1 {
@@ -205,8 +196,7 @@ pub extern "C" fn wedgepetal_loop_limit(table: &[u8], qi: u64, limit: &mut [u64]
 }
 
 // The quantization matrix of a type, a plane and a qi.
-#[unsafe(no_mangle)]
-pub extern "C" fn wedgepetal_matrix(
+pub fn wedgepetal_matrix(
     table: &[u8],
     qti: u64,
     plane: u64,
@@ -224,8 +214,7 @@ pub extern "C" fn wedgepetal_matrix(
 }
 
 // The lengths of work memory for a session's frames.
-#[unsafe(no_mangle)]
-pub extern "C" fn wedgepetal_work_lengths(session: &[u64], lengths: &mut [u64]) -> u32
+pub fn wedgepetal_work_lengths(session: &[u64], lengths: &mut [u64]) -> u32
     ensures { gives result lengths.new ≡ work_lengths_call session.now lengths.old }
 {
     let k = session_list::lists_refusal(session, lengths.len(), 11);

@@ -1,4 +1,6 @@
 // The face of `changed_tiles` for C and other languages: include/wedgepetal.h says what each call is for.
+#![tactic(auto)]
+
 ghost use Rattle.std.specs.Prelude.{◌≡◌, length};
 ghost use Rattle.work_memory.specs.Memory.{memory};
 ghost use Rattle.calls.specs.Call.{call};
@@ -37,8 +39,7 @@ fn return_length(answer: MapLength, list: &mut [u64]) -> u32
 }
 
 // How many bytes a map of changed tiles has.
-#[unsafe(no_mangle)]
-pub extern "C" fn wedgepetal_tiles_length(
+pub fn wedgepetal_tiles_length(
     settings: &[u64],
     session: &[u64],
     length: &mut [u64],
@@ -55,8 +56,7 @@ pub extern "C" fn wedgepetal_tiles_length(
 }
 
 // Decodes a frame packet into new, and says in map which tiles changed.
-#[unsafe(no_mangle)]
-pub extern "C" fn wedgepetal_tiles_frame(
+pub fn wedgepetal_tiles_frame(
     settings: &[u64],
     session: &mut [u64],
     packet: &[u8],

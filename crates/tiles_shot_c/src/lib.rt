@@ -1,12 +1,13 @@
 // The face of `tiles_shot` for C and other languages: include/wedgepetal.h says what the call is for.
+#![tactic(auto)]
+
 ghost use Rattle.std.specs.Prelude.{◌≡◌};
 ghost use Rattle.work_memory.specs.Memory.{memory};
 ghost use Rattle.shot_c.specs.Face.{lists, shot_gives};
 ghost use Rattle.tiles_shot_c.specs.Face.{tiles_shot_gives, tiles_shot_face};
 
 // A whole shot, and for each packet the map of the tiles that it changed, one behind the other.
-#[unsafe(no_mangle)]
-pub extern "C" fn wedgepetal_tiles_shot(
+pub fn wedgepetal_tiles_shot(
     settings: &[u64],
     session: &mut [u64],
     names: &mut [u64],

@@ -1,4 +1,6 @@
 // Reads one token: its Huffman code and its extra bits, all out of one window of 64 bits.
+#![tactic(auto)]
+
 ghost use Rattle.std.specs.Prelude.{◌≡◌, ◌+◌, ◌-◌, ◌*◌, ◌/◌, ◌%◌, ◌<◌, ◌≤◌, ◌^◌, ltb, length};
 ghost use Rattle.bitstream.specs.Bits.{longest};
 ghost use Rattle.huffman.specs.Code.{tree_of, Formed};

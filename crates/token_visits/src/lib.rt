@@ -1,4 +1,6 @@
 // A pass over blocks at a position: each is visited in turn.
+#![tactic(auto)]
+
 ghost use Rattle.std.specs.Prelude.{◌≡◌, ◌+◌, ◌<◌, ◌≤◌, ◌^◌, length};
 ghost use Rattle.bitstream.specs.Bits.{longest};
 ghost use Rattle.huffman.specs.Code.{tree_of, Formed};

@@ -1,6 +1,6 @@
 -- How tokens give the coefficients of the coded blocks. A block is named by its rank: its index among the coded blocks in coded order.
 use Rattle.std.specs.Prelude.{ℕ, zero, suc, ◌+◌, ◌-◌, ◌*◌, List, [], ◌∷◌, get_or, replicate, ℤ, pos}
-use Rattle.bitstream.specs.Reading.{Parse, pure, bind, ◌>>=◌, ◌>>◌}
+use Rattle.bitstream.specs.Reading.{Parse, pure, bind, ◌>>=◌}
 use Rattle.huffman.specs.Tree.{Tree, leaf}
 use Rattle.block_visits.specs.Visits.{TokenState, state_of}
 use Rattle.token_visits.specs.Visits.{pass}

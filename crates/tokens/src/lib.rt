@@ -1,4 +1,6 @@
 // Reads the tokens of a frame into the coefficients of its coded blocks, which are named by their rank in coded order.
+#![tactic(auto)]
+
 ghost use Rattle.std.specs.Prelude.{◌≡◌, ◌+◌, ◌-◌, ◌*◌, ◌<◌, ◌≤◌, ◌^◌, length, get_or, take, drop};
 ghost use Rattle.bitstream.specs.Bits.{longest};
 ghost use Rattle.token_reader.specs.Answer.{Lookup};

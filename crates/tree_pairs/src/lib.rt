@@ -1,5 +1,7 @@
 // Huffman trees out of table memory, two at a time. Nearly every tree has all 32 tokens, and so 223 bits: where the second one begins is known before the first one is read, and both are read leaf by leaf in one loop.
 // The forks before a leaf are counted and not gone over: a processor foretells few of the branches where other work came in between. 80 trees take 5 us then, and took 18 (Zen 4). Two at once, since each leaf waits for the one before: one at a time took 7 to 9.
+#![tactic(auto)]
+
 ghost use Rattle.std.specs.Prelude.{◌≡◌, true, ℕ, ◌+◌, ◌*◌, ◌/◌, ◌%◌, ◌^◌, ◌≤◌, ◌<◌, length, get_or, set, replicate};
 ghost use Rattle.bitstream.specs.Bits.{bits, number, longest};
 ghost use Rattle.tree_pairs.specs.Pair.{Pushed, Pair};

@@ -1,11 +1,8 @@
 -- `buffer::clear_longs` meets its contract. The loop's invariant: the first i are 0. Assumes nothing.
-use mathlib.Core.Path.{◌≡◌, refl, ap, ◌∙◌}
-use mathlib.Core.List.{List}
-use Prim.Native.Nat.{ℕ, ◌-◌, ◌≤◌}
-use native.Mathlib.Omega.{arith}
-use borrow.Author.Rules.{rules}
-use lib.ListN.{length, set, length-set}
-use Rattle.buffer.proofs.Laws.{cleared, cleared_more}
+use mathlib.Core.Path.{◌≡◌}
+use Prim.Native.Nat.{◌-◌, ◌≤◌}
+use lib.ListN.{length}
+use Rattle.buffer.proofs.Laws.{cleared}
 use Rattle.buffer.proofs.clear_longs.Given as goal
 
 abbrev pub invariant-loop-i : goal.invariant-loop-i

@@ -1,11 +1,9 @@
-use mathlib.Core.Path.{◌≡◌, refl, ap, ◌∙◌}
+use mathlib.Core.Path.{ap, ◌∙◌}
 use mathlib.Core.List.{List}
-use Prim.Native.Nat.{ℕ, ◌-◌, ◌≤◌}
 use native.Mathlib.Omega.{arith}
-use borrow.Author.Rules.{rules}
-use lib.ListN.{length, set, length-set}
+use lib.ListN.{set, length-set}
 use lib.IntN.{ℤ, pos}
-use Rattle.buffer.proofs.Laws.{cleared, cleared_more}
+use Rattle.buffer.proofs.Laws.{cleared_more}
 use Rattle.buffer.proofs.clear_shorts.Goals as goal
 
 pub loop-i-preserved : goal.loop-i-preserved

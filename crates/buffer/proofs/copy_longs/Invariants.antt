@@ -1,12 +1,8 @@
 -- `buffer::copy_longs` meets its contract. The loop's invariant: the first k numbers are src's.
 -- Assumes nothing.
-use mathlib.Core.Path.{◌≡◌, refl, sym, ◌∙◌}
+use mathlib.Core.Path.{◌≡◌}
 use Prim.Native.Nat.{◌-◌, ◌≤◌}
-use native.Mathlib.Omega.{arith}
-use borrow.Author.Rules.{rules}
-use lib.ListN.{length, take, length-set}
-use lib.Seq.{take_all}
-use Rattle.buffer.proofs.Laws.{copied_more}
+use lib.ListN.{length, take}
 use Rattle.buffer.proofs.copy_longs.Given as goal
 
 abbrev pub invariant-loop-k : goal.invariant-loop-k

@@ -1,9 +1,9 @@
-use Prim.Native.Nat.{ℕ, ◌+◌, ◌-◌, ◌≤◌, ◌<◌}
+use Prim.Native.Nat.{ℕ, ◌+◌}
 use native.Mathlib.Omega.{arith}
-use mathlib.Core.Path.{◌≡◌, refl, ap, ◌∙◌}
+use mathlib.Core.Path.{ap, ◌∙◌}
 use mathlib.Core.List.{List}
-use lib.ListN.{length, set, length-set}
-use Rattle.buffer.proofs.Laws.{filled_to, filled_none, filled_more}
+use lib.ListN.{set, length-set}
+use Rattle.buffer.proofs.Laws.{filled_more}
 use borrow.Author.Rules.{rules}
 use Rattle.buffer.proofs.fill_bytes.Goals as goal
 

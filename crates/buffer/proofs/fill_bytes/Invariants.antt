@@ -1,11 +1,8 @@
 -- `buffer::fill_bytes` meets its contract. The invariant: the first k of the bytes are set. Assumes nothing.
-use Prim.Native.Nat.{ℕ, ◌+◌, ◌-◌, ◌≤◌, ◌<◌}
-use native.Mathlib.Omega.{arith}
-use mathlib.Core.Path.{◌≡◌, refl, ap, ◌∙◌}
-use mathlib.Core.List.{List}
-use lib.ListN.{length, set, length-set}
-use Rattle.buffer.proofs.Laws.{filled_to, filled_none, filled_more}
-use borrow.Author.Rules.{rules}
+use Prim.Native.Nat.{◌-◌, ◌≤◌}
+use mathlib.Core.Path.{◌≡◌}
+use lib.ListN.{length}
+use Rattle.buffer.proofs.Laws.{filled_to}
 use Rattle.buffer.proofs.fill_bytes.Given as goal
 
 abbrev pub invariant-loop-k : goal.invariant-loop-k

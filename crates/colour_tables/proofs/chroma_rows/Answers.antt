@@ -1,10 +1,7 @@
-use Prim.Native.Nat.{◌-◌, ◌*◌, ◌≤◌}
 use native.Mathlib.Omega.{arith}
-use mathlib.Core.Path.{◌≡◌, refl, ◌∙◌}
-use lib.ListN.{length, take}
+use mathlib.Core.Path.{refl, ◌∙◌}
 use Rattle.geometry.specs.Order.{in_turn}
-use Rattle.colour_tables.proofs.Parts.{row_part, row_more, rows_done}
-use borrow.Author.Rules.{rules}
+use Rattle.colour_tables.proofs.Parts.{row_more, rows_done}
 use Rattle.colour_tables.proofs.chroma_rows.Goals as goal
 
 pub loop-k-init : goal.loop-k-init
@@ -13,10 +10,10 @@ loop-k-init c = (omega arith, refl, refl)
 
 pub loop-k-preserved : goal.loop-k-preserved
 loop-k-preserved c = (
-      omega (arith, c.loop-k-test.true),
-      c.put_part-in-loop-k-2.auto.rows ∙ c.put_part-in-loop-k.auto.rows ∙ c.put_part.auto.rows ∙ c.loop-k.invariant.1,
-      row_more c.loop-k.rows _ _ _ c.loop-k.k _ c.part_of-c.ensures c.loop-k.invariant.2 c.put_part.ensures c.put_part-in-loop-k.ensures c.put_part-in-loop-k-2.ensures,
-    )
+  omega (arith, c.loop-k-test.true),
+  c.put_part-in-loop-k-2.auto.rows ∙ c.put_part-in-loop-k.auto.rows ∙ c.put_part.auto.rows ∙ c.loop-k.invariant.1,
+  row_more c.loop-k.rows _ _ _ c.loop-k.k _ c.part_of-c.ensures c.loop-k.invariant.2 c.put_part.ensures c.put_part-in-loop-k.ensures c.put_part-in-loop-k-2.ensures,
+)
 
 pub returns : goal.returns
 returns c = rows_done c.loop-k.rows c.loop-k.k c.loop-k.invariant.1 (omega (arith, c.loop-k.invariant.0, c.loop-k-test.false)) c.loop-k.invariant.2

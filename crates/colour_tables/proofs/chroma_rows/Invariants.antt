@@ -1,11 +1,9 @@
 -- `colour_tables::chroma_rows` meets its contract. The loop's invariant: k rows are made. Assumes nothing.
 use Prim.Native.Nat.{◌-◌, ◌*◌, ◌≤◌}
-use native.Mathlib.Omega.{arith}
-use mathlib.Core.Path.{◌≡◌, refl, ◌∙◌}
+use mathlib.Core.Path.{◌≡◌}
 use lib.ListN.{length, take}
 use Rattle.geometry.specs.Order.{in_turn}
-use Rattle.colour_tables.proofs.Parts.{row_part, row_more, rows_done}
-use borrow.Author.Rules.{rules}
+use Rattle.colour_tables.proofs.Parts.{row_part}
 use Rattle.colour_tables.proofs.chroma_rows.Given as goal
 
 abbrev pub invariant-loop-k : goal.invariant-loop-k

@@ -1,7 +1,6 @@
 -- `geometry::block_of_macro` meets its contract. Assumes nothing.
 use Rattle.geometry.proofs.MacroLaws.{luma_at, chroma_420, chroma_422, chroma_444}
 use mathlib.Core.Path.{◌∙◌}
-use borrow.Author.Rules.{rules}
 use Rattle.geometry.proofs.block_of_macro.Goals as goal
 
 pub returns-then-k-lt4 : goal.returns-then-k-lt4

@@ -1,8 +1,5 @@
 -- `geometry::macro_block_at` meets its contract. Assumes nothing.
-use native.Mathlib.Omega.{arith}
-use Rattle.geometry.proofs.Products.{plane_small}
 use Rattle.geometry.proofs.LumaMacros.{macro_at_by}
-use borrow.Author.Rules.{rules}
 use Rattle.geometry.proofs.macro_block_at.Goals as goal
 
 pub returns : goal.returns

@@ -1,6 +1,5 @@
 -- `geometry::macro_block_number` meets its contract. Assumes nothing.
 use Rattle.geometry.proofs.LumaMacros.{macro_number_by}
-use borrow.Author.Rules.{rules}
 use Rattle.geometry.proofs.macro_block_number.Goals as goal
 
 pub returns : goal.returns

@@ -3,7 +3,6 @@ use mathlib.Core.Path.{sym, ap, ◌∙◌}
 use Rattle.geometry.specs.declared.PixelFormat.{PixelFormat}
 use Rattle.geometry.specs.Macro.{macro_of, macro_of_chroma}
 use Rattle.geometry.proofs.MacroLaws.{macro_in_luma, macro_in_chroma}
-use borrow.Author.Rules.{rules}
 use Rattle.geometry.proofs.macro_of_block.Goals as goal
 
 pub returns-then-plane-eq0 : goal.returns-then-plane-eq0

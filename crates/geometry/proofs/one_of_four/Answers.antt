@@ -1,6 +1,5 @@
 -- `geometry::one_of_four` meets its contract. Assumes nothing.
 use Rattle.geometry.proofs.MacroLaws.{four_at}
-use borrow.Author.Rules.{rules}
 use Rattle.geometry.proofs.one_of_four.Goals as goal
 
 pub returns : goal.returns

@@ -1,9 +1,5 @@
 -- `geometry::plane_of` meets its contract. Assumes nothing.
-use Prim.Native.Nat.{◌*◌, ◌≤◌}
-use native.Mathlib.Omega.{arith}
-use Rattle.geometry.proofs.Products.{plane_small}
 use Rattle.geometry.proofs.SizeLaws.{luma_plane, cb_plane, cr_plane}
-use borrow.Author.Rules.{rules}
 use Rattle.geometry.proofs.plane_of.Goals as goal
 
 pub returns-then-p-eq0 : goal.returns-then-p-eq0

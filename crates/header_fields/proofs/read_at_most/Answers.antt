@@ -1,5 +1,4 @@
 -- `header_fields::read_at_most` meets its contract. Assumes nothing.
-use borrow.Author.Rules.{rules}
 use borrow.Author.Tests.{le-leb, lt-leb}
 use Rattle.header_fields.specs.Tests.{is_at_most}
 use Rattle.header_fields.proofs.Answers.{answer_end, answer_fails, answer_passes}

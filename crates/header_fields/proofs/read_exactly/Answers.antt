@@ -1,5 +1,4 @@
 -- `header_fields::read_exactly` meets its contract. Assumes nothing.
-use borrow.Author.Rules.{rules}
 use borrow.Author.Tests.{eq-eqb, ne_eqb}
 use Rattle.header_fields.specs.Tests.{is_exactly}
 use Rattle.header_fields.proofs.Answers.{answer_end, answer_fails, answer_passes}

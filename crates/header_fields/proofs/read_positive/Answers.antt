@@ -1,5 +1,4 @@
 -- `header_fields::read_positive` meets its contract. Assumes nothing.
-use borrow.Author.Rules.{rules}
 use borrow.Author.Tests.{le-ltb, lt-ltb}
 use Rattle.header_fields.specs.Tests.{is_positive}
 use Rattle.header_fields.proofs.Answers.{answer_end, answer_fails, answer_passes}

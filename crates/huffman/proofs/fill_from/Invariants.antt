@@ -1,11 +1,8 @@
 -- `huffman::fill_from` meets its contract. Assumes nothing.
-use borrow.Author.Rules.{rules}
-use Prim.Native.Nat.{ℕ, ◌-◌, ◌≤◌}
-use native.Mathlib.Omega.{arith}
-use mathlib.Core.Path.{◌≡◌, refl, ap, ◌∙◌}
-use mathlib.Core.List.{List}
-use lib.ListN.{length, get_or, set, length-set}
-use Rattle.huffman.proofs.Grows.{filled, filled_more, filled_all}
+use Prim.Native.Nat.{◌-◌, ◌≤◌}
+use mathlib.Core.Path.{◌≡◌}
+use lib.ListN.{length}
+use Rattle.huffman.proofs.Grows.{filled}
 use Rattle.huffman.proofs.fill_from.Given as goal
 
 abbrev pub invariant-loop-i : goal.invariant-loop-i

@@ -9,7 +9,7 @@ use Rattle.huffman.proofs.seven_bits.Goals as goal
 pub returns : goal.returns
 returns c =
     let first_fits : get_or c.args.packet.now (c.args.at / 8) 0 < 256 =
-        omega (arith, c.shared_slice_known-2-1.given (c.args.at / 8)) in
+    omega (arith, c.type_inv.packet (c.args.at / 8)) in
     let second_fits : get_or c.args.packet.now (c.args.at / 8 + 1) 0 < 256 =
-        omega (arith, c.shared_slice_known-2-1.given (c.args.at / 8 + 1)) in
+    omega (arith, c.type_inv.packet (c.args.at / 8 + 1)) in
     (rw c.byte_or_zero-second.ensures (bits_of_two c.args.packet.now c.args.at 7 (9 - c.args.at % 8) (omega arith) (first_fits) (second_fits)), search rules)

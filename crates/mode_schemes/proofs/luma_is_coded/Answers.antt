@@ -1,9 +1,7 @@
 -- `mode_schemes::luma_is_coded` meets its contract. Assumes nothing.
-use Prim.Native.Nat.{◌-◌}
 use native.Mathlib.Omega.{arith}
 use mathlib.Core.Path.{sym}
 use Rattle.mode_schemes.proofs.Facts.{coded_by, coded_last}
-use borrow.Author.Rules.{rules}
 use Rattle.mode_schemes.proofs.luma_is_coded.Goals as goal
 
 pub returns-then-flags-first-gt0 : goal.returns-then-flags-first-gt0

@@ -1,7 +1,6 @@
 -- `mode_schemes::mode_of_rank` meets its contract. Assumes nothing.
 use mathlib.Core.Path.{◌∙◌}
-use Rattle.mode_schemes.proofs.Facts.{place_some, digit_by, of_rank_sent, of_rank_listed}
-use borrow.Author.Rules.{rules}
+use Rattle.mode_schemes.proofs.Facts.{digit_by, of_rank_sent, of_rank_listed}
 use Rattle.mode_schemes.proofs.mode_of_rank.Goals as goal
 
 pub returns-then-scheme-eq0 : goal.returns-then-scheme-eq0

@@ -1,12 +1,9 @@
-use Prim.Native.Nat.{◌-◌, ◌≤◌}
 use native.Mathlib.Omega.{arith}
-use mathlib.Core.Path.{◌≡◌, refl, ◌∙◌}
+use mathlib.Core.Path.{◌≡◌, ◌∙◌}
 use Rattle.bitstream.specs.Reading.{got, field}
 use Rattle.bitstream.proofs.Fields.{read_got, read_refused, field_lt}
 use Rattle.bitstream.proofs.Ends.{on_list, on_refusal}
-use Rattle.mode_schemes.specs.Schemes.{ranks_from}
 use Rattle.mode_schemes.proofs.Facts.{ranks_done, ranks_end, ranks_on}
-use borrow.Author.Rules.{rules}
 use Rattle.bitstream.proofs.Clauses.{two}
 use Rattle.mode_schemes.proofs.read_ranks.Goals as goal
 
@@ -16,13 +13,13 @@ returns-in-Refused c = two (λ a b. record { value = a; stored = b }) (on_refusa
 pub bounds-alphabet-rank : goal.bounds-alphabet-rank
 bounds-alphabet-rank c =
     let rank-got : field 3 c.args.packet.now c.loop-m.place ≡ got c.in-Got.r c.in-Got.next =
-        read_got (field 3 c.args.packet.now c.loop-m.place) c.read-one.ensures c.in-Got.is in
+    read_got (field 3 c.args.packet.now c.loop-m.place) c.read-one.ensures c.in-Got.is in
     omega (arith, field_lt 3 _ _ (rank-got))
 
 pub loop-m-preserved : goal.loop-m-preserved
 loop-m-preserved c =
     let rank-got : field 3 c.args.packet.now c.loop-m.place ≡ got c.in-Got.r c.in-Got.next =
-        read_got (field 3 c.args.packet.now c.loop-m.place) c.read-one.ensures c.in-Got.is in
+    read_got (field 3 c.args.packet.now c.loop-m.place) c.read-one.ensures c.in-Got.is in
     (omega (arith, c.loop-m-test.true), c.loop-m.invariant.1 ∙ ranks_on c.args.packet.now c.loop-m.place c.loop-m.m c.loop-m.alphabet c.loop-m-test.true (rank-got))
 
 pub returns : goal.returns

@@ -1,11 +1,8 @@
 -- `packet_list::lengths_reach` meets its contract. The invariant: what was taken from the room is what the lengths so far come to. Assumes nothing.
 use Prim.Native.Nat.{◌+◌, ◌-◌, ◌≤◌}
-use native.Mathlib.Omega.{arith}
-use mathlib.Core.Path.{◌≡◌, sym}
+use mathlib.Core.Path.{◌≡◌}
 use lib.ListN.{length, drop}
-use borrow.Author.Tests.{le-leb, lt-leb}
 use Rattle.packet_list.specs.Packets.{total}
-use Rattle.packet_list.proofs.Walk.{total_drop, total_end}
 use Rattle.packet_list.proofs.lengths_reach.Given as goal
 
 abbrev pub invariant-loop-i : goal.invariant-loop-i

@@ -1,5 +1,4 @@
 -- `report::begin` meets its contract. Assumes nothing.
-use borrow.Author.Rules.{rules}
 use Rattle.report.proofs.Steps.{begun}
 use Rattle.report.proofs.begin.Goals as goal
 

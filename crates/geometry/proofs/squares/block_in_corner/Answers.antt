@@ -1,10 +1,7 @@
 -- `geometry::squares::block_in_corner` meets its contract. Assumes nothing.
-use Prim.Native.Nat.{◌<◌}
-use native.Mathlib.Omega.{arith}
 use Rattle.geometry.specs.Order.{block_walk}
 use Rattle.geometry.proofs.Tables.{block_corner}
-use Rattle.geometry.proofs.TableLaws.{corners, block_corners, corner_some}
-use borrow.Author.Rules.{rules}
+use Rattle.geometry.proofs.TableLaws.{corners, block_corners}
 use Rattle.geometry.proofs.squares.block_in_corner.Goals as goal
 
 pub returns : goal.returns

@@ -3,7 +3,6 @@ use native.Mathlib.Omega.{arith}
 use Rattle.geometry.specs.Order.{block_walk}
 use Rattle.geometry.proofs.Tables.{block_rank}
 use Rattle.geometry.proofs.TableLaws.{ranks, block_ranks}
-use borrow.Author.Rules.{rules}
 use Rattle.geometry.proofs.squares.block_rank.Goals as goal
 
 pub returns : goal.returns
