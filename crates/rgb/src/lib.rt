@@ -1,4 +1,6 @@
 // Red, green and blue of a frame, by five tables of contributions (`colour_tables`).
+#![tactic(auto)]
+
 ghost use Rattle.std.specs.Prelude.{◌≡◌, ◌++◌, ◌+◌, ◌*◌, ◌/◌, ◌%◌, ◌≤◌, ◌<◌, length, take};
 ghost use Rattle.geometry.specs.Sizes.{up, blocks_of, largest};
 ghost use Rattle.output.specs.Output.{left_by, as_written, spliced};

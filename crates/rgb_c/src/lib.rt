@@ -1,4 +1,6 @@
 // The face of `rgb` for C and other languages: include/wedgepetal.h says what the call is for.
+#![tactic(auto)]
+
 ghost use Rattle.std.specs.Prelude.{◌≡◌, length};
 ghost use Rattle.session_list.specs.List.{gives};
 ghost use Rattle.rgb_c.specs.Face.{written_returned, rgb_call, rgb_left};
@@ -20,12 +22,7 @@ fn return_written(answer: Written, list: &mut [u64]) -> u32
 }
 
 // A frame in red, green and blue: three bytes a pixel, the whole coded frame, top row first.
-pub fn wedgepetal_rgb(
-    session: &[u64],
-    planes: &[u8],
-    out: &mut [u8],
-    written: &mut [u64],
-) -> u32
+pub fn wedgepetal_rgb(session: &[u64], planes: &[u8], out: &mut [u8], written: &mut [u64]) -> u32
     ensures written_after { gives result written.new ≡ rgb_call session.now planes.now (length out.old) written.old }
     ensures out_after { out.new ≡ rgb_left session.now planes.now out.old (length written.old) }
 {
