@@ -1,4 +1,6 @@
 // What is answered for a frame packet that was read, and what is left to do with it.
+#![tactic(auto)]
+
 ghost use Rattle.std.specs.Prelude.{true, ◌≡◌};
 ghost use Rattle.bitstream.specs.Reading.{Outcome, after};
 ghost use Rattle.headers.specs.Fits.{session_fits};

@@ -1,4 +1,6 @@
 // The bits of a packet, read as fields of up to 32 bits.
+#![tactic(auto)]
+
 ghost use Rattle.std.specs.Prelude.{◌≡◌, ℕ, ◌+◌, ◌*◌, ◌/◌, ◌≤◌, ◌^◌, length};
 ghost use Rattle.bitstream.specs.Reading.{field, two_fields, unary};
 ghost use Rattle.bitstream.specs.Bits.{number, longest};

@@ -1,4 +1,6 @@
 // The edges of a block: which are wanted, and the loop filter at those.
+#![tactic(auto)]
+
 ghost use Rattle.std.specs.Prelude.{◌≡◌, true, false, not, cond, ◌+◌, ◌*◌, ◌-◌, ◌≤◌, ◌<◌, length};
 ghost use Rattle.ways.specs.Loops.{when};
 ghost use Rattle.ways.specs.Ways.{edge, edges_at};

@@ -1,4 +1,6 @@
 // The flags of the blocks of one super block, out of strings that were read.
+#![tactic(auto)]
+
 ghost use Rattle.std.specs.Prelude.{◌≡◌, ◌++◌, ◌+◌, ◌≤◌, ◌<◌, length, take, drop};
 ghost use Rattle.block_flags.specs.Flags.{block_flags, taken_next};
 

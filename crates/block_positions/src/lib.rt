@@ -1,4 +1,6 @@
 // The blocks of a frame by their positions: which are unfinished, and which stand at a position.
+#![tactic(auto)]
+
 ghost use Rattle.std.specs.Prelude.{◌≡◌, ◌<◌, ◌≤◌, [], ◌∷◌, length, take};
 ghost use Rattle.block_positions.specs.Positions.{unfinished, run_of};
 ghost use Rattle.block_positions.specs.Answer.{one_if_due, due_of, Below};

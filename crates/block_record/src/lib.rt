@@ -1,4 +1,6 @@
 // A block's record: whether it is coded, which of the frame's qi it has, and which prediction; and how work memory holds it.
+#![tactic(auto)]
+
 ghost use Rattle.std.specs.Prelude.{◌≡◌, ◌≤◌, ◌<◌};
 ghost use Rattle.block_record.specs.Record.{InRange, PredictionInRange, VectorInRange, reference_of, with_prediction, with_qi_index, now_coded};
 ghost use Rattle.block_record.specs.Packed.{vector_number, vector_at, prediction_number, prediction_at, packed, unpacked};

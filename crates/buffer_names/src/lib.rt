@@ -1,4 +1,6 @@
 // The names of the buffers that hold golden and previous: which of three is free, and the names after a packet.
+#![tactic(auto)]
+
 ghost use Rattle.std.specs.Prelude.{◌≡◌};
 ghost use Rattle.buffer_names.specs.Names.{free, names_after, names_of, names_fit};
 

@@ -1,4 +1,6 @@
 // Frame calls by the rules: what a call is lent, what it answers and what it leaves, and the theorems on lists of calls. Of a program only the tests of what is lent stand here.
+#![tactic(auto)]
+
 ghost use Rattle.std.specs.Prelude.{◌≡◌, ◌≤◌, ◌^◌};
 ghost use Rattle.calls.specs.Room.{room_for_frames, room_for_work, lent_by};
 

@@ -1,4 +1,6 @@
 // A census: one recording is added to a report. Planes, table and work memory are scratch, all zero afterwards.
+#![tactic(auto)]
+
 ghost use Rattle.std.specs.Prelude.{◌≡◌, true, List, ℕ, ◌+◌, ◌≤◌, length, drop, replicate};
 ghost use Rattle.headers.specs.Fits.{session_fits};
 ghost use Rattle.work_memory.specs.Memory.{memory, work};

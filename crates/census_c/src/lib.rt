@@ -1,4 +1,6 @@
 // The face of `census` for C and other languages: include/wedgepetal.h says what the call is for.
+#![tactic(auto)]
+
 ghost use Rattle.std.specs.Prelude.{◌≡◌};
 ghost use Rattle.work_memory.specs.Memory.{memory};
 ghost use Rattle.census_packets.specs.Recording.{lent};

@@ -1,4 +1,6 @@
 // The packets of a recording, counted: its headers, one packet more, and all of them.
+#![tactic(auto)]
+
 ghost use Rattle.std.specs.Prelude.{◌≡◌, List, [], ℕ, ◌≤◌, length, get_or, take};
 ghost use Rattle.setup.specs.Table.{table_after};
 ghost use Rattle.packet_list.specs.Packets.{total, packets_in};

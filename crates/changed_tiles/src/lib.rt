@@ -1,4 +1,6 @@
 // Which tiles changed: a frame call that keeps a map beside the frame. It sees of the decoder what that promises.
+#![tactic(auto)]
+
 ghost use Rattle.std.specs.Prelude.{◌≡◌};
 ghost use Rattle.work_memory.specs.Memory.{memory};
 ghost use Rattle.asked_frame.specs.Answer.{state, done};

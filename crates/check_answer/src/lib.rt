@@ -1,4 +1,6 @@
 // What a check of the vendor's file answers: what is said after the last packet, and the same as numbers.
+#![tactic(auto)]
+
 ghost use Rattle.std.specs.Prelude.{◌≡◌, length};
 ghost use Rattle.check_answer.specs.Said.{said_by};
 ghost use Rattle.check_answer.specs.Found.{found_by, returned};

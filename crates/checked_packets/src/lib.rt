@@ -1,4 +1,6 @@
 // The packets of a shot, applied in order, and each frame compared with a file.
+#![tactic(auto)]
+
 ghost use Rattle.std.specs.Prelude.{◌≡◌, true, List, [], ◌∷◌, ◌*◌, ◌≤◌, length};
 ghost use Rattle.headers.specs.Fits.{session_fits};
 ghost use Rattle.work_memory.specs.Memory.{memory};

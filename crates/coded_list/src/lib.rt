@@ -1,4 +1,6 @@
 // The list of a frame's coded blocks, and the records of all blocks: super block by super block.
+#![tactic(auto)]
+
 ghost use Rattle.std.specs.Prelude.{◌≡◌, ◌++◌, map, ◌+◌, ◌≤◌, ◌<◌, length, drop, replicate};
 ghost use Rattle.geometry.specs.Sizes.{blocks_of, largest};
 ghost use Rattle.block_record.specs.Packed.{packed};

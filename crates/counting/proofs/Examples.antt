@@ -1,11 +1,10 @@
 -- A worked example: a frame of two macro blocks across in 4:2:0, that is 8 blocks of luma and 2 of each chroma. Assumes nothing.
 use mathlib.Core.Path.{◌≡◌, refl}
 use mathlib.Core.List.{[], ◌∷◌}
-use lib.ListN.{replicate}
 use Rattle.bitstream.specs.Lists.{tabulated}
 use Rattle.geometry.specs.declared.PixelFormat.TheVariants.{Chroma420}
 use Rattle.geometry.specs.Sizes.{total, blocks_before}
-use Rattle.frame_header.specs.declared.Kind.TheVariants.{Intra, Inter}
+use Rattle.frame_header.specs.declared.Kind.TheVariants.{Inter}
 use Rattle.counting.specs.Counts.{count, frame_counts}
 
 -- an inter frame that codes four blocks of luma, one of Cb and two of Cr; its modes are FOUR and LAST

@@ -9,7 +9,7 @@ use lib.ListN.{length, get_or, set, drop, replicate, drop_of_length-le, length-s
 use lib.Seq.{get_or-set_same, get_or-set_other}
 use borrow.Author.Tests.{ne_eqb, eqb-true, eqb-false, leb-true, leb-false, ltb-true, ltb-false, lt-ltb, le-ltb}
 use Rattle.bitstream.specs.Reading.{choose}
-use Rattle.bitstream.specs.Lists.{All, none, one, Other, Once, empty, more, tabulated}
+use Rattle.bitstream.specs.Lists.{All, one, Other, Once, more}
 use Rattle.bitstream.proofs.ListLaws.{drop_next}
 use Rattle.bitstream.proofs.Lists.{tabulated_is}
 use Rattle.geometry.specs.declared.PixelFormat.{PixelFormat}

@@ -2,15 +2,15 @@
 use Prim.Native.Nat.{ℕ, suc, ◌+◌, ◌-◌, ◌/◌, ◌≤◌}
 use native.Mathlib.Omega.{arith}
 use native.Mathlib.Nat.{zero-add}
-use mathlib.Core.Path.{◌≡◌, refl, sym, ap, ◌∙◌}
+use mathlib.Core.Path.{◌≡◌, sym, ap, ◌∙◌}
 use mathlib.Core.List.{List, [], ◌∷◌}
 use Rattle.bitstream.specs.Lists.{tabulated, Once}
 use Rattle.geometry.specs.declared.PixelFormat.{PixelFormat}
 use Rattle.geometry.specs.declared.FrameSizes.{FrameSizes}
-use Rattle.geometry.specs.Sizes.{plane_blocks, blocks_of, blocks_before, sizes_of}
+use Rattle.geometry.specs.Sizes.{plane_blocks, blocks_before, sizes_of}
 use Rattle.geometry.proofs.SizeLaws.{before_luma, before_next, before_all}
 use Rattle.counting.specs.declared.Counts.{Counts}
-use Rattle.counting.specs.Counts.{count_within, coded_in, uncoded_in, block_counts}
+use Rattle.counting.specs.Counts.{count_within, coded_in, block_counts}
 use Rattle.counting.proofs.Laws.{once_within}
 
 between : {a b k n : ℕ} → a ≡ k → b ≡ k + n → b - a ≡ n

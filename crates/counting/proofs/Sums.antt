@@ -1,15 +1,14 @@
 -- What the counts of a frame add up to: for each plane its blocks, over all planes NBS, and over the modes of an inter frame its macro blocks. Assumes nothing.
-use Prim.Native.Nat.{ℕ, zero, suc, ◌+◌, ◌-◌, ◌≤◌, ◌<◌}
+use Prim.Native.Nat.{ℕ, zero, suc, ◌+◌, ◌<◌}
 use native.Mathlib.Omega.{arith}
 use native.Mathlib.Nat.{zero-add}
-use mathlib.Core.Path.{◌≡◌, refl, sym, ap, ◌∙◌}
+use mathlib.Core.Path.{◌≡◌, refl, ap, ◌∙◌}
 use mathlib.Core.List.{List, [], ◌∷◌}
-use mathlib.Core.Bool.{Bool, true, false}
 use mathlib.Core.Logic.{inl, inr}
 use lib.Dec.{eqb}
 use lib.ListN.{length, get_or, replicate}
 use Rattle.bitstream.specs.Reading.{choose}
-use Rattle.bitstream.specs.Lists.{tabulated, All, none, one, AllBelow, Once}
+use Rattle.bitstream.specs.Lists.{tabulated, one, AllBelow, Once}
 use Rattle.bitstream.proofs.Lists.{tabulated_at}
 use Rattle.geometry.specs.declared.PixelFormat.{PixelFormat}
 use Rattle.geometry.specs.Sizes.{plane_blocks, blocks_of}

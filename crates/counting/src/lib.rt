@@ -1,4 +1,6 @@
 // What one frame adds to a census: its coded and uncoded blocks by plane, and the macro blocks of an inter frame by mode.
+#![tactic(auto)]
+
 ghost use Rattle.std.specs.Prelude.{◌≡◌, ◌&&◌, ◌≤◌, leb, ltb};
 ghost use Rattle.bitstream.specs.Reading.{choose};
 ghost use Rattle.bitstream.specs.Lists.{Once, AllBelow};

@@ -1,4 +1,6 @@
 // A frame packet, decoded by a session and a table memory: what is answered, the frame, and work memory, which is all zero before and after.
+#![tactic(auto)]
+
 ghost use Rattle.bitstream.specs.Bits.{longest};
 ghost use Rattle.std.specs.Prelude.{◌≡◌, true, false, ◌*◌, ◌≤◌, ◌<◌, length, get_or};
 ghost use Rattle.quantization.specs.Sound.{Held as HeldParameters};

@@ -1,4 +1,6 @@
 // The frame call for C and other languages, alone in its crate since it passes many slices: include/wedgepetal.h says what it is for.
+#![tactic(auto)]
+
 ghost use Rattle.std.specs.Prelude.{◌≡◌};
 ghost use Rattle.session_list.specs.List.{answers};
 ghost use Rattle.work_memory.specs.Memory.{memory};

@@ -1,4 +1,6 @@
 // What a frame's call for C returns and leaves in the lists of the session and of the answer.
+#![tactic(auto)]
+
 ghost use Rattle.std.specs.Prelude.{◌≡◌, length};
 ghost use Rattle.session_list.specs.List.{answers};
 ghost use Rattle.frame_lists.specs.FrameLists.{reference_number, verdict_returned};

@@ -1,4 +1,6 @@
 // The bits of a frame header that are judged: the first bit, the frame type, the reserved bits.
+#![tactic(auto)]
+
 ghost use Rattle.std.specs.Prelude.{◌≡◌, ◌≤◌, length};
 ghost use Rattle.bitstream.specs.Bits.{longest};
 ghost use Rattle.bitstream.specs.Answer.{as_field};

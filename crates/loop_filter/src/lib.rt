@@ -1,4 +1,6 @@
 // The loop filter of a frame.
+#![tactic(auto)]
+
 ghost use Rattle.std.specs.Prelude.{◌≡◌, ◌+◌, ◌*◌, ◌≤◌, ◌<◌, length};
 ghost use Rattle.geometry.specs.Sizes.{across, up, blocks_before, blocks_of, largest};
 ghost use Rattle.ways.specs.Ways.{filter_all};

@@ -1,4 +1,6 @@
 // The frame that a packet asks for, and the lists of its blocks cleared.
+#![tactic(auto)]
+
 ghost use Rattle.std.specs.Prelude.{◌≡◌, ◌*◌, ◌≤◌, pos, length, replicate};
 ghost use Rattle.geometry.specs.Sizes.{blocks_of, largest};
 ghost use Rattle.ways.specs.Ways.{first_way};

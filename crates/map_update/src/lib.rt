@@ -1,4 +1,6 @@
 // The map of changed tiles after a packet, by the session before it: all 1 without references, as it was where the packet is refused.
+#![tactic(auto)]
+
 ghost use Rattle.std.specs.Prelude.{◌≡◌, true};
 ghost use Rattle.headers.specs.Fits.{session_fits};
 ghost use Rattle.settings.specs.Settings.{settings_fit};

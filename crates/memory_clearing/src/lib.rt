@@ -1,4 +1,6 @@
 // Clearing slices of work memory: those that a reader leaves, and its scratch.
+#![tactic(auto)]
+
 ghost use Rattle.std.specs.Prelude.{◌≡◌, ◌-◌, ◌*◌, ◌≤◌, pos, length, drop, replicate};
 
 // The slices that hold what was read become 0.

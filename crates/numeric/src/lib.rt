@@ -1,4 +1,6 @@
 // Cut to 16 bits, rounding with ties away from 0, and the clamp to a sample.
+#![tactic(auto)]
+
 ghost use Rattle.std.specs.Prelude.{◌≡◌, ◌+◌, ◌*◌, ◌^◌, ◌≤◌, ◌<◌, pos, nat_abs, ◌<ℤ◌};
 ghost use Rattle.numeric.specs.Cut.{cut};
 ghost use Rattle.numeric.specs.Divide.{toward_zero, round_over};

@@ -1,4 +1,6 @@
 // The beginning of a whole shot's call: the tests of what is lent, of table memory and of the packets' reach.
+#![tactic(auto)]
+
 ghost use Rattle.std.specs.Prelude.{◌≡◌, List, ℕ, ◌*◌, eqb, length};
 ghost use Rattle.bitstream.specs.Reading.{choose};
 ghost use Rattle.setup.specs.Table.{held_setup};

@@ -1,16 +1,13 @@
 -- What each function has to show, over plain lists and outcomes. Assumes nothing.
-use Prim.Native.Nat.{ℕ, zero, ◌-◌, ◌*◌, ◌≤◌, ◌^◌}
+use Prim.Native.Nat.{ℕ, ◌-◌, ◌*◌, ◌≤◌, ◌^◌}
 use native.Mathlib.Omega.{arith}
 use native.Mathlib.Nat.{sub-zero}
 use mathlib.Core.Path.{◌≡◌, refl, sym, ap, ◌∙◌, subst}
-use mathlib.Core.List.{List, [], ◌∷◌, ◌++◌, map, append-nil}
+use mathlib.Core.List.{List, [], ◌++◌, map, append-nil}
 use mathlib.Core.Bool.{false}
-use mathlib.Core.Logic.{⊎_elim}
 use lib.IntN.{ℤ, pos}
 use lib.ListN.{length, take, drop, replicate, length-append, length-replicate, take-append-drop}
 use lib.Seq.{take_at, length-take-le}
-use denote.Enum.Declared.{tag_of}
-use types.Run.{OneOf}
 use Rattle.bitstream.specs.Reading.{Outcome, got, refused, after, bind}
 use Rattle.bitstream.proofs.Fields.{no_mix}
 use Rattle.bitstream.proofs.Laws.{bind_step, bind_got}
@@ -30,7 +27,6 @@ use Rattle.block_record.specs.Memory.{AllPacked, records_of}
 use Rattle.block_record.proofs.MemoryLaws.{AllInRange, all_packed, records_packed}
 use Rattle.frame_header.specs.declared.Kind.{Kind}
 use Rattle.frame_header.specs.declared.Kind.TheVariants.{Intra, Inter, Repeat}
-use Rattle.frame_header.specs.contracts.Kind as kind
 use Rattle.coded_list.specs.declared.Listed.{Listed}
 use Rattle.coded_flags.specs.Flags.{inter_flags, intra_flags}
 use Rattle.coded_flags.specs.Coded.{coded_blocks, coded_luma, coded_records}
@@ -83,9 +79,9 @@ sized f w h m e =
     })
 
 -- ---- kinds
--- the second and the third variant are not the first
-pub not_intra : (k : Kind) → OneOf (1 ∷ 2 ∷ []) (tag_of kind.the_type k) → is_intra k ≡ false
-not_intra Intra o = absurd (⊎_elim (λ z. omega (arith, z)) (λ z. omega (arith, z)) o)
+-- a kind that is not the first
+pub not_intra : (k : Kind) → (k ≡ Intra → ⊥) → is_intra k ≡ false
+not_intra Intra o = absurd (o refl)
 not_intra Inter o = refl
 not_intra Repeat o = refl
 

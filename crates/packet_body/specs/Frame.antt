@@ -1,6 +1,6 @@
 -- "A frame packet": what it says, read to its end before any sample is made. Nothing here depends on golden, previous or the value of a vector.
 use Rattle.std.specs.Prelude.{ℕ, List, [], ◌∷◌, Bool, true, false, length, replicate}
-use Rattle.bitstream.specs.Reading.{Outcome, got, refused, Parse, pure, bind, pick, choose, ◌>>=◌}
+use Rattle.bitstream.specs.Reading.{Outcome, got, refused, Parse, pure, pick, choose, ◌>>=◌}
 use Rattle.bitstream.specs.Numbers.{no_references}
 use Rattle.geometry.specs.declared.PixelFormat.{PixelFormat}
 use Rattle.geometry.specs.Sizes.{blocks_of, macro_blocks_of}

@@ -1,4 +1,6 @@
 // What stands behind the header of a frame packet, read into work memory.
+#![tactic(auto)]
+
 ghost use Rattle.std.specs.Prelude.{◌≡◌, map, ◌*◌, ◌≤◌, ◌^◌, pos, length, replicate};
 ghost use Rattle.bitstream.specs.Bits.{longest};
 ghost use Rattle.bitstream.specs.Reading.{bind};

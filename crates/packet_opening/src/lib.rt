@@ -1,4 +1,6 @@
 // How a frame packet opens: with a header, or empty.
+#![tactic(auto)]
+
 ghost use Rattle.std.specs.Prelude.{◌≡◌};
 ghost use Rattle.packet_opening.specs.Opening.{opening_of};
 

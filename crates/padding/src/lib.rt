@@ -1,1 +1,2 @@
 // What is promised of bytes behind a packet: they change nothing. Definitions and theorems alone.
+#![tactic(auto)]

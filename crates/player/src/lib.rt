@@ -1,4 +1,6 @@
 // What a player does beside the calls: it hands frames on, and makes the hash of a frame.
+#![tactic(auto)]
+
 ghost use Rattle.std.specs.Prelude.{◌≡◌, length};
 ghost use Rattle.player.specs.Hash.{hash_byte, hash_of};
 ghost use Rattle.player.specs.HandOn.{HandsOn};

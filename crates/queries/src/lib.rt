@@ -1,4 +1,6 @@
 // What a caller may ask of a session: orders of blocks, offsets of samples.
+#![tactic(auto)]
+
 ghost use Rattle.geometry.specs.Sizes.{largest};
 ghost use Rattle.std.specs.Prelude.{◌≡◌, ℕ, ◌≤◌, ◌<◌};
 ghost use Rattle.geometry.specs.Frame.{block};

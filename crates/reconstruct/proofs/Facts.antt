@@ -15,7 +15,6 @@ use lib.Seq.{take_all, get_or-take, get_or-drop}
 use Rattle.geometry.specs.declared.PixelFormat.{PixelFormat}
 use Rattle.geometry.specs.declared.Block.{Block}
 use Rattle.geometry.specs.Sizes.{blocks_of}
-use Rattle.geometry.specs.Frame.{block}
 use Rattle.geometry.specs.Raster.{raster_number, block_no}
 use Rattle.block_record.specs.Packed.{unpacked}
 use Rattle.block_record.specs.Record.{InRange, uncoded}

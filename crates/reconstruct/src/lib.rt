@@ -1,4 +1,6 @@
 // The frame of the coded blocks that a packet asks for, made in the second way: previous whole, the coded blocks over it, then the loop filter.
+#![tactic(auto)]
+
 ghost use Rattle.std.specs.Prelude.{◌≡◌, map, ◌+◌, ◌*◌, ◌≤◌, ◌<◌, pos, length, get_or, take, replicate};
 ghost use Rattle.geometry.specs.Sizes.{across, up, blocks_of, largest};
 ghost use Rattle.block_record.specs.Record.{InRange};

@@ -1,4 +1,6 @@
 // Strings of bits that a frame packet sends as runs.
+#![tactic(auto)]
+
 ghost use Rattle.std.specs.Prelude.{◌≡◌, ℕ, ◌<◌, ◌≤◌, length};
 ghost use Rattle.bitstream.specs.Bits.{longest};
 ghost use Rattle.bitstream.specs.Answer.{as_field, as_end, Stored};

@@ -1,5 +1,5 @@
 -- The scoring product's face for C: sessions, settings and answers as lists of numbers, and what each call returns and leaves.
-use Rattle.std.specs.Prelude.{ℕ, List, [], ◌∷◌, eqb, length, get_or}
+use Rattle.std.specs.Prelude.{ℕ, List, [], ◌∷◌, eqb, length}
 use Rattle.bitstream.specs.Reading.{choose}
 use Rattle.bitstream.specs.Numbers.{wrong_length}
 use Rattle.headers.specs.declared.Session.{Session}

@@ -1,4 +1,6 @@
 // The scoring product's face for C and other languages: numbers, lists of numbers and bytes alone.
+#![tactic(auto)]
+
 ghost use Rattle.std.specs.Prelude.{◌≡◌, [], ◌∷◌, length};
 ghost use Rattle.output.specs.Output.{left_by, as_written};
 ghost use Rattle.y4m.specs.Film.{film_in, as_film};

@@ -1,4 +1,6 @@
 // What the session becomes after an accepted frame, and whether its numbers stay within their bounds.
+#![tactic(auto)]
+
 ghost use Rattle.std.specs.Prelude.{true, ◌≡◌};
 ghost use Rattle.headers.specs.Fits.{session_fits};
 ghost use Rattle.session_steps.specs.Steps.{stays_counted, session_after};

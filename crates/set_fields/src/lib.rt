@@ -1,4 +1,6 @@
 // The fields of a set of quant ranges, read and judged: where the set comes from, and the index and the size of a range.
+#![tactic(auto)]
+
 ghost use Rattle.std.specs.Prelude.{◌≡◌, ◌+◌, ◌-◌, ◌≤◌, ◌<◌, length};
 ghost use Rattle.bitstream.specs.Bits.{longest};
 ghost use Rattle.bitstream.specs.Answer.{as_field};

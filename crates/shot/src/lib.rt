@@ -1,4 +1,6 @@
 // A whole shot in one call: packets joined together, applied in order, with three buffers that are named.
+#![tactic(auto)]
+
 ghost use Rattle.std.specs.Prelude.{◌≡◌};
 ghost use Rattle.work_memory.specs.Memory.{memory};
 ghost use Rattle.opening.specs.Call.{shot_call};

@@ -1,4 +1,6 @@
 // The face of `shot` for C and other languages: include/wedgepetal.h says what the call is for.
+#![tactic(auto)]
+
 ghost use Rattle.std.specs.Prelude.{◌≡◌, length};
 ghost use Rattle.work_memory.specs.Memory.{memory};
 ghost use Rattle.shot_c.specs.Face.{names_in, reference_number, lists, lists_after, shot_gives, shot_face};

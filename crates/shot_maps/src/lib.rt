@@ -1,4 +1,6 @@
 // The maps of a shot: whether they have their length, and the map of one packet. Of the shot this sees the three buffers and the names.
+#![tactic(auto)]
+
 ghost use Rattle.std.specs.Prelude.{◌≡◌, true, List, [], ◌∷◌, ℕ, ◌+◌, ◌*◌, ◌≤◌, eqb, length};
 ghost use Rattle.headers.specs.Fits.{session_fits};
 ghost use Rattle.settings.specs.Settings.{settings_fit};

@@ -1,4 +1,6 @@
 // The packets of a shot, applied in order: one packet by a setup that was loaded, and all of a list.
+#![tactic(auto)]
+
 ghost use Rattle.std.specs.Prelude.{◌≡◌, true, List, [], ◌∷◌, ◌++◌, ◌*◌, ◌≤◌, length};
 ghost use Rattle.headers.specs.Fits.{session_fits};
 ghost use Rattle.kept_matrices.specs.Kept.{Keeps};

@@ -1,4 +1,6 @@
 // A file compared with the stream that it must be, from a running place on: nothing is copied.
+#![tactic(auto)]
+
 ghost use Rattle.std.specs.Prelude.{◌≡◌, true, ◌+◌, ◌*◌, ◌≤◌, min, leb, length};
 ghost use Rattle.geometry.specs.Sizes.{blocks_of, largest};
 ghost use Rattle.headers.specs.Fits.{session_fits};

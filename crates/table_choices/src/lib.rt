@@ -1,4 +1,6 @@
 // Which tables the tokens at a position are read by: the group of the position, and the table choices.
+#![tactic(auto)]
+
 ghost use Rattle.std.specs.Prelude.{◌≡◌, ◌≤◌, length};
 ghost use Rattle.bitstream.specs.Bits.{longest};
 ghost use Rattle.table_choices.specs.Choices.{group, choices, choices_of};

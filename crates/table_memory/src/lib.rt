@@ -1,4 +1,6 @@
 // A memory that keeps an accepted packet: the bits that were read, then zeros.
+#![tactic(auto)]
+
 ghost use Rattle.std.specs.Prelude.{◌≡◌, ◌++◌, ℕ, ◌/◌, ◌≤◌, ◌^◌, length, take, drop, replicate};
 ghost use Rattle.bitstream.specs.Bits.{bits, longest};
 ghost use Rattle.table_memory.specs.Kept.{kept_byte, kept, clear_from};

@@ -1,4 +1,6 @@
 // A frame packet, read to its end and counted: what a frame call would answer, and what a census adds. No sample is made. Work memory is all zero before and after.
+#![tactic(auto)]
+
 ghost use Rattle.std.specs.Prelude.{◌≡◌, true, ◌≤◌, length};
 ghost use Rattle.bitstream.specs.Bits.{longest};
 ghost use Rattle.bitstream.specs.Reading.{choose, refused};

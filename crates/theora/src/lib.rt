@@ -1,4 +1,6 @@
 // The public face of the decoder: the two headers, the sizes, and the frame call. No call asks anything of what is handed in.
+#![tactic(auto)]
+
 ghost use Rattle.std.specs.Prelude.{◌≡◌, length};
 ghost use Rattle.headers.specs.Identification.{identification, as_identification};
 ghost use Rattle.headers.specs.Sizes.{session_sizes};

@@ -1,4 +1,6 @@
 // The face for C and other languages, but for the frame call: include/wedgepetal.h says what each call is for.
+#![tactic(auto)]
+
 ghost use Rattle.std.specs.Prelude.{◌≡◌, length};
 ghost use Rattle.session_list.specs.List.{gives, answers};
 ghost use Rattle.theora_c.specs.Face.{identification_call, sizes_call, block_at_call, block_number_call, macro_block_at_call, macro_block_number_call, macro_block_of_call, sample_offset_call, setup_call, limit_call, matrix_call, lengths_returned, work_lengths_call};

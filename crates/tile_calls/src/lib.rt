@@ -1,4 +1,6 @@
 // A frame call that keeps a map beside the frame: what it is asked, what it answers, the length of a map, and what a map says.
+#![tactic(auto)]
+
 ghost use Rattle.std.specs.Prelude.{◌≡◌, true};
 ghost use Rattle.settings.specs.Settings.{settings_fit};
 ghost use Rattle.tile_calls.specs.Call.{length_for, map_fits};

@@ -1,4 +1,6 @@
 // Which tiles of a plane changed: one byte to a tile.
+#![tactic(auto)]
+
 ghost use Rattle.std.specs.Prelude.{◌≡◌, ◌+◌, ◌*◌, ◌%◌, ◌≤◌, ◌<◌, min, length};
 ghost use Rattle.bitstream.specs.Reading.{choose};
 ghost use Rattle.geometry.specs.Sizes.{squares as tiles, blocks_of, largest};

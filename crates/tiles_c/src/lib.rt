@@ -1,4 +1,6 @@
 // The face of `changed_tiles` for C and other languages: include/wedgepetal.h says what each call is for.
+#![tactic(auto)]
+
 ghost use Rattle.std.specs.Prelude.{◌≡◌, length};
 ghost use Rattle.work_memory.specs.Memory.{memory};
 ghost use Rattle.calls.specs.Call.{call};

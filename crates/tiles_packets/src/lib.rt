@@ -1,4 +1,6 @@
 // The packets of a shot, applied in order, each with the map of the tiles that it changed.
+#![tactic(auto)]
+
 ghost use Rattle.std.specs.Prelude.{◌≡◌, true, [], ◌∷◌, ◌*◌, ◌≤◌, length};
 ghost use Rattle.headers.specs.Fits.{session_fits};
 ghost use Rattle.settings.specs.Settings.{settings_fit};

@@ -1,4 +1,6 @@
 // A whole shot in one call, and for each packet the map of the tiles that it changed.
+#![tactic(auto)]
+
 ghost use Rattle.work_memory.specs.Memory.{memory};
 ghost use Rattle.opening.specs.Call.{shot_call};
 ghost use Rattle.shot.specs.Call.{shot_done};

@@ -1,4 +1,6 @@
 // What a token means by its extra bits.
+#![tactic(auto)]
+
 ghost use Rattle.std.specs.Prelude.{◌≡◌, ◌+◌, ◌<◌, ◌≤◌, ◌/◌, ◌%◌, ◌^◌};
 ghost use Rattle.bitstream.specs.Reading.{got};
 ghost use Rattle.token.specs.Token.{meaning, row_of};

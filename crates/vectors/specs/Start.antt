@@ -7,7 +7,7 @@ use Rattle.geometry.specs.Order.{at, coded_macros}
 use Rattle.block_record.specs.declared.BlockRecord.{BlockRecord}
 use Rattle.block_record.specs.Record.{uncoded}
 use Rattle.vectors.specs.Vectors.{number_in}
-use Rattle.motion.specs.Kept.{unmoved, started}
+use Rattle.motion.specs.Kept.{unmoved}
 
 -- macro block m of the coded order
 abbrev pub macro_no : ℕ → ℕ → ℕ → Place

@@ -1,4 +1,6 @@
 // The motion vectors of an inter frame, and the prediction of each of its blocks.
+#![tactic(auto)]
+
 ghost use Rattle.std.specs.Prelude.{◌≡◌, map, ◌<◌, ◌≤◌, length};
 ghost use Rattle.bitstream.specs.Bits.{longest};
 ghost use Rattle.geometry.specs.Sizes.{macro_blocks_of, blocks_of, blocks_each, largest};

@@ -1,4 +1,6 @@
 // The vendor's file, checked: two headers and packets are decoded, and a file is compared with the stream of their frames.
+#![tactic(auto)]
+
 ghost use Rattle.std.specs.Prelude.{◌≡◌, true, ◌≤◌, length};
 ghost use Rattle.headers.specs.Fits.{session_fits};
 ghost use Rattle.work_memory.specs.Memory.{memory};

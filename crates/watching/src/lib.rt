@@ -1,4 +1,6 @@
 // A file that is compared while packets are applied: what one packet more shows, its refusal or its frame.
+#![tactic(auto)]
+
 ghost use Rattle.std.specs.Prelude.{◌≡◌, true, ◌≤◌, length};
 ghost use Rattle.headers.specs.Fits.{session_fits};
 ghost use Rattle.stream_numbers.specs.Numbers.{numbers_of};

@@ -34,5 +34,27 @@ pub extern "C" fn wedgepetal_check(
         ≡ check_face identification.now setup.now file.now (lent lengths.now packets.now table.old
         (memory records.old coded.old coefs.old dc.old lasts.old flags.old bits.old supers.old modes.old active.old) first.old second.old third.old answers.old) found.old }
 {
-    check_c::wedgepetal_check(identification, setup, lengths, packets, file, table, records, coded, coefs, dc, lasts, flags, bits, supers, modes, active, first, second, third, answers, found)
+    check_c::wedgepetal_check(
+        identification,
+        setup,
+        lengths,
+        packets,
+        file,
+        table,
+        records,
+        coded,
+        coefs,
+        dc,
+        lasts,
+        flags,
+        bits,
+        supers,
+        modes,
+        active,
+        first,
+        second,
+        third,
+        answers,
+        found,
+    )
 }

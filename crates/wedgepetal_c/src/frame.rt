@@ -30,5 +30,8 @@ pub extern "C" fn wedgepetal_frame(
         ≡ frame_call session.old answer.old golden.now previous.now
         (call packet.now table.now (memory records.old coded.old coefs.old dc.old lasts.old flags.old bits.old supers.old modes.old active.old) new.old) }
 {
-    frame_c::wedgepetal_frame(session, packet, table, records, coded, coefs, dc, lasts, flags, bits, supers, modes, active, golden, previous, new, answer)
+    frame_c::wedgepetal_frame(
+        session, packet, table, records, coded, coefs, dc, lasts, flags, bits, supers, modes,
+        active, golden, previous, new, answer,
+    )
 }

@@ -30,5 +30,8 @@ pub extern "C" fn wedgepetal_census(
         ≡ census_face (census_call lengths.now packets.now report.old (lent table.old
         (memory records.old coded.old coefs.old dc.old lasts.old flags.old bits.old supers.old modes.old active.old) golden.old previous.old new.old)) }
 {
-    census_c::wedgepetal_census(lengths, packets, report, table, records, coded, coefs, dc, lasts, flags, bits, supers, modes, active, golden, previous, new)
+    census_c::wedgepetal_census(
+        lengths, packets, report, table, records, coded, coefs, dc, lasts, flags, bits, supers,
+        modes, active, golden, previous, new,
+    )
 }

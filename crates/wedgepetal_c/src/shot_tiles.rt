@@ -34,5 +34,8 @@ pub extern "C" fn wedgepetal_tiles_shot(
         ≡ tiles_shot_face settings.now session.old names.old lengths.now packets.now table.now
         (memory records.old coded.old coefs.old dc.old lasts.old flags.old bits.old supers.old modes.old active.old) first.old second.old third.old answers.old maps.old }
 {
-    tiles_shot_c::wedgepetal_tiles_shot(settings, session, names, lengths, packets, table, records, coded, coefs, dc, lasts, flags, bits, supers, modes, active, first, second, third, answers, maps)
+    tiles_shot_c::wedgepetal_tiles_shot(
+        settings, session, names, lengths, packets, table, records, coded, coefs, dc, lasts, flags,
+        bits, supers, modes, active, first, second, third, answers, maps,
+    )
 }

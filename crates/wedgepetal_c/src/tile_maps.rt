@@ -46,5 +46,8 @@ pub extern "C" fn wedgepetal_tiles_frame(
         (call packet.now table.now (memory records.old coded.old coefs.old dc.old lasts.old flags.old bits.old supers.old modes.old active.old) new.old)
         map.old }
 {
-    tiles_c::wedgepetal_tiles_frame(settings, session, packet, table, records, coded, coefs, dc, lasts, flags, bits, supers, modes, active, golden, previous, new, answer, map)
+    tiles_c::wedgepetal_tiles_frame(
+        settings, session, packet, table, records, coded, coefs, dc, lasts, flags, bits, supers,
+        modes, active, golden, previous, new, answer, map,
+    )
 }

@@ -30,5 +30,8 @@ pub extern "C" fn wedgepetal_shot(
         ≡ shot_face session.old names.old lengths.now packets.now table.now
         (memory records.old coded.old coefs.old dc.old lasts.old flags.old bits.old supers.old modes.old active.old) first.old second.old third.old answers.old }
 {
-    shot_c::wedgepetal_shot(session, names, lengths, packets, table, records, coded, coefs, dc, lasts, flags, bits, supers, modes, active, first, second, third, answers)
+    shot_c::wedgepetal_shot(
+        session, names, lengths, packets, table, records, coded, coefs, dc, lasts, flags, bits,
+        supers, modes, active, first, second, third, answers,
+    )
 }

@@ -1,4 +1,6 @@
 // Work memory: the published lengths of its slices, the test of the lengths that are lent, and clearing.
+#![tactic(auto)]
+
 ghost use Rattle.std.specs.Prelude.{◌≡◌, true, ◌*◌, length};
 ghost use Rattle.headers.specs.Fits.{session_fits};
 ghost use Rattle.work_memory.specs.Memory.{memory};

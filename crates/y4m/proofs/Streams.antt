@@ -1,5 +1,5 @@
 -- The theorems of streams: what was written is read, and nothing else is. Assumes nothing.
-use Prim.Native.Nat.{ℕ, zero, suc, ◌+◌, ◌*◌, ◌-◌, ◌/◌, ◌%◌, ◌≤◌, ◌<◌}
+use Prim.Native.Nat.{ℕ, zero, suc, ◌+◌, ◌*◌, ◌/◌, ◌%◌, ◌≤◌, ◌<◌}
 use native.Mathlib.Omega.{arith}
 use native.Mathlib.Nat.{le_of_eq, le_trans, mul-div_cancel, mul-div_right, mul-mod_left, div-add-mod, mul_comm}
 use mathlib.Core.Path.{◌≡◌, refl, sym, ap, ◌∙◌}

@@ -1,4 +1,6 @@
 // Frames as a YUV4MPEG2 stream, and such a stream read back.
+#![tactic(auto)]
+
 mod frames;
 mod header;
 

@@ -14,13 +14,13 @@ returns-in-Refused c = sym (ap as_field (c.loop-r.invariant.1 ∙ unary_end c.ar
 pub returns-then-b-eq0 : goal.returns-then-b-eq0
 returns-then-b-eq0 c =
     let bit-got : field 1 c.args.packet.now c.loop-r.place ≡ got c.in-Got.b c.in-Got.next =
-        read_got (field 1 c.args.packet.now c.loop-r.place) c.read-one.ensures c.in-Got.is in
+    read_got (field 1 c.args.packet.now c.loop-r.place) c.read-one.ensures c.in-Got.is in
     sym (ap as_field (c.loop-r.invariant.1 ∙ unary_stop c.args.packet.now c.loop-r.place c.args.ones c.loop-r.r c.loop-r-test.true (bit-got) c.if-b-eq0.true))
 
 pub loop-r-preserved : goal.loop-r-preserved
 loop-r-preserved c =
     let bit-got : field 1 c.args.packet.now c.loop-r.place ≡ got c.in-Got.b c.in-Got.next =
-        read_got (field 1 c.args.packet.now c.loop-r.place) c.read-one.ensures c.in-Got.is in
+    read_got (field 1 c.args.packet.now c.loop-r.place) c.read-one.ensures c.in-Got.is in
     (omega (arith, c.loop-r-test.true), c.loop-r.invariant.1 ∙ unary_on c.args.packet.now c.loop-r.place c.args.ones c.loop-r.r c.loop-r-test.true (bit-got) c.if-b-eq0.false)
 
 pub returns : goal.returns

@@ -12,7 +12,7 @@ pub returns : goal.returns
 unfolding vector_at
 returns c =
     let x : Known w32 (pos (c.args.n % 64)) 63 =
-        k_nat (c.args.n % 64) 63 (omega arith) tt in
+    k_nat (c.args.n % 64) 63 (omega arith) tt in
     let y : Known w32 (pos (c.args.n / 64 % 64)) 63 =
-        k_nat (c.args.n / 64 % 64) 63 (omega arith) tt in
+    k_nat (c.args.n / 64 % 64) 63 (omega arith) tt in
     λ i. record { x = (k_sub (x) (k_lit 32 tt) tt).reads i; y = (k_sub (y) (k_lit 32 tt) tt).reads i }

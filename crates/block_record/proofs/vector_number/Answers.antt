@@ -15,15 +15,15 @@ pub returns : goal.returns
 unfolding vector_number
 returns c =
     let x : Known w32 c.args.v.x 31 =
-        k_of (record { sfits = c.struct_told-1.given.0.1 }) (size c.requires.x) in
+    k_of (record { sfits = c.struct_told-1.given.0.1 }) (size c.requires.x) in
     let x32 : Known w32 (c.args.v.x +ℤ pos 32) 63 =
-        k_add x (k_lit 32 tt) tt in
+    k_add x (k_lit 32 tt) tt in
     let y : Known w32 c.args.v.y 31 =
-        k_of (record { sfits = c.struct_told-2-1.given.1.0.1 }) (size c.requires.y) in
+    k_of (record { sfits = c.struct_told-2-1.given.1.0.1 }) (size c.requires.y) in
     let y32 : Known w32 (c.args.v.y +ℤ pos 32) 63 =
-        k_add y (k_lit 32 tt) tt in
+    k_add y (k_lit 32 tt) tt in
     let computed : nat_abs (to_z w32 (x32).n) + nat_abs (to_z w32 y32.n) * 64 ≡ vector_number c.args.v =
-        ap₂ (λ (m n : ℕ). m + n * 64) (nat_of (x32)) (nat_of y32) in
+    ap₂ (λ (m n : ℕ). m + n * 64) (nat_of (x32)) (nat_of y32) in
     let e = computed in
     let h = vector_lt c.args.v c.requires in
     (e, omega arith)

@@ -1,10 +1,7 @@
 -- `counting::count_frame` meets its contract. Assumes nothing.
-use mathlib.Core.Path.{◌≡◌, sym, ap, ◌∙◌}
-use mathlib.Core.List.{List}
-use Rattle.frame_header.specs.declared.Kind.{Kind}
-use Rattle.counting.specs.Counts.{block_counts, frame_counts}
+use mathlib.Core.Path.{ap, ◌∙◌}
+use Rattle.counting.specs.Counts.{block_counts}
 use Rattle.counting.proofs.Laws.{intra_counts, inter_counts, repeat_counts}
-use borrow.Author.Rules.{rules}
 use Rattle.counting.proofs.count_frame.Goals as goal
 
 pub returns-in-Intra : goal.returns-in-Intra

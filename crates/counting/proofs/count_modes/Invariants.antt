@@ -1,11 +1,7 @@
 -- `counting::count_modes` meets its contract. The invariant: for each mode, what is counted so far and what is to come is all. Assumes nothing.
-use Prim.Native.Nat.{ℕ, ◌-◌, ◌≤◌, ◌<◌}
-use native.Mathlib.Omega.{arith}
-use mathlib.Core.Path.{◌≡◌, refl}
-use lib.ListN.{length, get_or}
-use Rattle.bitstream.proofs.ListLaws.{all_at}
-use Rattle.counting.proofs.Laws.{ModesSoFar, modes_start, modes_more, modes_all}
-use borrow.Author.Rules.{rules}
+use Prim.Native.Nat.{◌-◌, ◌≤◌}
+use lib.ListN.{length}
+use Rattle.counting.proofs.Laws.{ModesSoFar}
 use Rattle.counting.proofs.count_modes.Given as goal
 
 abbrev pub invariant-loop-i : goal.invariant-loop-i

@@ -1,12 +1,7 @@
-use Prim.Native.Nat.{◌+◌, ◌-◌, ◌≤◌}
 use native.Mathlib.Omega.{arith}
-use mathlib.Core.Path.{◌≡◌}
 use mathlib.Core.Bool.{◌&&◌}
 use lib.Dec.{leb, ltb}
-use lib.ListN.{length, drop}
-use Rattle.counting.specs.Counts.{count_within}
 use Rattle.counting.proofs.Laws.{count_step, count_done}
-use borrow.Author.Rules.{rules}
 use Rattle.counting.proofs.count_within.Goals as goal
 
 pub loop-i-preserved : goal.loop-i-preserved

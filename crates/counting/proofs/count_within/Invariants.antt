@@ -1,13 +1,8 @@
 -- `counting::count_within` meets its contract. The invariant: those found so far, and those of the rest, are all. Assumes nothing.
 use Prim.Native.Nat.{◌+◌, ◌-◌, ◌≤◌}
-use native.Mathlib.Omega.{arith}
 use mathlib.Core.Path.{◌≡◌}
-use mathlib.Core.Bool.{◌&&◌}
-use lib.Dec.{leb, ltb}
 use lib.ListN.{length, drop}
 use Rattle.counting.specs.Counts.{count_within}
-use Rattle.counting.proofs.Laws.{count_step, count_done}
-use borrow.Author.Rules.{rules}
 use Rattle.counting.proofs.count_within.Given as goal
 
 abbrev pub invariant-loop-i : goal.invariant-loop-i

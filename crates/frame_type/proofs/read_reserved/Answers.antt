@@ -15,7 +15,7 @@ returns-then-kind-ne0 c = sym (ap as_field (reserved_inter c.args.kind c.args.pa
 pub returns-then-v-eq0 : goal.returns-then-v-eq0
 returns-then-v-eq0 c =
     let bits-got : field 3 c.args.packet.now c.args.at ≡ got c.in-Got.v c.in-Got.end =
-        read_got (field 3 c.args.packet.now c.args.at) c.read-bits.ensures c.in-Got.is in
+    read_got (field 3 c.args.packet.now c.args.at) c.read-bits.ensures c.in-Got.is in
     sym (ap as_field (reserved_intra c.args.kind c.args.packet.now c.args.at c.if-kind-ne0.false ∙ judged_passes 3 is_zero 11 c.args.packet.now c.args.at (bits-got) (eq-eqb _ 0 c.if-v-eq0.true)))
 
 pub returns-in-Refused : goal.returns-in-Refused
@@ -24,5 +24,5 @@ returns-in-Refused c = sym (ap as_field (reserved_intra c.args.kind c.args.packe
 pub returns-else-v-eq0 : goal.returns-else-v-eq0
 returns-else-v-eq0 c =
     let bits-got : field 3 c.args.packet.now c.args.at ≡ got c.in-Got.v c.in-Got.end =
-        read_got (field 3 c.args.packet.now c.args.at) c.read-bits.ensures c.in-Got.is in
+    read_got (field 3 c.args.packet.now c.args.at) c.read-bits.ensures c.in-Got.is in
     sym (ap as_field (reserved_intra c.args.kind c.args.packet.now c.args.at c.if-kind-ne0.false ∙ judged_fails 3 is_zero 11 c.args.packet.now c.args.at (bits-got) (ne_eqb _ 0 c.if-v-eq0.false)))

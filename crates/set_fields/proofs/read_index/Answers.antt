@@ -16,8 +16,8 @@ read-one-requires c = (c.requires.0, omega (arith, c.ilog-width.ensures, ilog_le
 pub returns-then-count-value : goal.returns-then-count-value
 returns-then-count-value c =
     let one_got : field (ilog (c.args.count - 1)) c.args.packet.now c.args.at ≡ got c.in-Got.value c.in-Got.next =
-        let w : c.ilog-width.result ≡ ilog (c.args.count - 1) = c.ilog-width.ensures in
-        rw w at (read_got (field c.ilog-width.result c.args.packet.now c.args.at) c.read-one.ensures c.in-Got.is) in
+    let w : c.ilog-width.result ≡ ilog (c.args.count - 1) = c.ilog-width.ensures in
+    rw w at (read_got (field c.ilog-width.result c.args.packet.now c.args.at) c.read-one.ensures c.in-Got.is) in
     sym (ap as_field (index_big c.args.count c.args.packet.now c.args.at (one_got) c.if-count-value.true))
 
 pub returns-in-Refused : goal.returns-in-Refused
@@ -28,6 +28,6 @@ returns-in-Refused c = let w : c.ilog-width.result ≡ ilog (c.args.count - 1) =
 pub returns-else-count-value : goal.returns-else-count-value
 returns-else-count-value c =
     let one_got : field (ilog (c.args.count - 1)) c.args.packet.now c.args.at ≡ got c.in-Got.value c.in-Got.next =
-        let w : c.ilog-width.result ≡ ilog (c.args.count - 1) = c.ilog-width.ensures in
-        rw w at (read_got (field c.ilog-width.result c.args.packet.now c.args.at) c.read-one.ensures c.in-Got.is) in
+    let w : c.ilog-width.result ≡ ilog (c.args.count - 1) = c.ilog-width.ensures in
+    rw w at (read_got (field c.ilog-width.result c.args.packet.now c.args.at) c.read-one.ensures c.in-Got.is) in
     sym (ap as_field (index_got c.args.count c.args.packet.now c.args.at (one_got) c.if-count-value.false))

@@ -16,8 +16,8 @@ read-one-requires c = (c.requires.0, omega (arith, c.ilog-width.ensures, ilog_le
 pub returns-then-qi-value-gt63 : goal.returns-then-qi-value-gt63
 returns-then-qi-value-gt63 c =
     let one_got : field (ilog (62 - c.args.qi)) c.args.packet.now c.args.at ≡ got c.in-Got.value c.in-Got.next =
-        let w : c.ilog-width.result ≡ ilog (62 - c.args.qi) = c.ilog-width.ensures in
-        rw w at (read_got (field c.ilog-width.result c.args.packet.now c.args.at) c.read-one.ensures c.in-Got.is) in
+    let w : c.ilog-width.result ≡ ilog (62 - c.args.qi) = c.ilog-width.ensures in
+    rw w at (read_got (field c.ilog-width.result c.args.packet.now c.args.at) c.read-one.ensures c.in-Got.is) in
     sym (ap as_field (size_big c.args.qi c.args.packet.now c.args.at (one_got) c.if-qi-value-gt63.true))
 
 pub returns-in-Refused : goal.returns-in-Refused
@@ -28,6 +28,6 @@ returns-in-Refused c = let w : c.ilog-width.result ≡ ilog (62 - c.args.qi) = c
 pub returns-else-qi-value-gt63 : goal.returns-else-qi-value-gt63
 returns-else-qi-value-gt63 c =
     let one_got : field (ilog (62 - c.args.qi)) c.args.packet.now c.args.at ≡ got c.in-Got.value c.in-Got.next =
-        let w : c.ilog-width.result ≡ ilog (62 - c.args.qi) = c.ilog-width.ensures in
-        rw w at (read_got (field c.ilog-width.result c.args.packet.now c.args.at) c.read-one.ensures c.in-Got.is) in
+    let w : c.ilog-width.result ≡ ilog (62 - c.args.qi) = c.ilog-width.ensures in
+    rw w at (read_got (field c.ilog-width.result c.args.packet.now c.args.at) c.read-one.ensures c.in-Got.is) in
     sym (ap as_field (size_got c.args.qi c.args.packet.now c.args.at (one_got) c.if-qi-value-gt63.false))

@@ -14,6 +14,6 @@ returns-then-size-whole c = c.copy_front.ensures ∙ kept_whole c.args.packet.no
 pub returns : goal.returns
 returns c =
     let front : c.copy_front-2.new.table ≡ copied (replicate (length c.args.table.now) 0) c.args.packet.now (c.args.end / 8) =
-        c.copy_front-2.ensures ∙ ap (λ (xs : List ℕ). copied xs c.args.packet.now (c.args.end / 8)) c.clear.ensures in
+    c.copy_front-2.ensures ∙ ap (λ (xs : List ℕ). copied xs c.args.packet.now (c.args.end / 8)) c.clear.ensures in
     ap (λ (xs : List ℕ). set xs (c.args.end / 8) c.part_byte.result) (front)
     ∙ kept_part c.args.packet.now c.args.end (length c.args.table.now) c.requires.0 (λ k. (c.shared_slice_known-1.given k).fits) _ (omega (arith, c.if-size-whole.false)) c.part_byte.ensures

@@ -16,10 +16,10 @@ loop-k-init c = (omega arith, omega arith, swept_start c.args.table.now c.args.e
 
 pub loop-k-preserved : goal.loop-k-preserved
 loop-k-preserved c = (
-      omega arith,
-      omega arith,
-      swept_more c.args.table.now c.args.end c.loop-k.rest c.loop-k.k c.loop-k.invariant.0 c.loop-k-test.true (c.shared_slice_known-in-loop-k-1.given c.loop-k.k).fits c.loop-k.invariant.2,
-    )
+  omega arith,
+  omega arith,
+  swept_more c.args.table.now c.args.end c.loop-k.rest c.loop-k.k c.loop-k.invariant.0 c.loop-k-test.true (c.shared_slice_known-in-loop-k-1.given c.loop-k.k).fits c.loop-k.invariant.2,
+)
 
 pub returns : goal.returns
 returns c = swept_all c.args.table.now c.args.end c.loop-k.rest c.loop-k.k c.loop-k.invariant.0 c.loop-k-test.false c.loop-k.invariant.1 c.loop-k.invariant.2

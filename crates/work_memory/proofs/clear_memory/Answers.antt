@@ -1,10 +1,7 @@
 -- `work_memory::clear_memory` meets its contract. Assumes nothing.
-use borrow.Author.Rules.{rules}
-use mathlib.Core.Path.{refl, ◌∙◌}
+use mathlib.Core.Path.{◌∙◌}
 use lib.IntN.{pos}
-use lib.ListN.{length}
 use Rattle.buffer.proofs.Laws.{cleared_all}
-use Rattle.memory_clearing.proofs.Clearing.{nothing_behind}
 use Rattle.work_memory.proofs.Clearing.{fit_cleared}
 use Rattle.work_memory.proofs.clear_memory.Goals as goal
 
