@@ -1,4 +1,6 @@
 // What a caller may ask of a table memory: loop limits, quantization matrices.
+#![tactic(auto)]
+
 ghost use Rattle.std.specs.Prelude.{◌≡◌};
 ghost use Rattle.queries.specs.Orders.{as_number};
 ghost use Rattle.table_queries.specs.Setup.{table_limit, matrix_into, as_matrix, leaving};

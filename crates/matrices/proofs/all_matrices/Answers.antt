@@ -1,14 +1,12 @@
 use Prim.Native.Nat.{◌+◌, ◌-◌, ◌*◌, ◌/◌, ◌%◌, ◌≤◌, ◌<◌}
 use native.Mathlib.Omega.{arith}
 use mathlib.Core.Path.{◌≡◌, ◌∙◌}
-use lib.ListN.{length, get_or}
-use borrow.Author.Count.{below_none}
+use lib.ListN.{get_or}
 use borrow.Rule.Slice.PartMut.{mid_len}
 use Rattle.bitstream.specs.Bits.{bits}
 use Rattle.quant_ranges.specs.Ranges.{InRange}
 use Rattle.matrices.proofs.Matrices.{sizes_long, enough, ends, matrix_found_law}
-use Rattle.matrices.proofs.All.{place_of, LoadedTo, loaded_more, loaded_all}
-use borrow.Author.Rules.{rules}
+use Rattle.matrices.proofs.All.{place_of, loaded_more, loaded_all}
 use Rattle.matrices.proofs.all_matrices.Goals as goal
 
 pub range_of-range-requires : goal.range_of-range-requires

@@ -1,22 +1,12 @@
 -- `matrices::fill_matrix` meets its contract. The invariant: the values so far, all by the scale of AC, stand at the front of `out`. Assumes nothing.
-use Prim.Native.Nat.{ℕ, zero, suc, ◌+◌, ◌-◌, ◌*◌, ◌≤◌, ◌<◌}
-use native.Mathlib.Omega.{arith}
-use mathlib.Core.Path.{◌≡◌, refl, sym, ◌∙◌}
+use Prim.Native.Nat.{ℕ, ◌+◌, ◌-◌, ◌*◌, ◌≤◌, ◌<◌}
+use mathlib.Core.Path.{◌≡◌}
 use mathlib.Core.List.{List}
-use lib.ListN.{length, get_or, set, length-set}
-use lib.Seq.{get_or-set_same, get_or-set_other}
-use borrow.Author.Count.{below_more}
-use borrow.Author.Rules.{rules}
+use lib.ListN.{length, get_or}
 use Rattle.bitstream.specs.Bits.{number}
-use Rattle.bitstream.specs.Lists.{tabulated}
-use Rattle.bitstream.proofs.Lists.{tabulated_is}
-use Rattle.bitstream.proofs.Numbers.{number_lt}
-use Rattle.matrix_values.specs.Values.{interpolated, minimum, scaled}
-use Rattle.matrix_values.specs.Weights.{weighed, Weighs}
-use Rattle.matrices.specs.Matrix.{value_at}
-use Rattle.quant_ranges.specs.declared.Range.{Range}
+use Rattle.matrix_values.specs.Values.{scaled}
+use Rattle.matrix_values.specs.Weights.{weighed}
 use Rattle.matrix_values.specs.declared.Weights.{Weights}
-use Rattle.matrices.proofs.Values.{value_dc, value_ac}
 use Rattle.matrices.proofs.fill_matrix.Given as goal
 
 -- the value at the coefficient c, by one scale and least value

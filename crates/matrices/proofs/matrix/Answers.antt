@@ -1,12 +1,11 @@
 -- `matrices::matrix` meets its contract. Assumes nothing.
-use Prim.Native.Nat.{◌+◌, ◌-◌, ◌*◌, ◌≤◌, ◌<◌}
+use Prim.Native.Nat.{◌+◌, ◌*◌, ◌≤◌, ◌<◌}
 use native.Mathlib.Omega.{arith}
 use mathlib.Core.Path.{◌∙◌}
 use lib.ListN.{get_or}
 use Rattle.bitstream.specs.Bits.{bits}
 use Rattle.quant_ranges.specs.Ranges.{InRange}
 use Rattle.matrices.proofs.Matrices.{sizes_long, enough, ends, matrix_found_law}
-use borrow.Author.Rules.{rules}
 use Rattle.matrices.proofs.matrix.Goals as goal
 
 pub range_of-range-requires : goal.range_of-range-requires

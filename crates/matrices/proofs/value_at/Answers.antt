@@ -1,12 +1,7 @@
 -- `matrices::value_at` meets its contract. Assumes nothing.
-use Prim.Native.Nat.{ℕ, ◌+◌, ◌*◌, ◌/◌, ◌%◌}
+use Prim.Native.Nat.{◌+◌, ◌*◌, ◌/◌, ◌%◌}
 use native.Mathlib.Omega.{arith}
-use mathlib.Core.Path.{◌≡◌, ap, ap₂, ◌∙◌}
-use Rattle.bitstream.specs.Bits.{number}
 use Rattle.bitstream.proofs.Numbers.{number_lt}
-use Rattle.matrix_values.specs.Values.{scaled}
-use Rattle.matrix_values.specs.Weights.{weighed}
-use borrow.Author.Rules.{rules}
 use Rattle.matrices.proofs.value_at.Goals as goal
 
 pub interpolate-value-requires : goal.interpolate-value-requires
