@@ -1,7 +1,7 @@
 -- Whose matrices are kept. Assumes nothing.
 use Prim.Native.Nat.{ℕ, zero, suc, ◌≤◌, ◌<◌}
 use native.Mathlib.Omega.{arith}
-use mathlib.Core.Path.{◌≡◌, sym, ap, ◌∙◌, subst}
+use mathlib.Core.Path.{◌≡◌, ap, ◌∙◌}
 use mathlib.Core.Bool.{Bool, true, ◌&&◌}
 use mathlib.Core.List.{List}
 use lib.Dec.{eqb}
@@ -12,8 +12,7 @@ use Rattle.quantization.specs.declared.LoadedParameters.{LoadedParameters}
 use Rattle.matrices.specs.Matrix.{matrix_of}
 use Rattle.matrices.specs.All.{AllMatricesAre}
 use Rattle.reconstruct.specs.Lent.{matrix_in}
-use Rattle.kept_matrices.specs.declared.KeptMatrices.{KeptMatrices}
-use Rattle.kept_matrices.specs.Kept.{MatricesAre, Keeps, Serves, same_list}
+use Rattle.kept_matrices.specs.Kept.{MatricesAre, same_list}
 
 -- an empty list has no matrices
 pub none_are : (p : List ℕ) (l : LoadedParameters) (qis : List ℕ) {count : ℕ} (ms : List ℕ) → count ≡ 0 → MatricesAre p l qis count ms

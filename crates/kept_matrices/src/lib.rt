@@ -1,4 +1,6 @@
 // The quantization matrices of a frame's qi, kept from packet to packet while the list of qi stays: to make them takes some 3,300 instructions for each qi.
+#![tactic(auto)]
+
 ghost use Rattle.std.specs.Prelude.{◌≡◌, List, ℕ, ◌≤◌, length};
 ghost use Rattle.bitstream.specs.Bits.{longest};
 ghost use Rattle.quantization.specs.Sound.{Held};

@@ -1,5 +1,7 @@
 // For the tests alone: each part of making a frame behind a call on numbers and slices, so that it can be compared by itself.
 // A call has the contract of the part, and its caller meets what that requires. A pixel format is PF, a prediction the packed record of a block.
+#![tactic(auto)]
+
 ghost use Rattle.std.specs.Prelude.{◌≡◌, map, ◌+◌, ◌*◌, ◌≤◌, pos, length, replicate};
 ghost use Rattle.geometry.specs.Sizes.{across, blocks_of, largest};
 ghost use Rattle.geometry.specs.Frame.{block, InFrame};
