@@ -1,15 +1,11 @@
 -- `frame_packet::read_kept` meets its contract. After a refusal all slices are cleared; else what was read stays, with the zeros behind it. Assumes nothing.
-use Prim.Native.Nat.{ℕ, ◌≤◌}
-use native.Mathlib.Omega.{arith}
-use mathlib.Core.Path.{◌≡◌, refl, sym, ap, ◌∙◌, subst}
+use mathlib.Core.Path.{◌≡◌, sym, ap, ◌∙◌}
 use lib.IntN.{pos}
 use mathlib.Core.Bool.{Bool}
 use lib.ListN.{length}
 use Rattle.bitstream.specs.Reading.{got, refused, choose}
-use Rattle.frame_header.specs.declared.Header.{Header}
 use Rattle.frame_header.specs.Header.{FrameHeader, frame_header}
 use Rattle.frame_header.specs.Answer as header
-use Rattle.frame_header.proofs.Laws.{header_fits}
 use Rattle.tokens.specs.Answer.{trees_of}
 use Rattle.packet_opening.proofs.Ways.{is_header_law, is_repeat, is_refused}
 use Rattle.packet_body.specs.Frame.{Body, body, repeat_frame, frame_packet}
@@ -17,9 +13,8 @@ use Rattle.work_memory.specs.Memory.{work}
 use Rattle.packet_body.specs.Work.{LeftBy, as_read}
 use Rattle.frame_packet.specs.Work.{as_frame}
 use Rattle.packet_body.proofs.Steps.{Sized, sized}
-use Rattle.work_memory.proofs.Clearing.{clear_whole, cleared_to, nothing_behind}
-use Rattle.frame_packet.proofs.Whole.{header_refused, header_got, body_refused, body_got, packet_header, packet_body, packet_got, on_empty, on_no_frame, on_frame, zeros_behind}
-use borrow.Author.Rules.{rules}
+use Rattle.work_memory.proofs.Clearing.{clear_whole, cleared_to}
+use Rattle.frame_packet.proofs.Whole.{header_refused, header_got, body_refused, body_got, packet_header, packet_body, packet_got, on_empty, on_no_frame, on_frame}
 use Rattle.bitstream.proofs.Clauses.{two}
 use Rattle.frame_packet.proofs.read_kept.Goals as goal
 
@@ -36,9 +31,9 @@ returns-in-Refused c = two (λ a b. record { value = a; active_after = b }) (on_
 pub returns-in-Refused-read : goal.returns-in-Refused-read
 returns-in-Refused-read c =
     let head : (h : FrameHeader) × (frame_header c.args.references c.args.packet.now 0 ≡ got h c.in-At.at) × (c.read_header-head.result.header ≡ header.as_header h) =
-        header_got (frame_header c.args.references c.args.packet.now 0) c.read_header-head.ensures c.in-At.is in
+    header_got (frame_header c.args.references c.args.packet.now 0) c.read_header-head.ensures c.in-At.is in
     let long : Sized c.args.format c.args.w c.args.h (work c.args.records.now c.args.coded.now c.args.coefs.now c.args.lasts.now c.args.flags.now c.args.bits.now c.args.supers.now c.args.modes.now c.args.active.now) =
-        sized c.args.format c.args.w c.args.h _ c.requires.4 in
+    sized c.args.format c.args.w c.args.h _ c.requires.4 in
     let l = long in
     let u = head in
     let e0 = cleared_to 0 c.clear_read.ensures.0 (c.read_body-read.auto.records ∙ l.records) in
@@ -56,14 +51,14 @@ returns-in-Refused-read c =
 pub returns-in-Whole : goal.returns-in-Whole
 returns-in-Whole c =
     let head : (h : FrameHeader) × (frame_header c.args.references c.args.packet.now 0 ≡ got h c.in-At.at) × (c.read_header-head.result.header ≡ header.as_header h) =
-        header_got (frame_header c.args.references c.args.packet.now 0) c.read_header-head.ensures c.in-At.is in
+    header_got (frame_header c.args.references c.args.packet.now 0) c.read_header-head.ensures c.in-At.is in
     let long : Sized c.args.format c.args.w c.args.h (work c.args.records.now c.args.coded.now c.args.coefs.now c.args.lasts.now c.args.flags.now c.args.bits.now c.args.supers.now c.args.modes.now c.args.active.now) =
-        sized c.args.format c.args.w c.args.h _ c.requires.4 in
+    sized c.args.format c.args.w c.args.h _ c.requires.4 in
     let whole : (b : Body)
     × (body c.args.format c.args.w c.args.h (trees_of c.args.nodes.now) c.read_header-head.result.header.kind c.read_header-head.result.header.count c.args.packet.now c.in-At.at ≡ got b c.in-Whole.field-2) × (c.in-Whole.count ≡ length b.coded)
     × LeftBy c.args.format c.args.w c.args.h b (work c.read_body-read.new.records c.read_body-read.new.coded c.read_body-read.new.coefs c.read_body-read.new.lasts c.read_body-read.new.flags c.read_body-read.new.bits c.read_body-read.new.supers c.read_body-read.new.modes c.read_body-read.new.active) =
-        body_got c.args.format c.args.w c.args.h (work c.read_body-read.new.records c.read_body-read.new.coded c.read_body-read.new.coefs c.read_body-read.new.lasts c.read_body-read.new.flags c.read_body-read.new.bits c.read_body-read.new.supers c.read_body-read.new.modes c.read_body-read.new.active) (body c.args.format c.args.w c.args.h (trees_of c.args.nodes.now) c.read_header-head.result.header.kind c.read_header-head.result.header.count c.args.packet.now c.in-At.at)
-        c.read_body-read.ensures.value c.read_body-read.ensures.left c.in-Whole.is in
+    body_got c.args.format c.args.w c.args.h (work c.read_body-read.new.records c.read_body-read.new.coded c.read_body-read.new.coefs c.read_body-read.new.lasts c.read_body-read.new.flags c.read_body-read.new.bits c.read_body-read.new.supers c.read_body-read.new.modes c.read_body-read.new.active) (body c.args.format c.args.w c.args.h (trees_of c.args.nodes.now) c.read_header-head.result.header.kind c.read_header-head.result.header.count c.args.packet.now c.in-At.at)
+    c.read_body-read.ensures.value c.read_body-read.ensures.left c.in-Whole.is in
     let l = long in
     let u = head in
     let v = whole in
