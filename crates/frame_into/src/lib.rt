@@ -1,4 +1,6 @@
 // The frame that a packet asks for, into the free one of three buffers, and the lists of its blocks cleared.
+#![tactic(auto)]
+
 ghost use Rattle.std.specs.Prelude.{◌≡◌, true, false, [], ◌∷◌, ◌≢◌, ◌*◌, ◌≤◌, ◌<◌, pos, length, set, replicate};
 ghost use Rattle.bitstream.specs.Reading.{choose};
 ghost use Rattle.geometry.specs.Sizes.{blocks_of, largest};

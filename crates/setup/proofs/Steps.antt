@@ -11,7 +11,7 @@ use Rattle.headers.specs.Judgement.{common_header}
 use Rattle.headers.proofs.Judged.{common_header_lawful}
 use Rattle.bitstream.specs.Answer.{as_end}
 use Rattle.bitstream.specs.declared.End.{End}
-use Rattle.bitstream.specs.declared.End.TheVariants.{At, Refused}
+use Rattle.bitstream.specs.declared.End.TheVariants.{At}
 use Rattle.huffman.specs.Tree.{Tree, nodes_of, huffman_tree}
 use Rattle.quantization.specs.Parameters.{Quantization, quantization}
 use Rattle.quantization.specs.Layout.{laid}

@@ -1,6 +1,6 @@
 -- The setup header (002, "Setup Header").
 use Rattle.std.specs.Prelude.{ℕ, List}
-use Rattle.bitstream.specs.Reading.{Parse, pure, bind, ◌>>=◌, ◌>>◌, field, many}
+use Rattle.bitstream.specs.Reading.{Parse, pure, ◌>>=◌, ◌>>◌, field, many}
 use Rattle.headers.specs.Judgement.{common_header}
 use Rattle.huffman.specs.Tree.{Tree, huffman_tree}
 use Rattle.quantization.specs.Parameters.{Quantization, quantization}

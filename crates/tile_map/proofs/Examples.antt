@@ -1,12 +1,11 @@
 -- Worked examples, by computation. Assumes nothing.
-use Prim.Native.Nat.{ℕ, ◌*◌}
 use mathlib.Core.Path.{◌≡◌, refl}
-use mathlib.Core.List.{List, [], ◌∷◌, ◌++◌}
+use mathlib.Core.List.{[], ◌∷◌}
 use lib.ListN.{replicate, set}
 use Rattle.bitstream.specs.Lists.{tabulated}
-use Rattle.geometry.specs.declared.PixelFormat.TheVariants.{Chroma420, Chroma444}
+use Rattle.geometry.specs.declared.PixelFormat.TheVariants.{Chroma420}
 use Rattle.geometry.specs.Order.{in_turn}
-use Rattle.tile_map.specs.Tiles.{some, differ, changed_in, strip_map, plane_map, map_length, tile_map}
+use Rattle.tile_map.specs.Tiles.{some, differ, changed_in, strip_map, plane_map, map_length}
 
 -- planes of 3 by 2 blocks (Cb of 4:2:0, 3 by 2 macro blocks), tile 32: one partial tile
 one_partial : map_length Chroma420 3 2 1 32 ≡ 1

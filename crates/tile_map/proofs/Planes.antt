@@ -1,11 +1,10 @@
 -- The strips of a plane. Assumes nothing.
-use Prim.Native.Nat.{ℕ, zero, suc, ◌+◌, ◌-◌, ◌*◌, ◌/◌, ◌%◌, ◌≤◌, ◌<◌, min}
-use native.Mathlib.Nat.{add-mul, suc-mul, mul-le-mul, mul-le-mul_right, mul-mul-mul_comm, div-le_self, le_trans, le_of_eq}
+use Prim.Native.Nat.{ℕ, ◌+◌, ◌-◌, ◌*◌, ◌≤◌, ◌<◌}
+use native.Mathlib.Nat.{add-mul, mul-le-mul, mul-le-mul_right, mul-mul-mul_comm, div-le_self, le_trans, le_of_eq}
 use native.Mathlib.Omega.{arith}
-use mathlib.Core.Path.{◌≡◌, refl, sym, ap, ◌∙◌, subst}
+use mathlib.Core.Path.{◌≡◌, refl, sym, ap, ◌∙◌}
 use mathlib.Core.List.{List, ◌++◌}
-use lib.ListN.{length, take, get_or}
-use lib.Seq.{take_all}
+use lib.ListN.{length, take}
 use borrow.Rule.Slice.PartMut.{put_mid}
 use Rattle.geometry.specs.declared.PixelFormat.{PixelFormat}
 use Rattle.geometry.specs.declared.Plane.{Plane}
@@ -13,9 +12,9 @@ use Rattle.geometry.specs.Sizes.{across, up, plane_blocks, blocks_of, blocks_bef
 use Rattle.geometry.specs.Order.{in_turn}
 use Rattle.geometry.specs.Square.{reach}
 use Rattle.geometry.proofs.SizeLaws.{before_next, before_to, across_small, up_small}
-use Rattle.rows.proofs.Facts.{row_fits, taken_more, in_turn_more}
+use Rattle.rows.proofs.Facts.{taken_more, in_turn_more}
 use Rattle.tile_map.specs.Tiles.{strip_map, plane_map, map_length, tile_map, IsTile, Both}
-use Rattle.tile_map.proofs.Strips.{column_inside, reach_inside, strip_length}
+use Rattle.tile_map.proofs.Strips.{reach_inside, strip_length}
 
 -- strip y lies in the plane
 module _ (row rows t y : ℕ) (there : y < tiles t rows) (tile : IsTile t) where

@@ -1,20 +1,17 @@
 -- A quiet tile is 0: "by the rules already shown", of which only demand 3's last sentence is used. Assumes nothing.
-use Prim.Native.Nat.{ℕ, zero, suc, ◌+◌, ◌*◌, ◌-◌, ◌/◌, ◌%◌, ◌≤◌, ◌<◌, min}
+use Prim.Native.Nat.{ℕ, ◌+◌, ◌*◌, ◌/◌, ◌%◌, ◌<◌}
 use native.Mathlib.Omega.{arith}
 use native.Mathlib.Nat.{mod-lt, mul_assoc, eq-or-lt_of_le}
-use mathlib.Core.Path.{◌≡◌, refl, sym, ap, ◌∙◌, subst}
+use mathlib.Core.Path.{◌≡◌, refl, sym, ap, ◌∙◌}
 use mathlib.Core.Bool.{Bool, true, false, false≢true}
 use mathlib.Core.List.{List}
-use mathlib.Core.Logic.{◌⊎◌, inl, inr, ◌≢◌}
-use lib.ListN.{get_or}
+use mathlib.Core.Logic.{◌⊎◌, inl, inr}
 use Rattle.geometry.specs.declared.PixelFormat.{PixelFormat}
 use Rattle.geometry.specs.declared.Block.{Block}
-use Rattle.geometry.specs.Sizes.{across, up}
 use Rattle.geometry.specs.Frame.{InFrame, block}
-use Rattle.geometry.specs.Sample.{sample_at}
 use Rattle.ways.specs.Ways.{Picture, AlongCoded, at_left, at_right, at_bottom, at_top, left_of, right_of, below, above}
 use Rattle.tile_map.specs.Tiles.{IsTile}
-use Rattle.tile_map.specs.Quiet.{IsOne, byte_of, InTile, InPlane, Differs, Within, Beside, Quiet, Kept}
+use Rattle.tile_map.specs.Quiet.{IsOne, byte_of, Within, Quiet, Kept}
 use Rattle.tile_map.proofs.Said.{none_0}
 
 coded_not : {b : Bool} → b ≡ true → b ≡ false → ⊥

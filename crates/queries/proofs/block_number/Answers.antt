@@ -1,5 +1,4 @@
 -- `queries::block_number` meets its contract. Assumes nothing.
-use borrow.Author.Rules.{rules}
 use mathlib.Core.Path.{sym, ap, ◌∙◌}
 use Rattle.geometry.specs.Frame.{block}
 use Rattle.headers.proofs.Fitting.{fits_macro_blocks}

@@ -1,5 +1,4 @@
 -- `queries::has_block` meets its contract. Assumes nothing.
-use borrow.Author.Rules.{rules}
 use borrow.Author.Tests.{lt-ltb, le-ltb}
 use mathlib.Core.Path.{sym}
 use Rattle.queries.specs.Orders.{has_block}

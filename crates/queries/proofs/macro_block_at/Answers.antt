@@ -1,5 +1,4 @@
 -- `queries::macro_block_at` meets its contract. Assumes nothing.
-use borrow.Author.Rules.{rules}
 use Prim.Native.Nat.{◌≤◌, ◌<◌}
 use mathlib.Core.Path.{sym, ap, subst, ◌∙◌}
 use Rattle.geometry.specs.declared.FrameSizes.{FrameSizes}

@@ -1,5 +1,4 @@
 -- `queries::macro_block_number` meets its contract. Assumes nothing.
-use borrow.Author.Rules.{rules}
 use native.Mathlib.Nat.{not-le_of_lt}
 use mathlib.Core.Path.{sym, ap, ◌∙◌}
 use Rattle.headers.proofs.Fitting.{fits_macro_blocks}

@@ -1,5 +1,4 @@
 -- `session_steps::session_after` meets its contract. Assumes nothing.
-use borrow.Author.Rules.{rules}
 use native.Mathlib.Omega.{arith}
 use Rattle.session_steps.specs.Steps.{session_after}
 use Rattle.session_steps.proofs.Counted.{keys_few, others_few}

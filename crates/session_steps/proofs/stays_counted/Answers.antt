@@ -1,5 +1,4 @@
 -- `session_steps::stays_counted` meets its contract. Assumes nothing.
-use borrow.Author.Rules.{rules}
 use native.Mathlib.Omega.{arith}
 use mathlib.Core.Path.{sym, ap, ◌∙◌}
 use Rattle.frame_header.specs.declared.Kind.{Kind}

@@ -1,6 +1,4 @@
 -- `setup::load_table` meets its contract. Assumes nothing.
-use Prim.Native.Nat.{◌-◌}
-use native.Mathlib.Omega.{arith}
 use mathlib.Core.Path.{sym, ap, ◌∙◌}
 use Rattle.bitstream.proofs.Ends.{end_refused, end_at}
 use mathlib.Core.Bool.{false}
@@ -10,7 +8,6 @@ use Rattle.setup.specs.Loaded.{as_setup_read}
 use Rattle.setup.specs.declared.SetupRead.{SetupRead}
 use Rattle.setup.proofs.Steps.{told_refused, told_got, told_same}
 use Rattle.setup.proofs.Calls.{not_length, not_read, is_read, held_not, held_is}
-use borrow.Author.Rules.{rules}
 use Rattle.setup.proofs.load_table.Goals as goal
 
 pub returns-then-table-ne-TABLE_BYTES : goal.returns-then-table-ne-TABLE_BYTES

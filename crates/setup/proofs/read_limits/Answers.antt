@@ -1,5 +1,4 @@
 -- `setup::read_limits` meets its contract. Assumes nothing.
-use Prim.Native.Nat.{◌-◌}
 use native.Mathlib.Omega.{arith}
 use mathlib.Core.Path.{◌≡◌}
 use lib.ListN.{length}
@@ -7,7 +6,6 @@ use Rattle.bitstream.specs.Reading.{got, field}
 use Rattle.bitstream.proofs.Fields.{read_got, read_refused, field_lt}
 use Rattle.quantization.proofs.Loops.{all_refused}
 use Rattle.setup.proofs.Steps.{limits_end, limits_filled}
-use borrow.Author.Rules.{rules}
 use Rattle.bitstream.proofs.Clauses.{two}
 use Rattle.setup.proofs.read_limits.Goals as goal
 

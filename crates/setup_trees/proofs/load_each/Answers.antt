@@ -1,11 +1,8 @@
-use Prim.Native.Nat.{ℕ, ◌+◌, ◌-◌, ◌*◌, ◌≤◌}
+use Prim.Native.Nat.{◌+◌, ◌-◌, ◌*◌, ◌≤◌}
 use native.Mathlib.Omega.{arith}
-use mathlib.Core.Path.{◌≡◌, ap, sym, ◌∙◌}
-use mathlib.Core.List.{List}
-use lib.ListN.{length, replicate, length-replicate}
 use borrow.Rule.Slice.PartMut.{put_mid}
 use Rattle.bitstream.specs.Bits.{bits}
-use Rattle.setup_trees.proofs.Loop.{Trees, trees_start, trees_long, trees_free, trees_unloaded, trees_loaded, few_leaves, trees_loaded_all}
+use Rattle.setup_trees.proofs.Loop.{Trees, trees_start, trees_free, trees_unloaded, trees_loaded, few_leaves, trees_loaded_all}
 use borrow.Author.Rules.{rules}
 use Rattle.bitstream.proofs.Clauses.{two}
 use Rattle.setup_trees.proofs.load_each.Goals as goal

@@ -1,12 +1,7 @@
 use native.Mathlib.Omega.{arith}
-use mathlib.Core.Path.{refl, sym, ap, ◌∙◌}
-use mathlib.Core.List.{List}
-use lib.ListN.{length, replicate, length-replicate}
-use borrow.Author.Rules.{rules}
-use Prim.Native.Nat.{ℕ, ◌+◌, ◌-◌, ◌*◌, ◌%◌, ◌≤◌}
-use mathlib.Core.Path.{◌≡◌}
-use Rattle.bitstream.specs.Bits.{bits}
-use Rattle.setup_trees.proofs.Loop.{Trees, trees_start, trees_long, trees_free, trees_loaded_all, pair_refused, pair_more}
+use mathlib.Core.Path.{refl}
+use Prim.Native.Nat.{◌+◌, ◌-◌, ◌*◌}
+use Rattle.setup_trees.proofs.Loop.{trees_start, trees_free, trees_loaded_all, pair_refused, pair_more}
 use Rattle.bitstream.proofs.Clauses.{two}
 use Rattle.setup_trees.proofs.load_trees.Goals as goal
 

@@ -1,12 +1,5 @@
 -- `setup_trees::load_two` meets its contract. Assumes nothing.
-use Prim.Native.Nat.{ℕ, ◌≤◌}
-use native.Mathlib.Omega.{arith}
-use mathlib.Core.Path.{◌≡◌, refl, sym, ap, ◌∙◌}
-use mathlib.Core.List.{List, [], ◌++◌, append-nil}
-use lib.ListN.{length, drop, replicate, length-replicate}
-use lib.Seq.{drop-length}
 use Rattle.setup_trees.proofs.Loop.{pair_laid}
-use borrow.Author.Rules.{rules}
 use Rattle.bitstream.proofs.Clauses.{two}
 use Rattle.setup_trees.proofs.load_two.Goals as goal
 

@@ -1,10 +1,6 @@
-use Prim.Native.Nat.{ℕ, ◌+◌, ◌-◌, ◌*◌, ◌≤◌}
+use Prim.Native.Nat.{◌+◌, ◌-◌, ◌*◌}
 use native.Mathlib.Omega.{arith}
-use mathlib.Core.Path.{◌≡◌, ap, sym, ◌∙◌}
-use mathlib.Core.List.{List}
-use lib.ListN.{length, replicate, length-replicate}
-use borrow.Rule.Slice.PartMut.{mid_len}
-use Rattle.setup_trees.proofs.Loop.{Trees, trees_start, trees_long, trees_done, trees_refused, trees_more}
+use Rattle.setup_trees.proofs.Loop.{trees_start, trees_done, trees_refused, trees_more}
 use borrow.Author.Rules.{rules}
 use Rattle.bitstream.proofs.Clauses.{two}
 use Rattle.setup_trees.proofs.read_trees.Goals as goal

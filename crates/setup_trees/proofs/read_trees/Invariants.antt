@@ -1,12 +1,6 @@
 -- `setup_trees::read_trees` meets its contract. The invariant: the trees so far lie in the slice, zeros behind them. Assumes nothing.
-use Prim.Native.Nat.{ℕ, ◌+◌, ◌-◌, ◌*◌, ◌≤◌}
-use native.Mathlib.Omega.{arith}
-use mathlib.Core.Path.{◌≡◌, ap, sym, ◌∙◌}
-use mathlib.Core.List.{List}
-use lib.ListN.{length, replicate, length-replicate}
-use borrow.Rule.Slice.PartMut.{mid_len}
-use Rattle.setup_trees.proofs.Loop.{Trees, trees_start, trees_long, trees_done, trees_refused, trees_more}
-use borrow.Author.Rules.{rules}
+use Prim.Native.Nat.{◌-◌, ◌≤◌}
+use Rattle.setup_trees.proofs.Loop.{Trees}
 use Rattle.setup_trees.proofs.read_trees.Given as goal
 
 abbrev pub invariant-loop-k : goal.invariant-loop-k

@@ -1,12 +1,10 @@
-use Prim.Native.Nat.{ℕ, ◌+◌, ◌-◌, ◌≤◌, ◌<◌}
+use Prim.Native.Nat.{◌+◌}
 use native.Mathlib.Omega.{arith}
-use mathlib.Core.Path.{◌≡◌, refl, sym, ap, ◌∙◌}
+use mathlib.Core.Path.{ap, ◌∙◌}
 use mathlib.Core.Bool.{Bool, not, ◌||◌}
 use lib.Dec.{eqb}
-use lib.ListN.{length, get_or}
-use Rattle.tile_map.specs.Tiles.{differ}
+use lib.ListN.{get_or}
 use Rattle.tile_map.proofs.Some.{differ_none, differ_more}
-use borrow.Author.Rules.{rules}
 use Rattle.tile_map.proofs.differ.Goals as goal
 
 pub loop-i-init : goal.loop-i-init

@@ -1,13 +1,7 @@
 -- `tile_map::differ` meets its contract. The loop's invariant: what was found among the first i. Assumes nothing.
-use Prim.Native.Nat.{ℕ, ◌+◌, ◌-◌, ◌≤◌, ◌<◌}
-use native.Mathlib.Omega.{arith}
-use mathlib.Core.Path.{◌≡◌, refl, sym, ap, ◌∙◌}
-use mathlib.Core.Bool.{Bool, not, ◌||◌}
-use lib.Dec.{eqb}
-use lib.ListN.{length, get_or}
+use Prim.Native.Nat.{◌-◌, ◌≤◌}
+use mathlib.Core.Path.{◌≡◌}
 use Rattle.tile_map.specs.Tiles.{differ}
-use Rattle.tile_map.proofs.Some.{differ_none, differ_more}
-use borrow.Author.Rules.{rules}
 use Rattle.tile_map.proofs.differ.Given as goal
 
 abbrev pub invariant-loop-i : goal.invariant-loop-i

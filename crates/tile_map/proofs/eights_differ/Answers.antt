@@ -1,11 +1,7 @@
-use Prim.Native.Nat.{ℕ, ◌+◌, ◌-◌, ◌%◌, ◌≤◌, ◌<◌}
 use native.Mathlib.Omega.{arith}
-use mathlib.Core.Path.{◌≡◌, refl, sym, ap, ◌∙◌}
-use mathlib.Core.Bool.{Bool, ◌||◌}
-use lib.ListN.{length}
-use Rattle.tile_map.specs.Tiles.{differ}
+use mathlib.Core.Path.{refl, ◌∙◌}
+use mathlib.Core.Bool.{◌||◌}
 use Rattle.tile_map.proofs.Some.{differ_none, differ_add}
-use borrow.Author.Rules.{rules}
 use Rattle.tile_map.proofs.eights_differ.Goals as goal
 
 pub loop-i-init : goal.loop-i-init

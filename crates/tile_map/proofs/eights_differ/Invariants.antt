@@ -1,12 +1,7 @@
 -- `tile_map::eights_differ` meets its contract. The loop's invariant: what was found among the first i. Assumes nothing.
-use Prim.Native.Nat.{ℕ, ◌+◌, ◌-◌, ◌%◌, ◌≤◌, ◌<◌}
-use native.Mathlib.Omega.{arith}
-use mathlib.Core.Path.{◌≡◌, refl, sym, ap, ◌∙◌}
-use mathlib.Core.Bool.{Bool, ◌||◌}
-use lib.ListN.{length}
+use Prim.Native.Nat.{◌-◌, ◌%◌, ◌≤◌}
+use mathlib.Core.Path.{◌≡◌}
 use Rattle.tile_map.specs.Tiles.{differ}
-use Rattle.tile_map.proofs.Some.{differ_none, differ_add}
-use borrow.Author.Rules.{rules}
 use Rattle.tile_map.proofs.eights_differ.Given as goal
 
 abbrev pub invariant-loop-i : goal.invariant-loop-i

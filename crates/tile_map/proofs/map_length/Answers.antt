@@ -1,10 +1,5 @@
 -- `tile_map::map_length` meets its contract. Assumes nothing.
-use Prim.Native.Nat.{ℕ, ◌+◌, ◌-◌, ◌*◌, ◌/◌, ◌≤◌, ◌<◌}
-use native.Mathlib.Omega.{arith}
-use mathlib.Core.Path.{◌≡◌, sym, ap, ◌∙◌}
-use Rattle.geometry.specs.Sizes.{squares as tiles}
-use Rattle.tile_map.proofs.Planes.{plane_row, plane_rows, length_by, tiles_small, length_small}
-use borrow.Author.Rules.{rules}
+use Rattle.tile_map.proofs.Planes.{length_by}
 use Rattle.tile_map.proofs.map_length.Goals as goal
 
 pub returns : goal.returns

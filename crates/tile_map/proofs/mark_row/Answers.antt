@@ -1,10 +1,6 @@
 -- `tile_map::mark_row` meets its contract. Assumes nothing.
-use Prim.Native.Nat.{ℕ, ◌+◌, ◌%◌, ◌≤◌, ◌<◌}
-use native.Mathlib.Omega.{arith}
-use mathlib.Core.Path.{◌≡◌, refl, sym, ap, ◌∙◌}
-use borrow.Author.Tests.{not-true, not-false}
+use mathlib.Core.Path.{sym, ◌∙◌}
 use Rattle.tile_map.proofs.Strips.{marked_none}
-use borrow.Author.Rules.{rules}
 use Rattle.tile_map.proofs.mark_row.Goals as goal
 
 pub returns-then-not-differ : goal.returns-then-not-differ

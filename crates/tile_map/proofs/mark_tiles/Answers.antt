@@ -1,14 +1,13 @@
-use Prim.Native.Nat.{ℕ, ◌+◌, ◌-◌, ◌*◌, ◌%◌, ◌≤◌, ◌<◌, min}
+use Prim.Native.Nat.{ℕ, ◌+◌, ◌*◌, ◌%◌, ◌≤◌, ◌<◌}
 use native.Mathlib.Omega.{arith}
-use mathlib.Core.Path.{◌≡◌, refl, sym, ap, ◌∙◌, subst}
+use mathlib.Core.Path.{sym, ap, ◌∙◌, subst}
 use mathlib.Core.List.{List}
-use lib.ListN.{length, get_or, length-set}
+use lib.ListN.{get_or}
 use Rattle.bitstream.specs.Reading.{choose}
 use Rattle.geometry.specs.Square.{reach}
 use Rattle.geometry.specs.Sizes.{squares as tiles}
 use Rattle.tile_map.specs.Tiles.{differ}
-use Rattle.tile_map.proofs.Strips.{set_front, set_rest, column_inside, reach_inside, reach_eights, marked_is}
-use borrow.Author.Rules.{rules}
+use Rattle.tile_map.proofs.Strips.{reach_inside, reach_eights, marked_is}
 use Rattle.tile_map.proofs.mark_tiles.Goals as goal
 
 -- the byte of tile x after the row

@@ -1,10 +1,8 @@
 -- `tile_map::write_map` meets its contract. Assumes nothing.
-use Prim.Native.Nat.{ℕ, ◌+◌, ◌-◌, ◌*◌, ◌/◌, ◌%◌, ◌≤◌, ◌<◌}
+use Prim.Native.Nat.{◌≤◌}
 use native.Mathlib.Omega.{arith}
-use mathlib.Core.Path.{◌≡◌, sym, ap, ◌∙◌}
-use Rattle.geometry.specs.Sizes.{squares as tiles}
+use mathlib.Core.Path.{sym, ◌∙◌}
 use Rattle.tile_map.proofs.Planes.{plane_row, plane_rows, plane_both, length_by, map_by}
-use borrow.Author.Rules.{rules}
 use Rattle.tile_map.proofs.write_map.Goals as goal
 
 pub write_tiles-requires : goal.write_tiles-requires

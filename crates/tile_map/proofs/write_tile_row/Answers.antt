@@ -1,14 +1,13 @@
-use Prim.Native.Nat.{ℕ, ◌+◌, ◌-◌, ◌*◌, ◌%◌, ◌≤◌, ◌<◌}
+use Prim.Native.Nat.{ℕ, ◌*◌}
 use native.Mathlib.Nat.{suc-mul, zero-mul}
 use native.Mathlib.Omega.{arith}
-use mathlib.Core.Path.{◌≡◌, refl, sym, ap, ◌∙◌, subst}
-use mathlib.Core.List.{List, ◌++◌}
-use lib.ListN.{length, drop, replicate}
+use mathlib.Core.Path.{◌≡◌, sym, ap, ◌∙◌, subst}
+use mathlib.Core.List.{List}
+use lib.ListN.{length}
 use Rattle.buffer.proofs.Laws.{cleared_all}
 use Rattle.rows.proofs.Facts.{row_fits}
-use Rattle.tile_map.specs.Tiles.{strip_map, marked, Flags}
+use Rattle.tile_map.specs.Tiles.{marked, Flags}
 use Rattle.tile_map.proofs.Strips.{strip_none, strip_more, strip_length, strip_flags}
-use borrow.Author.Rules.{rules}
 use Rattle.tile_map.proofs.write_tile_row.Goals as goal
 
 pub loop-r-init : goal.loop-r-init

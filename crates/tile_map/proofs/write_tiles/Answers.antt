@@ -1,8 +1,7 @@
-use Prim.Native.Nat.{ℕ, ◌+◌, ◌-◌, ◌*◌, ◌/◌, ◌%◌, ◌≤◌, ◌<◌, min}
+use Prim.Native.Nat.{ℕ, ◌+◌, ◌-◌, ◌*◌, ◌≤◌}
 use native.Mathlib.Nat.{suc-mul, zero-mul}
 use native.Mathlib.Omega.{arith}
-use mathlib.Core.Path.{◌≡◌, refl, sym, ap, ◌∙◌, subst}
-use mathlib.Core.List.{List}
+use mathlib.Core.Path.{◌≡◌, refl, sym, ap, ◌∙◌}
 use lib.ListN.{length, take, drop}
 use lib.Seq.{take_all}
 use Rattle.geometry.specs.Sizes.{squares as tiles}
@@ -11,9 +10,7 @@ use Rattle.geometry.specs.Square.{reach}
 use Rattle.output.proofs.Splices.{part_length}
 use Rattle.rows.proofs.Facts.{row_fits}
 use Rattle.tile_map.specs.Tiles.{strip_map}
-use Rattle.tile_map.proofs.Strips.{column_inside}
-use Rattle.tile_map.proofs.Planes.{strip_inside, strip_at, strips_all, no_strip, strips_more, tiles_small}
-use borrow.Author.Rules.{rules}
+use Rattle.tile_map.proofs.Planes.{strip_inside, strip_at, strips_all, no_strip, strips_more}
 use Rattle.tile_map.proofs.write_tiles.Goals as goal
 
 pub loop-y-init : goal.loop-y-init
