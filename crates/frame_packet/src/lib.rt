@@ -1,4 +1,6 @@
 // A frame packet, read to its end into work memory. Work memory is all zero before; afterwards it holds what was read, or, after a refusal, is all zero.
+#![tactic(auto)]
+
 ghost use Rattle.std.specs.Prelude.{◌≡◌, ◌≤◌, length};
 ghost use Rattle.bitstream.specs.Bits.{longest};
 ghost use Rattle.bitstream.specs.Reading.{got, refused};

@@ -1,4 +1,6 @@
 // What a frame packet answers. No sample is needed for it.
+#![tactic(auto)]
+
 ghost use Rattle.std.specs.Prelude.{◌≡◌, length};
 ghost use Rattle.bitstream.specs.Reading.{refused};
 ghost use Rattle.reading.specs.declared.Verdict.TheVariants.{Accepted};
