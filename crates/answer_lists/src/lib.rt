@@ -1,4 +1,6 @@
 // What the calls for C return and leave in lists of numbers, by their answers.
+#![tactic(auto)]
+
 ghost use Rattle.std.specs.Prelude.{◌≡◌, length};
 ghost use Rattle.session_list.specs.List.{gives, answers};
 ghost use Rattle.answer_lists.specs.Lists.{flag, session_returned, sizes_returned, block_returned, place_returned, number_returned, table_call, matrix_returned};
