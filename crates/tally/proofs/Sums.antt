@@ -44,5 +44,5 @@ module _ (s : Session) (setup : Setup) (packet : List ℕ) {a : Asked} {e : ℕ}
         all_planes = λ k. sums.blocks_sum (format s) w h b.coded b.modes kind k fits.body.once;
         modes = λ k. sums.modes_sum (format s) w h b.coded b.modes kind k fits.body.modes.below ∙ fits.body.modes.all_there k;
         no_modes = λ k. sums.modes_none (format s) w h b.coded b.modes kind k;
-        repeats = λ k. sums.repeat-none (format s) w h b.coded b.modes kind k;
+        repeats = λ k. sums.repeat_none (format s) w h b.coded b.modes kind k;
       }
