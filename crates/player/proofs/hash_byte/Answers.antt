@@ -18,4 +18,4 @@ in_parts x sum r a b =
 
 pub returns : goal.returns
 unfolding hash_byte
-returns c = in_parts _ _ _ c.wrapping_add_u64-sum.ensures c.wrapping_add_u64.ensures
+returns c = in_parts _ _ _ c.wrapping_add_u64-sum.ensures.value c.wrapping_add_u64.ensures.value
