@@ -19,20 +19,20 @@ pub read_packet-ready-requires : goal.read_packet-ready-requires
 read_packet-ready-requires c = record { s_value = (c.requires.s_value.0, part_few _ c.args.packet.now c.readable-part.ensures, omega (arith, loaded_whole c.args.table.now c.requires.s_value.2), (c.requires.s_value.2.setup, loaded_holds c.args.table.now c.requires.s_value.2), c.requires.s_value.3); active_value = ap (λ (m : Memory). m.work) c.requires.active_value.0 }
 
 pub make_into-requires : goal.make_into-requires
-make_into-requires c = record { w_le_largest = (λ y.
+make_into-requires c = let f = c.free_buffer-free.ensures in record { w_le_largest = (λ y.
           let b = (c.read_packet-ready.ensures.ready c.requires.s_value.2.setup (loaded_holds c.args.table.now c.requires.s_value.2)).accepted y in
           let k = fits_macro_blocks c.args.s c.requires.s_value.0 in
-          let n : 64 * blocks c.args.s ≡ 64 * blocks_of c.read_packet-ready.result.format c.args.s.fields.fmbw c.args.s.fields.fmbh = ap (λ (c.free_buffer-free.ensures : PixelFormat). 64 * blocks_of c.free_buffer-free.ensures c.args.s.fields.fmbw c.args.s.fields.fmbh) (sym b.same_format) in (
+          let n : 64 * blocks c.args.s ≡ 64 * blocks_of c.read_packet-ready.result.format c.args.s.fields.fmbw c.args.s.fields.fmbh = ap (λ (f : PixelFormat). 64 * blocks_of f c.args.s.fields.fmbw c.args.s.fields.fmbh) (sym b.same_format) in (
             k.1,
             k.3,
             b.lent,
             b.behind,
-            ap (λ (m : Memory). m.dc) c.requires.active_value.0 ∙ ap (λ (c.free_buffer-free.ensures : PixelFormat). replicate (blocks_of c.free_buffer-free.ensures c.args.s.fields.fmbw c.args.s.fields.fmbh) (pos 0)) (sym b.same_format),
+            ap (λ (m : Memory). m.dc) c.requires.active_value.0 ∙ ap (λ (f : PixelFormat). replicate (blocks_of f c.args.s.fields.fmbw c.args.s.fields.fmbh) (pos 0)) (sym b.same_format),
             b.few,
             c.requires.active_value.1 ∙ n,
             c.requires.active_value.2 ∙ n,
             c.requires.active_value.3 ∙ n,
-          )); free_bound = (subst (λ (k : ℕ). k < 3) (sym c.free_buffer-free.ensures) (free_is c.args.names).named, (λ e. (apart c.args.s c.args.names c.requires.s_value.1).0 (e ∙ c.free_buffer-free.ensures)), (λ e. (apart c.args.s c.args.names c.requires.s_value.1).1 (e ∙ c.free_buffer-free.ensures))) }
+          )); free_bound = (subst (λ (k : ℕ). k < 3) (sym f) (free_is c.args.names).named, (λ e. (apart c.args.s c.args.names c.requires.s_value.1).0 (e ∙ f)), (λ e. (apart c.args.s c.args.names c.requires.s_value.1).1 (e ∙ f))) }
 
 pub returns : goal.returns
 returns c = let p =
