@@ -13,7 +13,7 @@ use Rattle.shot_packets.proofs.play_packets.Goals as goal
 
 pub loop-i-init : goal.loop-i-init
 loop-i-init c = (
-      going_first c.args.table.now c.args.lengths.now c.args.packets.now c.args.s c.args.names _ c.args.first.now c.args.second.now c.args.third.now c.args.answers.now c.requires.active_value.1.0 c.requires.s_value.0 c.requires.s_value.1 c.requires.active_value.0.0 c.requires.active_value.0.1 c.requires.active_value.0.2 c.requires.active_value.0.3 c.requires.active_value.1.1,
+      going_first c.args.table.now c.args.lengths.now c.args.packets.now c.args.s c.args.names _ c.args.first.now c.args.second.now c.args.third.now c.args.answers.now c.requires.lengths_in_bounds.0 c.requires.s_value.0 c.requires.s_value.1 c.requires.active_value.0 c.requires.active_value.1 c.requires.active_value.2 c.requires.active_value.3 c.requires.lengths_in_bounds.1,
       c.none-kept.ensures c.args.table.now c.args.loaded.parameters,
     )
 
