@@ -26,11 +26,7 @@ fn return_lengths(answer: WorkAnswer, list: &mut [u64]) -> u32
 }
 
 // Reads an identification header; session receives the fresh session, place the bit place of a refusal.
-pub fn wedgepetal_identification(
-    packet: &[u8],
-    session: &mut [u64],
-    place: &mut [u64],
-) -> u32
+pub fn wedgepetal_identification(packet: &[u8], session: &mut [u64], place: &mut [u64]) -> u32
     ensures { answers result session.new place.new ≡ identification_call packet.now session.old place.old }
 {
     if (session.len() == 19) & (place.len() == 1) {
@@ -99,12 +95,7 @@ pub fn wedgepetal_macro_block_at(session: &[u64], number: u64, place: &mut [u64]
 }
 
 // The number in coded order of macro block (x, y).
-pub fn wedgepetal_macro_block_number(
-    session: &[u64],
-    x: u64,
-    y: u64,
-    number: &mut [u64],
-) -> u32
+pub fn wedgepetal_macro_block_number(session: &[u64], x: u64, y: u64, number: &mut [u64]) -> u32
     ensures { gives result number.new ≡ macro_block_number_call session.now x y number.old }
 {
     let k = session_list::lists_refusal(session, number.len(), 1);
@@ -196,13 +187,7 @@ pub fn wedgepetal_loop_limit(table: &[u8], qi: u64, limit: &mut [u64]) -> u32
 }
 
 // The quantization matrix of a type, a plane and a qi.
-pub fn wedgepetal_matrix(
-    table: &[u8],
-    qti: u64,
-    plane: u64,
-    qi: u64,
-    matrix: &mut [u64],
-) -> u32
+pub fn wedgepetal_matrix(table: &[u8], qti: u64, plane: u64, qi: u64, matrix: &mut [u64]) -> u32
     ensures { gives result matrix.new ≡ matrix_call table.now qti plane qi matrix.old }
 {
     if matrix.len() == 64 {

@@ -39,11 +39,7 @@ fn return_length(answer: MapLength, list: &mut [u64]) -> u32
 }
 
 // How many bytes a map of changed tiles has.
-pub fn wedgepetal_tiles_length(
-    settings: &[u64],
-    session: &[u64],
-    length: &mut [u64],
-) -> u32
+pub fn wedgepetal_tiles_length(settings: &[u64], session: &[u64], length: &mut [u64]) -> u32
     ensures { gives result length.new ≡ length_call settings.now session.now length.old }
 {
     let k = lists_refusal(settings, session, length.len(), 1);
