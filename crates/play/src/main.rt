@@ -3,7 +3,7 @@
 
 mod report;
 
-ghost use Rattle.std.specs.Prelude.{◌≡◌, ◌≤◌, ◌<◌, ◌×◌, length, take, IfOk};
+ghost use Rattle.std.specs.Prelude.{◌≡◌, ◌≤◌, ◌<◌, length, take, IfOk};
 
 use headers::{IdentificationAnswer, Session};
 use reading::{FrameAnswer, Verdict};
