@@ -27,12 +27,12 @@ watch_named-seen-requires c = let f = frames_long c.loop-i.invariant.0.going c.f
 
 pub loop-i-preserved : goal.loop-i-preserved
 loop-i-preserved c = (
-      watching_on c.args.table.now c.args.lengths.now c.args.packets.now c.args.file.now c.args.s c.args.names _ c.args.begun _ (loaded_whole c.args.table.now c.requires.s_value.2) c.loop-i.session c.loop-i.first c.loop-i.second c.loop-i.third c.loop-i.both _ c.loop-i.answers c.loop-i.seen c.loop-i.at c.loop-i.i c.loop-i.invariant.0
-          c.loop-i-test.true c.packet_end-end.result c.packet_end-end.ensures c.play_packet-played.result.answer _ _ _ c.play_packet-played.result.names _ c.play_packet-played.ensures.answer_after c.first-1.given c.second-1.given c.third-1.given
-          c.watch_named-seen.result c.watch_named-seen.ensures.0 c.watch_named-seen.ensures.1
-          _ _ (ap (λ (v : List ℕ). take (8 * c.loop-i.i) c.loop-i.answers ++ (v ++ post_of (8 * c.loop-i.i) (8 * c.loop-i.i + 8 - 8 * c.loop-i.i) c.loop-i.answers)) c.store_answer.ensures) c.answers-1.given.1,
-      c.play_packet-played.ensures.keeps,
-    )
+  watching_on c.args.table.now c.args.lengths.now c.args.packets.now c.args.file.now c.args.s c.args.names _ c.args.begun _ (loaded_whole c.args.table.now c.requires.s_value.2) c.loop-i.session c.loop-i.first c.loop-i.second c.loop-i.third c.loop-i.both _ c.loop-i.answers c.loop-i.seen c.loop-i.at c.loop-i.i c.loop-i.invariant.0
+      c.loop-i-test.true c.packet_end-end.result c.packet_end-end.ensures c.play_packet-played.result.answer _ _ _ c.play_packet-played.result.names _ c.play_packet-played.ensures.answer_after c.first-1.given c.second-1.given c.third-1.given
+      c.watch_named-seen.result c.watch_named-seen.ensures.0 c.watch_named-seen.ensures.1
+      _ _ (ap (λ (v : List ℕ). take (8 * c.loop-i.i) c.loop-i.answers ++ (v ++ post_of (8 * c.loop-i.i) (8 * c.loop-i.i + 8 - 8 * c.loop-i.i) c.loop-i.answers)) c.store_answer.ensures) c.answers-1.given.1,
+  c.play_packet-played.ensures.keeps,
+)
 
 pub returns : goal.returns
 returns c = watching_last c.args.table.now c.args.lengths.now c.args.packets.now c.args.file.now c.args.s c.args.names _ c.args.begun _ (loaded_whole c.args.table.now c.requires.s_value.2) c.loop-i.session c.loop-i.first c.loop-i.second c.loop-i.third c.loop-i.both _ c.loop-i.answers c.loop-i.seen c.loop-i.at c.loop-i.i c.loop-i.invariant.0 c.loop-i-test.false
