@@ -61,9 +61,10 @@ fn read_full(file: &mut impl Read, buffer: &mut [u8]) -> io::Result<usize>
     Ok(done)
 }
 
-// The next packet of a packet file: its length in 4 bytes, and its bytes.
+// The next packet of a packet file: its length in 4 bytes, and its bytes. The only error is the file's; after it the buffer is as long as it was, and what it holds is open.
 fn read_packet(file: &mut impl Read, buffer: &mut [u8]) -> io::Result<Packet>
-    ensures { IfOk result (λ p. (p.length ≤ length buffer.new) × (p.length ≡ length (take p.length buffer.new))) }
+    ensures packet { IfOk result (λ p. (p.length ≤ length buffer.new) × (p.length ≡ length (take p.length buffer.new))) }
+    ensures same_length { length buffer.new ≡ length buffer.old }
 {
     let none = Packet {
         is_whole: false,
