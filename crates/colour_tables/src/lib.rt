@@ -196,19 +196,27 @@ pub fn put_part(c: Chroma, rows: &mut [i32], at: usize)
 }
 
 // What each chroma sample adds, three times over: so the bytes of two pixels, and two more, are sums of neighbours in memory,
-// which the compiler makes four at a time. Whoever converts a frame makes them once.
+// which the compiler makes four at a time. Whoever converts a frame makes them once, in place: by value they are copied on the stack.
+pub fn fill_chroma_rows(tables: &[i32], rows: &mut [i32])
+    requires { (tables.now ≡ contributions) × (length rows.old ≡ 4608) }
+    ensures { rows.new ≡ chroma_rows }
+{
+    let mut k: usize = 0;
+    while k < 512 {
+        let c = part_of(tables, k);
+        put_part(c, rows, 9 * k);
+        put_part(c, rows, 9 * k + 3);
+        put_part(c, rows, 9 * k + 6);
+        k += 1;
+    }
+}
+
+// The same, by value.
 pub fn chroma_rows(tables: &[i32]) -> [i32; 4608]
     requires { tables.now ≡ contributions }
     ensures { result ≡ chroma_rows }
 {
     let mut rows = [0i32; 4608];
-    let mut k: usize = 0;
-    while k < 512 {
-        let c = part_of(tables, k);
-        put_part(c, &mut rows, 9 * k);
-        put_part(c, &mut rows, 9 * k + 3);
-        put_part(c, &mut rows, 9 * k + 6);
-        k += 1;
-    }
+    fill_chroma_rows(tables, &mut rows);
     rows
 }

@@ -61,7 +61,8 @@ fn refuse(answer: FrameAnswer, format: PixelFormat, kept: KeptMatrices) -> Prepa
     }
 }
 
-// A packet that is accepted, by its header and the number of its coded blocks.
+// A packet that is accepted, by its header and the number of its coded blocks. Not inlined, so that its copies of the matrices are not on the stack while a packet is read.
+#[inline(never)]
 fn accept(
     table: &[u8],
     parameters: LoadedParameters,
@@ -90,6 +91,8 @@ fn accept(
 }
 
 // A packet, read by a setup that was loaded and matrices that are kept. Work memory is all zero before; after an accepted packet it holds the frame's blocks, and else it is all zero.
+// Inlined, so that the setup, which goes by value, is on the stack once less.
+#[inline(always)]
 pub fn read_packet(
     s: Session,
     packet: &[u8],

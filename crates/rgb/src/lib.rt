@@ -245,7 +245,8 @@ pub fn convert(s: Session, planes: &[u8], out: &mut [u8]) -> Written
         return Written::Refused(bitstream::SHORT_OUTPUT, 0);
     }
     let tables = colour_tables::all_tables();
-    let rows = colour_tables::chroma_rows(&tables);
+    let mut rows = [0i32; 4608];
+    colour_tables::fill_chroma_rows(&tables, &mut rows);
     write_picture(format, w, h, &tables, &rows, planes, out);
     Written::Bytes(n)
 }

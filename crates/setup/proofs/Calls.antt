@@ -7,16 +7,19 @@ use mathlib.Core.Bool.{Bool, true, false}
 use lib.ListN.{length, replicate}
 use borrow.Author.Tests.{eq-eqb, ne_eqb}
 use Rattle.bitstream.specs.Bits.{bits}
-use Rattle.bitstream.specs.Reading.{got, refused}
+use Rattle.bitstream.specs.Reading.{Outcome, got, refused}
 use Rattle.bitstream.specs.Answer.{readable, as_end}
 use Rattle.bitstream.proofs.Spends.{readable_same}
+use Rattle.bitstream.proofs.Fields.{no_mix}
+use Rattle.setup_trees.specs.Answer.{told}
 use Rattle.bitstream.specs.declared.End.{End}
 use Rattle.bitstream.specs.declared.End.TheVariants as end
 use Rattle.bitstream.proofs.Ends.{end_refused, end_at}
 use Rattle.table_memory.specs.Kept.{kept, clear_from}
 use Rattle.table_memory.specs.Genuine.{Bytes, genuine}
 use Rattle.setup.specs.Header.{Setup, setup_header}
-use Rattle.setup.specs.Loaded.{as_setup_read}
+use Rattle.setup.specs.Loaded.{Loaded, as_setup_read}
+use Rattle.setup.specs.declared.LoadedSetup.{LoadedSetup}
 use Rattle.setup.specs.declared.SetupRead.{SetupRead}
 use Rattle.setup.specs.Table.{table_bytes, setup_outcome, as_setup_answer, table_after, is_table, LeftBySome, held_setup}
 use Rattle.setup.specs.declared.SetupAnswer.TheVariants.{Accepted, Refused}
@@ -74,6 +77,12 @@ module _ (t : List ℕ) where
   pub held_is : true ≡ is_table t → {r : SetupRead} → r ≡ as_setup_read (setup_header t 0) → r ≡ as_setup_read (held_setup t)
   unfolding held_setup
   held_is h a = rw (sym h) a
+
+-- a setup that was filled in place, and where its header ends
+pub filled_read : (o : Outcome Setup) {s : Setup} {d : ℕ} → o ≡ got s d → {e : End} (l : LoadedSetup) → e ≡ as_end (told false o) → Loaded o l
+    → record { place = e; setup = l } ≡ as_setup_read o
+filled_read (got x c) h l a b = λ i. record { place = a i; setup = b i }
+filled_read (refused k c) h l a b = no_mix (sym h)
 
 -- the test's answer, and what it says of packets
 pub both : (t : List ℕ) → Bytes t → (r : Bool) → r ≡ is_table t → (r ≡ is_table t) × LeftBySome r t

@@ -1,7 +1,7 @@
 -- How the setup header goes, by what its parts are. Assumes nothing.
 use Prim.Native.Nat.{ℕ, ◌≤◌}
 use native.Mathlib.Omega.{arith}
-use mathlib.Core.Path.{◌≡◌, refl, sym, ap, ◌∙◌}
+use mathlib.Core.Path.{◌≡◌, refl, sym}
 use mathlib.Core.List.{List}
 use mathlib.Core.Bool.{Bool, true, false}
 use Rattle.bitstream.specs.Bits.{bits}
@@ -11,10 +11,8 @@ use Rattle.headers.specs.Judgement.{common_header}
 use Rattle.headers.proofs.Judged.{common_header_lawful}
 use Rattle.bitstream.specs.Answer.{as_end}
 use Rattle.bitstream.specs.declared.End.{End}
-use Rattle.bitstream.specs.declared.End.TheVariants.{At}
-use Rattle.huffman.specs.Tree.{Tree, nodes_of, huffman_tree}
+use Rattle.huffman.specs.Tree.{Tree, huffman_tree}
 use Rattle.quantization.specs.Parameters.{Quantization, quantization}
-use Rattle.quantization.specs.Layout.{laid}
 use Rattle.quantization.specs.Answer.{Filled, as_parameters, loaded_parameters}
 use Rattle.quantization.specs.Answer as parameters
 use Rattle.quantization.specs.declared.Parameters.{Parameters}
@@ -22,7 +20,8 @@ use Rattle.quantization.specs.declared.Parameters.TheVariants as parameters-are
 use Rattle.quantization.proofs.Laws.{quantization_lawful}
 use Rattle.setup.specs.Header.{Setup, loop_limits, setup_header}
 use Rattle.setup_trees.specs.Answer.{TreesFilled, told}
-use Rattle.setup.specs.Loaded.{loaded_setup, as_setup_read}
+use Rattle.setup.specs.Loaded.{loaded_setup, Loaded}
+use Rattle.setup.specs.declared.LoadedSetup.{LoadedSetup}
 use Rattle.setup.proofs.Laws.{limits_lawful}
 
 -- ---- the loop limits
@@ -54,11 +53,6 @@ told_got true o h = h
 told_got false (got a d) h = h
 told_got false (refused k d) h = no_mix (sym h)
 
-pub told_same : {A : Type 0} (b : Bool) (o : Outcome A) {a : A} {e : ℕ} → o ≡ got a e → o ≡ told b o
-told_same true o h = refl
-told_same false (got a d) h = refl
-told_same false (refused k d) h = no_mix (sym h)
-
 -- ---- the whole header
 pub parameters_read : (o : Outcome Quantization) {r : Parameters} {m e : ℕ} → r ≡ as_parameters o → r ≡ parameters-are.Read m e → (q : Quantization) × (o ≡ got q e) × (q.matrices_at ≡ m)
 parameters_read (got q d) s h = (q, cc, cc)
@@ -88,9 +82,6 @@ module _ (p : List ℕ) where
         unfolding setup_header
         header_trees m = rw (f, g, h, m)
 
-        pub header_told : (b : Bool) {k e : ℕ} → told b (many 80 huffman_tree p c) ≡ refused k e → refused k e ≡ told b (setup_header p 0)
-        header_told b m = let t = told_refused {B = Setup} b (many 80 huffman_tree p c) m in sym (ap (told b) (header_trees t.2) ∙ t.3)
-
         pub header_inside : c ≤ bits p
         header_inside =
             let x = ((common_header_lawful 0x82).moves p 0 u a (omega arith) f).1 in
@@ -100,21 +91,39 @@ module _ (p : List ℕ) where
         unfolding setup_header
         header_got m = rw (f, g, h, m)
 
+        -- where the header ends, or what is told of its refusal, is what reading the trees gives
+        pub header_end : (b : Bool) → as_end (told b (many 80 huffman_tree p c)) ≡ as_end (told b (setup_header p 0))
+        header_end b = go b (many 80 huffman_tree p c) refl
+          where
+            go : (b : Bool) (o : Outcome (List Tree)) → many 80 huffman_tree p c ≡ o → as_end (told b o) ≡ as_end (told b (setup_header p 0))
+            go true (got ts e) m = rw (header_got m) refl
+            go true (refused k e) m = rw (header_trees m) refl
+            go false (got ts e) m = rw (header_got m) refl
+            go false (refused k e) m = rw (header_trees m) refl
+
 -- the parts that were read, in the struct
 parameters_loaded : (o : Outcome Quantization) (ac dc sizes indices : List ℕ) {q : Quantization} {m e : ℕ} → parameters.Loaded o ac dc sizes indices → o ≡ got q e → q.matrices_at ≡ m
     → record { place = m; ac_scale = ac; dc_scale = dc; sizes = sizes; indices = indices } ≡ loaded_parameters q
 parameters_loaded (got x d) ac dc sizes indices {q} f h y = let z : x ≡ q = cc in rw (← y, ← z) f
 parameters_loaded (refused k d) ac dc sizes indices f h y = no_mix (sym h)
 
-trees_filled : (o : Outcome (List Tree)) (nodes : List ℕ) {ts : List Tree} {e : ℕ} → TreesFilled o nodes → o ≡ got ts e → nodes ≡ laid nodes_of ts
-trees_filled (got x d) nodes {ts} f h = let z : x ≡ ts = cc in rw (← z) f
-trees_filled (refused k d) nodes f h = no_mix (sym h)
+-- beside a refusal nothing is said
+pub refused_loaded : {o : Outcome Setup} {k e : ℕ} (l : LoadedSetup) → o ≡ refused k e → Loaded o l
+refused_loaded l h = rw h tt
 
-pub load_read : (o : Outcome Setup) (qo : Outcome Quantization) (to : Outcome (List Tree)) (limits ac dc sizes indices nodes : List ℕ) {l : List ℕ} {q : Quantization} {ts : List Tree} {m c e : ℕ}
-    → o ≡ got (record { limits = l; parameters = q; trees = ts }) e → limits ≡ l → parameters.Loaded qo ac dc sizes indices → qo ≡ got q c → q.matrices_at ≡ m → TreesFilled to nodes → to ≡ got ts e
-    → record { place = At e; setup = record { limits = limits; parameters = record { place = m; ac_scale = ac; dc_scale = dc; sizes = sizes; indices = indices }; nodes = nodes } } ≡ as_setup_read o
-unfolding loaded_setup
-load_read o qo to limits ac dc sizes indices nodes {l} {q} {ts} {m} {c} {e} h a b f y t g =
-    let k = parameters_loaded qo ac dc sizes indices b f y in
-    let n = trees_filled to nodes t g in
-    rw h (λ i. record { place = At e; setup = record { limits = a i; parameters = k i; nodes = n i } })
+-- the parts in their places are the setup that the header says
+module _ (p : List ℕ) {u : Unit {0}} {a : ℕ} (f : common_header 0x82 p 0 ≡ got u a) {l : List ℕ} {b : ℕ} (g : loop_limits p a ≡ got l b)
+    {q : Quantization} {c m : ℕ} (h : quantization p b ≡ got q c)
+    (limits ac dc sizes indices nodes : List ℕ) (i : limits ≡ l) (s : parameters.Loaded (quantization p b) ac dc sizes indices) (y : q.matrices_at ≡ m)
+  where
+    pub header_loaded : TreesFilled (many 80 huffman_tree p c) nodes
+        → Loaded (setup_header p 0) (record { limits = limits; parameters = record { place = m; ac_scale = ac; dc_scale = dc; sizes = sizes; indices = indices }; nodes = nodes })
+    unfolding loaded_setup
+    header_loaded t = go (many 80 huffman_tree p c) refl t
+      where
+        go : (o : Outcome (List Tree)) → many 80 huffman_tree p c ≡ o → TreesFilled o nodes
+            → Loaded (setup_header p 0) (record { limits = limits; parameters = record { place = m; ac_scale = ac; dc_scale = dc; sizes = sizes; indices = indices }; nodes = nodes })
+        go (got ts e) z n =
+            let k = parameters_loaded (quantization p b) ac dc sizes indices s h y in
+            rw (header_got p f g h z) (λ j. record { limits = i j; parameters = k j; nodes = n j })
+        go (refused k e) z n = rw (header_trees p f g h z) tt

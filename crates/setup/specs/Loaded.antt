@@ -4,7 +4,7 @@ use Rattle.bitstream.specs.Reading.{Outcome, got, refused}
 use Rattle.huffman.specs.Tree.{nodes_of}
 use Rattle.quantization.specs.Layout.{laid}
 use Rattle.quantization.specs.Answer.{loaded_parameters}
-use Rattle.bitstream.specs.Answer.{as_end}
+use Rattle.bitstream.specs.Answer.{as_end, IfGot}
 use Rattle.setup.specs.Header.{Setup, setup_header}
 use Rattle.setup.specs.declared.LoadedSetup.{LoadedSetup}
 use Rattle.setup.specs.declared.SetupRead.{SetupRead}
@@ -43,3 +43,7 @@ setup_of (refused k e) = empty_setup
 -- what the reader of a setup answers
 abbrev pub as_setup_read : Outcome Setup → SetupRead
 as_setup_read o = record { place = as_end o; setup = setup_of o }
+
+-- what a reader leaves in the setup that it fills: the setup that was read; after a refusal it may be anything
+abbrev pub Loaded : Outcome Setup → LoadedSetup → Type 0
+Loaded o l = IfGot (λ s. l ≡ loaded_setup s) o

@@ -6,9 +6,9 @@ ghost use Rattle.std.specs.Prelude.{◌≡◌, ◌≤◌, length};
 ghost use Rattle.bitstream.specs.Reading.{refused};
 ghost use Rattle.quantization.specs.Answer.{Filled};
 ghost use Rattle.bitstream.specs.Answer.{as_end};
-ghost use Rattle.setup.specs.Header.{loop_limits, setup_header};
+ghost use Rattle.setup.specs.Header.{Setup, loop_limits, setup_header};
 ghost use Rattle.setup_trees.specs.Answer.{told};
-ghost use Rattle.setup.specs.Loaded.{empty_setup, as_setup_read};
+ghost use Rattle.setup.specs.Loaded.{empty_setup, as_setup_read, Loaded};
 ghost use Rattle.setup.specs.Table.{setup_outcome, as_setup_answer, table_after, is_table, LeftBySome, held_setup};
 
 use bitstream::{End, Field};
@@ -76,7 +76,7 @@ fn empty() -> LoadedSetup
     }
 }
 
-// A header that is refused.
+// A setup that is refused.
 fn not_read(number: u32, fault: usize) -> SetupRead
     ensures { result ≡ as_setup_read (refused number fault) }
 {
@@ -88,19 +88,21 @@ fn not_read(number: u32, fault: usize) -> SetupRead
 }
 
 // A header that is refused, with the number and the place or without.
-fn refuse(placed: bool, number: u32, fault: usize) -> SetupRead
-    ensures { result ≡ as_setup_read (told placed (refused number fault)) }
+fn refuse(placed: bool, number: u32, fault: usize) -> End
+    ensures { result ≡ as_end (told {A = Setup} placed (refused number fault)) }
 {
     if placed {
-        return not_read(number, fault);
+        return End::Refused(number, fault);
     }
-    not_read(bitstream::NOT_GENUINE, 0)
+    End::Refused(bitstream::NOT_GENUINE, 0)
 }
 
 // The whole header of a packet, or of table memory, where a refusal's number and place are not wanted. The base matrices stay in the packet.
-fn load(packet: &[u8], placed: bool) -> SetupRead
-    requires { length packet.now ≤ longest }
-    ensures { result ≡ as_setup_read (told placed (setup_header packet.now 0)) }
+// The setup is filled in place, since it is large; what a refused header leaves in it is open.
+fn load(packet: &[u8], placed: bool, setup: &mut LoadedSetup) -> End
+    requires { (length packet.now ≤ longest) × (setup.old ≡ empty_setup) }
+    ensures place { result ≡ as_end (told placed (setup_header packet.now 0)) }
+    ensures loaded { Loaded (setup_header packet.now 0) setup.new }
 {
     let head = headers::read_common_header(packet, 0, 0x82);
     let a = match head {
@@ -109,52 +111,26 @@ fn load(packet: &[u8], placed: bool) -> SetupRead
         }
         End::At(place) => place,
     };
-    let mut limits = [0u16; 64];
-    let first = read_limits(packet, a, &mut limits);
+    let first = read_limits(packet, a, &mut setup.limits);
     let b = match first {
         End::Refused(number, fault) => {
             return refuse(placed, number, fault);
         }
         End::At(place) => place,
     };
-    let mut ac_scale = [0u16; 64];
-    let mut dc_scale = [0u16; 64];
-    let mut sizes = [0u16; 384];
-    let mut indices = [0u16; 384];
     let second = quantization::read_parameters(
         packet,
         b,
-        &mut ac_scale,
-        &mut dc_scale,
-        &mut sizes,
-        &mut indices,
+        &mut setup.parameters.ac_scale,
+        &mut setup.parameters.dc_scale,
+        &mut setup.parameters.sizes,
+        &mut setup.parameters.indices,
     );
     match second {
         Parameters::Refused(number, fault) => refuse(placed, number, fault),
         Parameters::Read(place, c) => {
-            let mut nodes = [0u8; 5120];
-            let third = setup_trees::trees(packet, c, placed, &mut nodes);
-            match third {
-                End::Refused(number, fault) => not_read(number, fault),
-                End::At(end) => {
-                    let parameters = LoadedParameters {
-                        place,
-                        ac_scale,
-                        dc_scale,
-                        sizes,
-                        indices,
-                    };
-                    let setup = LoadedSetup {
-                        limits,
-                        parameters,
-                        nodes,
-                    };
-                    SetupRead {
-                        place: End::At(end),
-                        setup,
-                    }
-                }
-            }
+            setup.parameters.place = place;
+            setup_trees::trees(packet, c, placed, &mut setup.nodes)
         }
     }
 }
@@ -185,8 +161,8 @@ fn scan(packet: &[u8], placed: bool) -> End
     requires { length packet.now ≤ longest }
     ensures { result ≡ as_end (told placed (setup_header packet.now 0)) }
 {
-    let read = load(packet, placed);
-    read.place
+    let mut setup = empty();
+    load(packet, placed, &mut setup)
 }
 
 // The setup that a table memory holds, if it is what an accepted setup packet leaves.
@@ -196,7 +172,8 @@ pub fn load_table(table: &[u8]) -> SetupRead
     if table.len() != TABLE_BYTES {
         return not_read(bitstream::NOT_GENUINE, 0);
     }
-    let read = load(table, false);
+    let mut read = not_read(bitstream::NOT_GENUINE, 0);
+    read.place = load(table, false, &mut read.setup);
     let place = read.place;
     match place {
         End::Refused(_, _) => not_read(bitstream::NOT_GENUINE, 0),

@@ -44,7 +44,7 @@ write_picture-requires c =
     let fits : session_fits c.args.s ≡ true =
     sym c.session_fits.ensures ∙ c.if-not-session_fits.false in
     let m = fits_macro_blocks c.args.s (fits) in
-    (m.1, m.3, c.all_tables-tables.ensures, c.chroma_rows-rows.ensures, whole c.args.s c.args.planes.now c.args.out.now (fits) c.pixel_format-format.result c.pixel_format-format.ensures c.sizes-sizes.result c.sizes-sizes.ensures c.if-planes-sizes.false, room_for c.args.s c.args.planes.now c.args.out.now (fits) c.pixel_format-format.result c.pixel_format-format.ensures c.sizes-sizes.result c.sizes-sizes.ensures (length c.args.out.now) c.if-out-n.false)
+    (m.1, m.3, c.all_tables-tables.ensures, c.fill_chroma_rows.ensures, whole c.args.s c.args.planes.now c.args.out.now (fits) c.pixel_format-format.result c.pixel_format-format.ensures c.sizes-sizes.result c.sizes-sizes.ensures c.if-planes-sizes.false, room_for c.args.s c.args.planes.now c.args.out.now (fits) c.pixel_format-format.result c.pixel_format-format.ensures c.sizes-sizes.result c.sizes-sizes.ensures (length c.args.out.now) c.if-out-n.false)
 
 pub returns : goal.returns
 returns c =

@@ -2,11 +2,11 @@ use native.Mathlib.Omega.{arith}
 use mathlib.Core.Path.{refl, ◌∙◌}
 use Rattle.geometry.specs.Order.{in_turn}
 use Rattle.colour_tables.proofs.Parts.{row_more, rows_done}
-use Rattle.colour_tables.proofs.chroma_rows.Goals as goal
+use Rattle.colour_tables.proofs.fill_chroma_rows.Goals as goal
 
 pub loop-k-init : goal.loop-k-init
 unfolding in_turn
-loop-k-init c = (omega arith, refl, refl)
+loop-k-init c = (omega arith, c.requires.1, refl)
 
 pub loop-k-preserved : goal.loop-k-preserved
 loop-k-preserved c = (
