@@ -354,12 +354,6 @@ static void deepest_trees(void)
     call(FRAME);
 }
 
-/* Today's compiler keeps more copies of a setup, and of the rows for RGB, than the one before (docs/PORT.md). */
-static int is_deep(int call)
-{
-    return call == CHECK || call == SHOT || call == TILES_SHOT || call == RGB;
-}
-
 int main(int argc, char **argv)
 {
     int i, failed = 0;
@@ -369,7 +363,7 @@ int main(int argc, char **argv)
     deepest_trees();
     for (i = 0; i < CALLS; i++) {
         printf("%s: %lu bytes of stack\n", calls[i].name, (unsigned long)calls[i].most);
-        failed |= calls[i].most > (is_deep(i) ? CHECK_MOST : MOST);
+        failed |= calls[i].most > (i == CHECK ? CHECK_MOST : MOST);
     }
     return failed;
 }
