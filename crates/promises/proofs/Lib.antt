@@ -1,0 +1,2 @@
+-- A module for each crate whose calls are spoken of.
+pub mod Rgb
