@@ -1,2 +1,5 @@
 -- A module for each crate whose calls are spoken of.
+pub mod Y4m
+pub mod Settings
+pub mod Queries
 pub mod Rgb
