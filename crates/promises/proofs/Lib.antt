@@ -1,6 +1,8 @@
--- A module for each crate whose calls are spoken of.
+-- A module for each crate whose calls are spoken of. Exactly, Texts: what the readers of streams and of settings texts accept.
 pub mod Y4m
+pub mod Exactly
 pub mod Settings
+pub mod Texts
 pub mod Setup
 pub mod Queries
 pub mod TableQueries
