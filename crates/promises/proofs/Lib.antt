@@ -6,4 +6,6 @@ pub mod Texts
 pub mod Setup
 pub mod Queries
 pub mod TableQueries
+pub mod Theora
+pub mod Shot
 pub mod Rgb
