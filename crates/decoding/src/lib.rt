@@ -61,8 +61,8 @@ fn refuse(answer: FrameAnswer, format: PixelFormat, kept: KeptMatrices) -> Prepa
     }
 }
 
-// A packet that is accepted, by its header and the number of its coded blocks. Not inlined, so that its copies of the matrices are not on the stack while a packet is read.
-#[inline(never)]
+// A packet that is accepted, by its header and the number of its coded blocks. Inlined, so that the matrices are copied between places that do not overlap: by memcpy, not by memmove.
+#[inline(always)]
 fn accept(
     table: &[u8],
     parameters: LoadedParameters,
