@@ -35,7 +35,7 @@
  * that are only read may be shared. A call may be interrupted by a signal, and
  * made in its handler. It needs at most 48 KiB of stack, wedgepetal_check at most
  * 64 KiB, which a small thread must have (measured, not proved: 42 kB for a
- * shot, 31 kB for a frame, 42 kB for a check).
+ * shot, 33 kB for a frame, 42 kB for a check).
  *
  * Each call returns 0 if it is accepted, else the number of its refusal. Where
  * several numbers apply, they are found in this order: 1 for the session's list,
