@@ -1,36 +1,15 @@
--- Laws of `clamp255`: a number in its range, and how the positive part gives it.
+-- Laws of `clamp255`: a number in its range, and how two bounds give it.
 -- Assumes nothing.
-use mathlib.Core.Path.{◌≡◌, refl, subst}
-use mathlib.Core.Bool.{true, false}
-use Prim.Native.Nat.{ℕ, ◌≤◌, ◌<◌}
-use native.Mathlib.Omega.{arith}
-use borrow.Author.Tests.{ltb-true}
-use lib.Dec.{T}
-use lib.IntN.{ℤ, pos, negsuc, nat_abs}
-use lib.Signed.{lt_z}
-use Rattle.numeric.specs.Clamp.{clamp255, positive_part}
+use Rattle.std.proofs.Common.{◌≡◌, ℕ, ◌≤◌, ℤ, pos, negsuc, nat_abs, arith, refl}
+use Rattle.std.specs.Int.{int_max, int_min}
+use Rattle.numeric.specs.Clamp.{clamp255}
 
 -- a number in the range is itself
 pub clamp_same : (n : ℕ) → n ≤ 255 → clamp255 (pos n) ≡ n
 unfolding clamp255
 clamp_same n h = omega arith
 
-pub part_low : (z : ℤ) → lt_z z (pos 0) ≡ true → 0 ≡ positive_part z
-unfolding positive_part
-part_low (pos n) e = absurd (let h = ltb-true n 0 e in omega arith)
-part_low (negsuc n) e = refl
-
-pub part_same : (z : ℤ) → lt_z z (pos 0) ≡ false → nat_abs z ≡ positive_part z
-unfolding positive_part
-part_same (pos n) e = refl
-part_same (negsuc n) e = absurd (subst T e tt)
-
-pub clamp_high : (z : ℤ) → 255 < positive_part z → 255 ≡ clamp255 z
-unfolding clamp255 positive_part
-clamp_high (pos n) h = omega arith
-clamp_high (negsuc n) h = absurd (omega arith)
-
-pub clamp_part : (z : ℤ) → positive_part z ≤ 255 → positive_part z ≡ clamp255 z
-unfolding clamp255 positive_part
-clamp_part (pos n) h = omega arith
-clamp_part (negsuc n) h = refl
+pub clamp_between : (z : ℤ) → nat_abs (int_max (pos 0) (int_min z (pos 255))) ≡ clamp255 z
+unfolding clamp255
+clamp_between (pos n) = grind arith
+clamp_between (negsuc n) = refl

@@ -8,13 +8,13 @@ use native.Mathlib.Nat.{lt_of_lt_of_le, le_of_eq}
 use borrow.Author.Tests.{lt-ltb, le-ltb, ltb-true, ltb-false}
 use lib.Bits.{bit_and, and_mask}
 use lib.Dec.{T, ltb, leb, leb→le}
-use lib.IntN.{ℤ, pos, negsuc, sub_ℕ, ◌+ℤ◌, ◌-ℤ◌}
+use lib.IntN.{ℤ, pos, negsuc, sub_ℕ, ◌+ℤ◌}
 use lib.Pow.{pow-add}
 use lib.Signed.{mag}
 use mir.Syntax.{Width, w16}
 use mir.Val.{bits, SFits, of_z, sel}
 use mir.ValLaws.{half_full}
-use Rattle.numeric.proofs.Magnitude.{sub_cases, sub_less}
+use Rattle.numeric.proofs.Magnitude.{sub_cases}
 use Rattle.numeric.specs.Cut.{mod16, read16, cut}
 
 -- ---- the low 16 bits are what a mask leaves, at any width that has them
@@ -40,19 +40,6 @@ pub mod16_le : (z : ℤ) → mod16 z ≤ 65535
 unfolding mod16
 mod16_le (pos n) = omega arith
 mod16_le (negsuc n) = omega arith
-
--- ---- the two halves of the range
-
-pub cut_low : (z : ℤ) → ltb (mod16 z) 32768 ≡ true → pos (mod16 z) ≡ cut z
-unfolding cut read16
-cut_low z e = rw e
-
-pub cut_high : (z : ℤ) → ltb (mod16 z) 32768 ≡ false → pos (mod16 z) -ℤ pos 65536 ≡ cut z
-unfolding cut read16
-cut_high z e =
-    let h = mod16_le z in
-    let k : 65536 - suc (mod16 z) ≡ 65535 - mod16 z = omega arith in
-    sub_less (mod16 z) 65536 (omega arith) ∙ ap negsuc k ∙ rw e
 
 -- ---- the range of a cut is an i16's
 

@@ -12,7 +12,7 @@ use lib.Signed.{non_neg, nat_abs-le, mag, quot_z, shr_z, lt_z}
 use mir.Syntax.{Width, w16, w32}
 use mir.Val.{bits, hbits, SFits, Fits, of_z, to_z}
 use mir.ValLaws.{to_z-of_z, to_z_pos}
-use Rattle.numeric.proofs.Magnitude.{Size, size, size_up, size_add, size_sub, size_mul, size_shr, size_quot, size_div, size_fits_law}
+use Rattle.numeric.proofs.Magnitude.{Size, size, size_add, size_sub, size_mul, size_shr, size_quot, size_div, size_fits_law}
 
 pub record Known (w : Width) (z : ℤ) (b : ℕ) : Type 0 where
   pub n : ℕ

@@ -1,15 +1,11 @@
 -- Linear arithmetic over ℤ by `omega`: z is `up z` less `dn z`, two natural numbers of which one is 0. Each operation has a law on the parts, which goes into omega's list; `ext` and `less` bring an equation or a test of integers to the parts.
 -- As x + y ≡ y + x: `ext (x +ℤ y) (y +ℤ x) (omega (arith, parts_add x y, parts_add y x))`.
 -- Assumes nothing.
-use mathlib.Core.Path.{◌≡◌, refl, sym, ap, ◌∙◌, subst}
-use mathlib.Core.Bool.{true}
-use Prim.Native.Nat.{ℕ, zero, suc, ◌+◌, ◌*◌, ◌<◌}
+use mathlib.Core.Path.{◌≡◌, refl, sym, ap, ◌∙◌}
+use Prim.Native.Nat.{ℕ, zero, suc, ◌+◌, ◌*◌}
 use native.Mathlib.Omega.{arith}
 use native.Mathlib.Nat.{zero-mul}
-use borrow.Author.Tests.{ltb-true}
-use lib.Dec.{T}
 use lib.IntN.{ℤ, pos, negsuc, ◌+ℤ◌, ◌*ℤ◌, neg_ℤ, sub_ℕ}
-use lib.Signed.{lt_z}
 use Rattle.numeric.proofs.Magnitude.{sub_cases}
 
 abbrev pub up : ℤ → ℕ

@@ -1,29 +1,16 @@
 // Cut to 16 bits, rounding with ties away from 0, and the clamp to a sample.
 #![tactic(auto)]
 
-ghost use Rattle.std.specs.Prelude.{◌≡◌, ◌+◌, ◌*◌, ◌^◌, ◌≤◌, ◌<◌, pos, nat_abs, ◌<ℤ◌};
+ghost use Rattle.std.specs.Prelude.{◌≡◌, ◌+◌, ◌*◌, ◌^◌, ◌≤◌, ◌<◌, nat_abs};
 ghost use Rattle.numeric.specs.Cut.{cut};
-ghost use Rattle.numeric.specs.Divide.{toward_zero, round_over};
-ghost use Rattle.numeric.specs.Clamp.{clamp255, positive_part};
+ghost use Rattle.numeric.specs.Divide.{round_over};
+ghost use Rattle.numeric.specs.Clamp.{clamp255};
 
 // The low 16 bits, read as two's complement.
 pub fn cut16(x: i32) -> i16
     ensures { result ≡ cut x }
 {
-    let m = x & 65535;
-    if m < 32768 {
-        m as i16
-    } else {
-        (m - 65536) as i16
-    }
-}
-
-// x / d, toward zero.
-fn divide(x: i32, d: i32) -> i32
-    requires { pos 0 <ℤ d }
-    ensures { (result ≡ toward_zero x (nat_abs d)) × (nat_abs result ≤ nat_abs x) }
-{
-    x / d
+    ((x & 65535) as u16).cast_signed()
 }
 
 // x / d to the nearest, ties away from 0: half of d, with the sign of x, is added before the division.
@@ -34,9 +21,9 @@ fn round_over(x: i32, d: u8) -> i32
 {
     let by = d as i32;
     if x < 0 {
-        divide(x * 2 - by, by * 2)
+        (x * 2 - by) / (by * 2)
     } else {
-        divide(x * 2 + by, by * 2)
+        (x * 2 + by) / (by * 2)
     }
 }
 
@@ -56,23 +43,9 @@ pub fn round_over_4(x: i32) -> i32
     round_over(x, 4)
 }
 
-// x, or 0 where it is negative.
-fn positive_part(x: i32) -> u32
-    ensures { result ≡ positive_part x }
-{
-    if x < 0 {
-        return 0;
-    }
-    x as u32
-}
-
-// The nearest number from 0 to 255. One bound after the other, so that a loop over samples becomes vector instructions.
+// The nearest number from 0 to 255.
 pub fn clamp_to_byte(x: i32) -> u8
     ensures { result ≡ clamp255 x }
 {
-    let n = positive_part(x);
-    if 255 < n {
-        return 255;
-    }
-    n as u8
+    x.clamp(0, 255) as u8
 }
