@@ -21,7 +21,7 @@ const C6: u16 = 25080;
 const C7: u16 = 12785;
 
 // Eight numbers that are transformed together: a row or a column of a block.
-#[derive(Clone, Copy)]
+#[derive(Clone, Copy, PartialEq)]
 pub struct Line {
     pub x0: i16,
     pub x1: i16,

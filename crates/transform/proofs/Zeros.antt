@@ -1,7 +1,7 @@
 -- A line of zeros, and lists that have zeros from a place on.
 -- Assumes nothing.
 use mathlib.Core.Path.{◌≡◌, refl, ap, ◌∙◌}
-use mathlib.Core.Bool.{Bool, true, false}
+use mathlib.Core.Bool.{Bool, true, false, not, ◌&&◌}
 use mathlib.Core.List.{List}
 use Prim.Native.Nat.{ℕ, zero, suc, ◌+◌, ◌-◌, ◌≤◌, ◌<◌}
 use native.Mathlib.Nat.{add-zero}
@@ -10,12 +10,37 @@ use borrow.Author.Tests.{ltb-true, ltb-false}
 use lib.Dec.{ltb}
 use lib.IntN.{ℤ, pos}
 use lib.ListN.{get_or}
+use Rattle.std.specs.Ordering.{int_eq}
+use Rattle.std.proofs.lemmas.Bool.{and_parts, not-false}
+use Rattle.std.proofs.lemmas.Bool.Decides.{Decides-int_eq}
 use Rattle.lines.specs.declared.Line.{Line}
 use Rattle.lines.specs.Places.{line_at}
 use Rattle.zig_zag.specs.Placing.{ZerosFrom}
 
 abbrev pub zeros : Line
 zeros = record { x0 = pos 0; x1 = pos 0; x2 = pos 0; x3 = pos 0; x4 = pos 0; x5 = pos 0; x6 = pos 0; x7 = pos 0 }
+
+-- a line that equals it, as the code tests that
+pub all_zero : (l : Line) → not (int_eq l.x0 (pos 0) && (int_eq l.x1 (pos 0) && (int_eq l.x2 (pos 0) && (int_eq l.x3 (pos 0) && (int_eq l.x4 (pos 0) && (int_eq l.x5 (pos 0) && (int_eq l.x6 (pos 0) && int_eq l.x7 (pos 0)))))))) ≡ false → l ≡ zeros
+all_zero l e =
+    let zero = λ (x : ℤ) (t : int_eq x (pos 0) ≡ true). (Decides-int_eq x (pos 0)).0 t in
+    let p0 = and_parts _ _ (not-false _ e) in
+    let p1 = and_parts _ _ p0.1 in
+    let p2 = and_parts _ _ p1.1 in
+    let p3 = and_parts _ _ p2.1 in
+    let p4 = and_parts _ _ p3.1 in
+    let p5 = and_parts _ _ p4.1 in
+    let p6 = and_parts _ _ p5.1 in
+    λ i. record {
+      x0 = zero l.x0 p0.0 i;
+      x1 = zero l.x1 p1.0 i;
+      x2 = zero l.x2 p2.0 i;
+      x3 = zero l.x3 p3.0 i;
+      x4 = zero l.x4 p4.0 i;
+      x5 = zero l.x5 p5.0 i;
+      x6 = zero l.x6 p6.0 i;
+      x7 = zero l.x7 p6.1 i;
+    }
 
 zero_at : (s : List ℤ) (at j : ℕ) → line_at s at 1 ≡ zeros → j < 8 → get_or s (at + j) (pos 0) ≡ pos 0
 unfolding line_at

@@ -13,13 +13,19 @@ use Rattle.zig_zag.proofs.Turned.{turned_twice}
 use Rattle.zig_zag.proofs.Placed.{values_length}
 use Rattle.transform.specs.Block.{inverse}
 use Rattle.transform.specs.Residual.{dc_only, rounded, residual}
+use Rattle.std.proofs.lemmas.List.{length-take}
+use Rattle.transform.proofs.Filled.{filled}
 use Rattle.transform.proofs.residual.Goals as goal
+
+pub slice_bounds-fill-end-then-last-lt2 : goal.slice_bounds-fill-end-then-last-lt2
+slice_bounds-fill-end-then-last-lt2 c = omega (arith, length-take 64 c.args.out.now)
 
 pub returns-then-last-lt2 : goal.returns-then-last-lt2
 unfolding residual
-returns-then-last-lt2 c = c.fill.ensures
-    ∙ ap (replicate 64)
-    (back w16 c.dc_only.result c.dc_only.type_inv ∙ c.dc_only.ensures ∙ ap (λ (x : ℤ). dc_only x c.args.q) (k_any c.ranges.dc).reads)
+returns-then-last-lt2 c =
+    let v = back w16 c.dc_only.result c.dc_only.type_inv ∙ c.dc_only.ensures ∙ ap (λ (x : ℤ). dc_only x c.args.q) (k_any c.ranges.dc).reads in
+    filled 64 c.args.out.now c.fill.new.self _ c.requires.2 (c.fill.ensures.after (λ y e. e))
+    ∙ ap (replicate 64) v
     ∙ sym (rw (lt-ltb c.args.last 2 (omega (arith, c.if-last-lt2.true))))
 
 pub returns : goal.returns
