@@ -6,3 +6,4 @@ pub mod Where
 pub mod Agree
 pub mod Corner
 pub mod Kept
+pub mod Rows

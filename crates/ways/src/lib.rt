@@ -9,9 +9,5 @@ pub fn copy_row(new: &mut [u8], at: usize, t: &[u8], k: usize)
     requires { (at + 8 ≤ length new.old) × (k + 8 ≤ length t.now) }
     ensures { new.new ≡ row_at (λ c. get_or t.now (k + c) 0) at new.old }
 {
-    let mut c: usize = 0;
-    while c < 8 {
-        new[at + c] = t[k + c];
-        c += 1;
-    }
+    new[at..at + 8].copy_from_slice(&t[k..k + 8]);
 }

@@ -1,25 +1,17 @@
-use mathlib.Core.Path.{◌≡◌, refl, sym, ap, ◌∙◌}
-use mathlib.Core.List.{List}
-use Prim.Native.Nat.{ℕ, ◌+◌}
-use native.Mathlib.Omega.{arith}
-use lib.ListN.{get_or, set, length-set}
-use Rattle.ways.specs.Loops.{up_to}
+-- `ways::copy_row` meets its contract. Assumes nothing.
+use Rattle.std.proofs.Common.{◌≡◌, ◌+◌, get_or, length, refl, ap, ◌∙◌, arith}
+use Rattle.std.proofs.lemmas.Slice.{put_mid-paste}
+use Rattle.std.proofs.lemmas.List.Edits.{get_or-between, length-between}
 use Rattle.ways.specs.Corner.{row_at}
-use Rattle.ways.proofs.Steps.{up_to_more}
+use Rattle.ways.proofs.Rows.{copied}
 use Rattle.ways.proofs.copy_row.Goals as goal
-
--- the sample in column c
-abbrev put : List ℕ → ℕ → ℕ → ℕ → List ℕ → List ℕ
-put t k at c s = set s (at + c) (get_or t (k + c) 0)
-
-pub loop-c-init : goal.loop-c-init
-unfolding up_to
-loop-c-init c = (omega arith, refl, refl)
-
-pub loop-c-preserved : goal.loop-c-preserved
-loop-c-preserved c = (omega arith, simp length-set c.loop-c.invariant.1, ap (put c.args.t.now c.args.k c.args.at c.loop-c.c) c.loop-c.invariant.2 ∙ sym (up_to_more c.loop-c.c (put c.args.t.now c.args.k c.args.at) c.args.new.now))
 
 pub returns : goal.returns
 unfolding row_at
-returns c = let e : c.loop-c.c ≡ 8 = omega arith in
-    c.loop-c.invariant.2 ∙ ap (λ (n : ℕ). up_to n (put c.args.t.now c.args.k c.args.at) c.args.new.now) e
+returns c =
+    let row = c.copy_from_slice.new.self in
+    let e = c.copy_from_slice.ensures.after in
+    let eight : 8 ≡ length row = omega (arith, ap length e, length-between c.args.t.now c.args.k (c.args.k + 8)) in
+    put_mid-paste c.args.at _ c.args.new.now row row 8 refl (omega arith) eight
+    ∙ copied c.args.new.now row c.args.at 8 (λ i. get_or c.args.t.now (c.args.k + i) 0) (omega arith) (omega arith)
+    (λ i h. ap (λ s. get_or s i 0) e ∙ get_or-between c.args.t.now c.args.k (c.args.k + 8) i 0 (omega arith))
