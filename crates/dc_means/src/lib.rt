@@ -5,15 +5,12 @@ ghost use Rattle.std.specs.Prelude.{◌≡◌, ◌≤◌, nat_abs};
 ghost use Rattle.dc_means.specs.Means.{far, mean_ldl_d, mean_ldr, mean_dl_ddr, mean_of_two, replaced};
 
 // More than 128 apart.
+#[tactic(auto, unfolding(crate::specs::Means::far))]
 pub fn far(a: i32, b: i16) -> bool
     requires { nat_abs a ≤ 86016 }
     ensures { result ≡ far a b }
 {
-    let e = a - b as i32;
-    if e < -128 {
-        return true;
-    }
-    128 < e
+    a.abs_diff(b as i32) > 128
 }
 
 pub fn mean_l_dl_d(l: i16, dl: i16, d: i16) -> i32
@@ -41,6 +38,7 @@ pub fn mean_of_two(x: i16, y: i16) -> i32
 }
 
 // The mean of L, DL and D; where it is far from one of them, the first such of D, L, DL.
+#[tactic(auto, unfolding(crate::specs::Means::replaced, crate::specs::Means::kept))]
 pub fn replaced(l: i16, dl: i16, d: i16) -> i32
     ensures { (result ≡ replaced l dl d) × (nat_abs result ≤ 86016) }
 {
