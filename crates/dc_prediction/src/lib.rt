@@ -9,6 +9,7 @@ ghost use Rattle.dc_neighbours.specs.Block.{state_of, Within, prediction};
 use dc_neighbours::LastDc;
 
 // A coded block with the reference r.
+#[tactic(auto, unfolding(crate::specs::Planes::coded_step))]
 fn predict_coded(
     dc: &mut [i16],
     records: &[u32],
@@ -31,6 +32,7 @@ fn predict_coded(
 }
 
 // Block x of the row that starts with block number `start`.
+#[tactic(auto, using(block_record::proofs::Laws::unpacked_at, crate::proofs::Rows::uncoded), unfolding(crate::specs::Planes::block_step))]
 fn predict_block(
     dc: &mut [i16],
     records: &[u32],
@@ -61,21 +63,20 @@ fn predict_block(
 }
 
 // Is no block of the row coded?
+#[tactic(auto, unfolding(crate::specs::Planes::NoneCoded))]
 fn none_coded(records: &[u32], start: usize, across: usize) -> bool
     requires { start + across ≤ length records.now }
     ensures { result ≡ true → NoneCoded records.now start across }
 {
     let mut none = true;
-    let mut x: usize = 0;
-    while x < across {
-        let coded = block_record::is_coded(records[start + x]);
-        none = none & !coded;
-        x += 1;
+    for record in &records[start..start + across] {
+        none &= !block_record::is_coded(*record);
     }
     none
 }
 
 // The blocks of a row, one after the other.
+#[tactic(auto, using(ways::proofs::Steps::up_to_more), unfolding(ways::specs::Loops::up_to, crate::specs::Planes::row))]
 fn predict_blocks(
     dc: &mut [i16],
     records: &[u32],
@@ -88,16 +89,15 @@ fn predict_blocks(
     ensures { state_of dc.new result ≡ row (map unpacked records.now) start across below (state_of dc.old last) }
 {
     let mut latest = last;
-    let mut x: usize = 0;
-    while x < across {
+    for x in 0..across {
         latest = predict_block(dc, records, start, across, below, x, latest);
-        x += 1;
     }
     latest
 }
 
 // A row. Where no block is coded it is passed over: a look at several records at once and not at each, which saves 63,000 of the
 // 219,000 instructions of DC prediction in a frame of the hints of gnome-mahjongg.
+#[tactic(auto, using(crate::proofs::Rows::none_row))]
 fn predict_row(
     dc: &mut [i16],
     records: &[u32],
@@ -116,19 +116,19 @@ fn predict_row(
 }
 
 // The plane whose first block has the number `first`.
+#[tactic(auto, using(ways::proofs::Steps::up_to_more), unfolding(ways::specs::Loops::up_to, crate::specs::Planes::plane))]
 fn predict_plane(dc: &mut [i16], records: &[u32], first: usize, across: usize, up: usize)
     requires { (first + up * across ≤ length dc.old) × (first + up * across ≤ length records.now) }
     ensures { dc.new ≡ plane (map unpacked records.now) first across up dc.old }
 {
     let mut last = LastDc { values: [0, 0, 0] };
-    let mut y: usize = 0;
-    while y < up {
+    for y in 0..up {
         last = predict_row(dc, records, first + y * across, across, 0 < y, last);
-        y += 1;
     }
 }
 
 // All three planes: luma has `up` rows of `across` blocks, each chroma plane `chroma_up` rows of `chroma_across`.
+#[tactic(auto, unfolding(crate::specs::Planes::predicted_dc))]
 pub fn predict_dc(
     dc: &mut [i16],
     records: &[u32],
