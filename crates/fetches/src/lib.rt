@@ -27,6 +27,7 @@ pub struct Fetches {
 }
 
 // Along which axes is plane p subsampled?
+#[tactic(auto, unfolding(crate::specs::Motion::subsampled_across, crate::specs::Motion::subsampled_up))]
 pub fn subsampling(format: PixelFormat, p: u64) -> Axes
     ensures { (result.across ≡ subsampled_across format p) × (result.up ≡ subsampled_up format p) }
 {
@@ -53,6 +54,7 @@ pub fn subsampling(format: PixelFormat, p: u64) -> Axes
 }
 
 // A component of a vector in whole samples, its magnitude rounded down.
+#[tactic(auto, unfolding(crate::specs::Motion::down))]
 pub fn down(subsampled: bool, z: i32) -> i32
     requires { nat_abs z ≤ 31 }
     ensures { (result ≡ down (steps subsampled) z) × (nat_abs result ≤ 31) }
@@ -64,6 +66,7 @@ pub fn down(subsampled: bool, z: i32) -> i32
 }
 
 // Its magnitude rounded up.
+#[tactic(auto, unfolding(crate::specs::Motion::rounded_up))]
 pub fn rounded_up(subsampled: bool, z: i32) -> i32
     requires { nat_abs z ≤ 31 }
     ensures { (result ≡ rounded_up (steps subsampled) z) × (nat_abs result ≤ 31) }
@@ -93,39 +96,31 @@ pub fn begin(subsampled: bool, more: bool, at: u64, z: i32) -> i32
 }
 
 // Where the fetches of block b begin.
+#[tactic(auto, unfolding(crate::specs::Fetched::fetches_of))]
 pub fn fetches_of(format: PixelFormat, b: Block, v: Vector) -> Fetches
     requires { (b.x < 131070) × (b.y < 131070) × VectorInRange v }
     ensures { (result ≡ fetches_of format b v) × Near result }
 {
-    let axes = subsampling(format, b.plane);
-    let across = axes.across;
-    let up = axes.up;
-    let x = v.x;
-    let y = v.y;
+    let Axes { across, up } = subsampling(format, b.plane);
     Fetches {
-        x1: begin(across, false, b.x, x),
-        y1: begin(up, false, b.y, y),
-        x2: begin(across, true, b.x, x),
-        y2: begin(up, true, b.y, y),
+        x1: begin(across, false, b.x, v.x),
+        y1: begin(up, false, b.y, v.y),
+        x2: begin(across, true, b.x, v.x),
+        y2: begin(up, true, b.y, v.y),
     }
 }
 
 // The nearest number from 0 to size - 1.
+#[tactic(auto, unfolding(crate::specs::Motion::inside))]
 pub fn inside(size: usize, z: i32) -> usize
     requires { 0 < size }
     ensures { (result ≡ inside size z) × (result < size) }
 {
-    if z < 0 {
-        return 0;
-    }
-    let n = z as usize;
-    if n < size {
-        return n;
-    }
-    size - 1
+    (z.max(0) as usize).min(size - 1)
 }
 
 // The sample in a column and a row of a plane, each clamped.
+#[tactic(auto, unfolding(crate::specs::Motion::fetch))]
 pub fn fetch(s: &[u8], plane: Plane, column: i32, row: i32) -> u8
     requires { Lies plane (length s.now) }
     ensures { result ≡ fetch plane s.now column row }
@@ -149,18 +144,12 @@ pub fn fetch_block(s: &[u8], plane: Plane, t: Fetches) -> [u8; 64]
     requires { Lies plane (length s.now) × Near t }
     ensures { RowByRow (mean_at plane s.now t) result }
 {
-    let x1 = t.x1;
-    let y1 = t.y1;
-    let x2 = t.x2;
-    let y2 = t.y2;
     let mut m = [0u8; 64];
-    let mut i: usize = 0;
-    while i < 64 {
+    for i in 0..64 {
         let c = (i % 8) as i32;
         let r = (i / 8) as i32;
-        let p = fetch(s, plane, x1 + c, y1 + r);
-        m[i] = mean(p, fetch(s, plane, x2 + c, y2 + r));
-        i += 1;
+        let p = fetch(s, plane, t.x1 + c, t.y1 + r);
+        m[i] = mean(p, fetch(s, plane, t.x2 + c, t.y2 + r));
     }
     m
 }
