@@ -6,13 +6,11 @@ use mathlib.Core.List.{List}
 use Prim.Native.Nat.{ℕ, ◌+◌, ◌*◌, ◌≤◌, ◌<◌}
 use native.Mathlib.Nat.{mul-le-mul}
 use native.Mathlib.Omega.{arith}
-use borrow.Author.Tests.{le-leb, lt-leb, leb-true}
+use borrow.Author.Tests.{leb-true}
 use lib.Dec.{leb}
-use lib.IntN.{ℤ, pos, negsuc, nat_abs, ◌+ℤ◌}
+use lib.IntN.{ℤ, pos, negsuc, ◌+ℤ◌}
 use lib.ListN.{length, get_or, set, replicate, get_or-replicate}
-use lib.Signed.{lt_z}
 use Rattle.numeric.proofs.Linear.{parts_add, ext}
-use Rattle.numeric.proofs.Magnitude.{neg_yes, neg_no}
 use Rattle.geometry.specs.declared.PixelFormat.{PixelFormat}
 use Rattle.geometry.specs.declared.Plane.{Plane}
 use Rattle.geometry.specs.declared.Block.{Block}
@@ -29,7 +27,7 @@ use Rattle.block_record.specs.declared.Vector.{Vector}
 use Rattle.block_record.specs.declared.Prediction.{Prediction}
 use Rattle.block_record.specs.declared.Prediction.TheVariants.{None, Previous, Golden}
 use Rattle.fetches.specs.declared.Fetches.{Fetches}
-use Rattle.prediction.specs.declared.Start.TheVariants.{At, Outside}
+use Rattle.std.specs.Prelude.{Some, None as Outside}
 use Rattle.fetches.specs.Motion.{subsampled_across, subsampled_up, steps, down, rounded_up, inside, fetch}
 use Rattle.prediction.specs.Predicted.{fetched, moved, predicted, summed}
 use Rattle.prediction.specs.Block.{with_residual, mean_of, start_of}
@@ -38,36 +36,6 @@ use Rattle.fetches.proofs.Leads.{in_plane}
 
 pub plane_size : (q : Plane) → Small q → 64 * (q.up * q.across) ≤ 1099478073600
 plane_size q l = omega (arith, mul-le-mul l.up_small l.across_small)
-
--- ---- where a fetch starts
-module _ (q : Plane) where
-  pub start_left : (x y : ℤ) → lt_z x (pos 0) ≡ true → Outside ≡ start_of q x y
-  unfolding start_of
-  start_left x y t = sym (ap (λ (v : ℤ). start_of q v y) (neg_yes x t).1)
-
-  pub start_under : (x y : ℤ) → lt_z x (pos 0) ≡ false → lt_z y (pos 0) ≡ true → Outside ≡ start_of q x y
-  unfolding start_of
-  start_under x y t u = sym ((λ i. start_of q ((neg_no x t).1 i) ((neg_yes y u).1 i)))
-
-  module _ (x y : ℤ) (t : lt_z x (pos 0) ≡ false) (u : lt_z y (pos 0) ≡ false) where
-    -- in numbers
-    start_is : start_of q x y ≡ start_of q (pos (nat_abs x)) (pos (nat_abs y))
-    start_is =
-        let a = (neg_no x t).1 in
-        let b = (neg_no y u).1 in
-        λ i. start_of q ((a ∙ sym (ap (λ (v : ℤ). pos (nat_abs v)) a)) i) ((b ∙ sym (ap (λ (v : ℤ). pos (nat_abs v)) b)) i)
-
-    pub start_right : 8 * q.across < nat_abs x + 8 → Outside ≡ start_of q x y
-    unfolding start_of
-    start_right h = sym (start_is ∙ rw (lt-leb _ _ h))
-
-    pub start_over : nat_abs x + 8 ≤ 8 * q.across → 8 * q.up < nat_abs y + 8 → Outside ≡ start_of q x y
-    unfolding start_of
-    start_over h l = sym (start_is ∙ rw (le-leb _ _ h, lt-leb _ _ l))
-
-    pub start_at : nat_abs x + 8 ≤ 8 * q.across → nat_abs y + 8 ≤ 8 * q.up → At (q.offset + (nat_abs y * (8 * q.across) + nat_abs x)) ≡ start_of q x y
-    unfolding start_of
-    start_at h l = sym (start_is ∙ rw (le-leb _ _ h, le-leb _ _ l))
 
 -- ---- a fetch that lies in the plane
 record Inner (q : Plane) (x y : ℤ) (a : ℕ) : Type 0 where
@@ -79,12 +47,12 @@ record Inner (q : Plane) (x y : ℤ) (a : ℕ) : Type 0 where
   row : m + 8 ≤ 8 * q.up
   place : q.offset + (m * (8 * q.across) + n) ≡ a
 
-inner : (q : Plane) (x y : ℤ) (a : ℕ) → start_of q x y ≡ At a → Inner q x y a
+inner : (q : Plane) (x y : ℤ) (a : ℕ) → start_of q x y ≡ Some a → Inner q x y a
 unfolding start_of
 inner q (pos n) (pos m) a e = go (leb (n + 8) (8 * q.across)) (leb (m + 8) (8 * q.up)) refl refl e
   where
     go : (t u : Bool) → leb (n + 8) (8 * q.across) ≡ t → leb (m + 8) (8 * q.up) ≡ u
-        → cond t (cond u (At (q.offset + (m * (8 * q.across) + n))) Outside) Outside ≡ At a → Inner q (pos n) (pos m) a
+        → cond t (cond u (Some (q.offset + (m * (8 * q.across) + n))) Outside) Outside ≡ Some a → Inner q (pos n) (pos m) a
     go true true t u k = record { n = n; m = m; is_x = refl; is_y = refl; column = leb-true _ _ t; row = leb-true _ _ u; place = cc }
     go true false t u k = absurd (let z : ◌≡◌ {A = ℕ} 0 1 = cc in omega arith)
     go false u t v k = absurd (let z : ◌≡◌ {A = ℕ} 0 1 = cc in omega arith)
@@ -95,7 +63,7 @@ inside_same : (size n : ℕ) → n < size → inside size (pos n) ≡ n
 unfolding inside
 inside_same size n h = omega arith
 
-module _ (q : Plane) (x y : ℤ) (a : ℕ) (e : start_of q x y ≡ At a) where
+module _ (q : Plane) (x y : ℤ) (a : ℕ) (e : start_of q x y ≡ Some a) where
   -- it starts early enough
   pub inner_end : a + 7 * (8 * q.across) + 8 ≤ q.offset + 64 * (q.up * q.across)
   inner_end =
@@ -152,7 +120,7 @@ module _ (m : List ℕ) (c r : ℕ) (hc : c < 8) (hr : r < 8) where
       mean_same (get_or m (0 + r * 8 + c) 0) ∙ ap (λ (n : ℕ). get_or m n 0) i ∙ h.each c r hc hr
 
   -- and of a source of which both fetches lie in the plane
-  pub of_inner : (q : Plane) (t : Fetches) (a b : ℕ) → start_of q t.x1 t.y1 ≡ At a → start_of q t.x2 t.y2 ≡ At b
+  pub of_inner : (q : Plane) (t : Fetches) (a b : ℕ) → start_of q t.x1 t.y1 ≡ Some a → start_of q t.x2 t.y2 ≡ Some b
       → mean_of m (a + r * (8 * q.across) + c) (b + r * (8 * q.across) + c) ≡ mean_at q m t c r
   unfolding mean_at
   of_inner q t a b e g =

@@ -1,7 +1,7 @@
 // Prediction: the samples of a block, from golden or previous by its vector, with its residual.
 #![tactic(auto)]
 
-ghost use Rattle.std.specs.Prelude.{◌≡◌, ◌+◌, ◌*◌, ◌≤◌, ◌<◌, pos, nat_abs, ◌+ℤ◌, length, get_or};
+ghost use Rattle.std.specs.Prelude.{◌≡◌, ◌+◌, ◌*◌, ◌≤◌, ◌<◌, pos, ◌+ℤ◌, length, get_or};
 ghost use Rattle.numeric.specs.Clamp.{clamp255};
 ghost use Rattle.geometry.specs.Sizes.{across, blocks_of, largest};
 ghost use Rattle.geometry.specs.Frame.{InFrame};
@@ -9,42 +9,24 @@ ghost use Rattle.geometry.specs.Sample.{sample_at};
 ghost use Rattle.block_record.specs.Record.{PredictionInRange};
 ghost use Rattle.ways.specs.Corner.{row_at, block_at};
 ghost use Rattle.prediction.specs.Predicted.{summed};
-ghost use Rattle.prediction.specs.Block.{near_by, mean_of, with_residual, start_of};
+ghost use Rattle.prediction.specs.Block.{mean_of, with_residual, start_of};
 ghost use Rattle.fetches.specs.Fetched.{mean, Small, Lies, Near, mean_at, RowByRow};
 
 use block_record::Prediction;
 use fetches::Fetches;
 use geometry::{Block, PixelFormat, Plane};
 
-// Where a fetch that lies in the plane starts in the buffer.
-#[derive(Clone, Copy)]
-pub enum Start {
-    At(usize),
-    Outside,
-}
-
-// The nearest number from -255 to 255. A residual farther off makes the same of any prediction.
-fn near(residual: i16) -> i16
-    ensures { (result ≡ near_by residual) × (nat_abs result ≤ 255) }
-{
-    if residual < -255 {
-        return -255;
-    }
-    if 255 < residual {
-        return 255;
-    }
-    residual
-}
-
-// A prediction, the mean of p and q, with a residual. 16 bits hold the sum, so that a vector register holds 8 of them.
+// A prediction, the mean of p and q, with a residual: one farther off than 255 makes the same of any prediction. 16 bits hold the sum, so that a vector register holds 8 of them.
+#[tactic(auto, using(crate::proofs::Nearby::sum_near))]
 fn sum(p: u8, q: u8, residual: i16) -> u8
     ensures { result ≡ clamp255 (pos (mean p q) +ℤ residual) }
 {
-    let total = fetches::mean(p, q) as i16 + near(residual);
+    let total = fetches::mean(p, q) as i16 + residual.clamp(-255, 255);
     numeric::clamp_to_byte(total as i32)
 }
 
 // 8 samples from `at` on, predicted by what source has from a and from b on, with the residuals from k on.
+#[tactic(auto, using(ways::proofs::Steps::up_to_more), unfolding(ways::specs::Loops::up_to, ways::specs::Corner::row_at, crate::specs::Block::with_residual))]
 fn write_row(
     new: &mut [u8],
     at: usize,
@@ -57,24 +39,20 @@ fn write_row(
     requires { (at + 8 ≤ length new.old) × (a + 8 ≤ length source.now) × (b + 8 ≤ length source.now) × (k + 8 ≤ length residual.now) }
     ensures { new.new ≡ row_at (λ c. with_residual residual.now (k + c) (mean_of source.now (a + c) (b + c))) at new.old }
 {
-    let mut c: usize = 0;
-    while c < 8 {
-        let p = source[a + c];
-        let q = source[b + c];
-        new[at + c] = sum(p, q, residual[k + c]);
-        c += 1;
+    for c in 0..8 {
+        new[at + c] = sum(source[a + c], source[b + c], residual[k + c]);
     }
 }
 
 // The 64 samples of a block, row by row, predicted by what source has from a and from b on, where a row has `stride` samples.
 // They are made in an array of their own, which nothing else can refer to, so that a row is a few vector instructions.
+#[tactic(auto, using(ways::proofs::Steps::up_to_more), unfolding(ways::specs::Loops::up_to))]
 fn sum_rows(source: &[u8], a: usize, b: usize, stride: usize, residual: &[i16]) -> [u8; 64]
     requires { (a + 7 * stride + 8 ≤ length source.now) × (b + 7 * stride + 8 ≤ length source.now) × (length residual.now ≡ 64) }
     ensures { RowByRow (λ c r. with_residual residual.now (r * 8 + c) (mean_of source.now (a + r * stride + c) (b + r * stride + c))) result }
 {
     let mut t = [0u8; 64];
-    let mut r: usize = 0;
-    while r < 8 {
+    for r in 0..8 {
         write_row(
             &mut t,
             r * 8,
@@ -84,20 +62,18 @@ fn sum_rows(source: &[u8], a: usize, b: usize, stride: usize, residual: &[i16]) 
             residual,
             r * 8,
         );
-        r += 1;
     }
     t
 }
 
 // A block of `new`, where a row has `row` samples: those of t, row by row.
+#[tactic(auto, using(ways::proofs::Steps::up_to_more), unfolding(ways::specs::Loops::up_to, ways::specs::Corner::block_at))]
 fn copy_rows(new: &mut [u8], corner: usize, row: usize, t: &[u8])
     requires { (corner + 7 * row + 8 ≤ length new.old) × (length t.now ≡ 64) }
     ensures { new.new ≡ block_at (λ c r. get_or t.now (r * 8 + c) 0) corner row new.old }
 {
-    let mut r: usize = 0;
-    while r < 8 {
+    for r in 0..8 {
         ways::copy_row(new, corner + r * row, t, r * 8);
-        r += 1;
     }
 }
 
@@ -119,28 +95,20 @@ fn write_rows(
     copy_rows(new, corner, row, &t);
 }
 
-// Where the fetch that begins in column x and row y starts, if it lies in the plane.
-fn start_of(plane: Plane, x: i32, y: i32) -> Start
+// Where the fetch that begins in column x and row y starts in the buffer, if it lies in the plane.
+#[tactic(auto, unfolding(crate::specs::Block::start_of))]
+fn start_of(plane: Plane, x: i32, y: i32) -> Option<usize>
     requires { Small plane }
     ensures { result ≡ start_of plane x y }
 {
-    if x < 0 {
-        return Start::Outside;
-    }
-    if y < 0 {
-        return Start::Outside;
-    }
-    let n = x as usize;
-    let m = y as usize;
+    let column = usize::try_from(x).ok()?;
+    let row = usize::try_from(y).ok()?;
     let width = (8 * plane.across) as usize;
-    let height = (8 * plane.up) as usize;
-    if width < n + 8 {
-        return Start::Outside;
+    if column + 8 <= width && row + 8 <= (8 * plane.up) as usize {
+        Some(plane.offset as usize + (row * width + column))
+    } else {
+        None
     }
-    if height < m + 8 {
-        return Start::Outside;
-    }
-    Start::At(plane.offset as usize + (m * width + n))
 }
 
 // A block whose fetches do not both lie in the plane.
@@ -173,15 +141,10 @@ fn write_moved(
     ensures { new.new ≡ block_at (λ c r. with_residual residual.now (r * 8 + c) (mean_at plane source.now t c r)) corner (8 * plane.across) new.old }
 {
     let row = (8 * plane.across) as usize;
-    let Start::At(a) = start_of(plane, t.x1, t.y1) else {
-        write_clamped(new, corner, source, plane, t, residual);
-        return;
-    };
-    let Start::At(b) = start_of(plane, t.x2, t.y2) else {
-        write_clamped(new, corner, source, plane, t, residual);
-        return;
-    };
-    write_rows(new, corner, row, source, a, b, row, residual);
+    match (start_of(plane, t.x1, t.y1), start_of(plane, t.x2, t.y2)) {
+        (Some(a), Some(b)) => write_rows(new, corner, row, source, a, b, row, residual),
+        _ => write_clamped(new, corner, source, plane, t, residual),
+    }
 }
 
 // The samples of block b, predicted from golden and previous as lent, with its 64 residuals.

@@ -6,4 +6,3 @@ pub mod Where
 pub mod Agree
 pub mod Corner
 pub mod Kept
-pub mod Rows
