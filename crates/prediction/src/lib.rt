@@ -101,8 +101,11 @@ fn start_of(plane: Plane, x: i32, y: i32) -> Option<usize>
     requires { Small plane }
     ensures { result ≡ start_of plane x y }
 {
-    let column = usize::try_from(x).ok()?;
-    let row = usize::try_from(y).ok()?;
+    if x < 0 || y < 0 {
+        return None;
+    }
+    let column = x as usize;
+    let row = y as usize;
     let width = (8 * plane.across) as usize;
     if column + 8 <= width && row + 8 <= (8 * plane.up) as usize {
         Some(plane.offset as usize + (row * width + column))
