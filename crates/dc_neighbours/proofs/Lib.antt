@@ -1,2 +1,0 @@
--- Steps: a test of two flags.
-pub mod Steps
