@@ -7,7 +7,10 @@ use native.Mathlib.Omega.{arith}
 use lib.IntN.{ℤ, pos, negsuc, neg_ℤ, nat_abs, ◌+ℤ◌, ◌-ℤ◌, ◌*ℤ◌, *ℤ-negsuc}
 use lib.Signed.{shr_z}
 use mir.Syntax.{w16}
-use mir.Val.{SFits}
+use lib.Dec.{ltb}
+use mir.Val.{SFits, sel}
+use Rattle.std.specs.Int.{int_wrap, int_wrapping_add, int_wrapping_sub}
+use Rattle.std.proofs.lemmas.Int.{wrapping_add_is, wrapping_sub_is}
 use Rattle.numeric.specs.Cut.{mod16, read16, cut}
 use Rattle.numeric.specs.Divide.{floor_shift}
 use Rattle.numeric.proofs.CutLaws.{mod_add, mod_cut}
@@ -31,6 +34,29 @@ sub_same a b c d e h = add_same a (neg_ℤ b) c (neg_ℤ d) e (mod_neg b ∙ ap 
 -- the low 16 bits of a number that was cut
 pub low : (v z : ℤ) → v ≡ cut z → mod16 v ≡ mod16 z
 low v z e = ap mod16 e ∙ mod_cut z
+
+-- ---- a wrapping sum or difference of 16 bits is cut
+
+wrap_cut : (z : ℤ) → int_wrap w16 z ≡ cut z
+unfolding int_wrap cut read16 mod16
+wrap_cut (pos n) = let e : 65536 - suc (n % 65536) ≡ 65535 - n % 65536 = omega arith in ap (λ (k : ℕ). sel (ltb (n % 65536) 32768) (pos (n % 65536)) (negsuc k)) e
+wrap_cut (negsuc n) =
+    let m = 65535 - n % 65536 in
+    let e : 65536 - suc m ≡ 65535 - m = omega arith in
+    ap (λ (k : ℕ). sel (ltb m 32768) (pos m) (negsuc k)) e
+
+pub add_cut : (a b : ℤ) → SFits w16 a → SFits w16 b → int_wrapping_add w16 a b ≡ cut (a +ℤ b)
+add_cut a b f g = wrapping_add_is w16 a b f g ∙ wrap_cut (a +ℤ b)
+
+pub sub_cut : (a b : ℤ) → SFits w16 a → SFits w16 b → int_wrapping_sub w16 a b ≡ cut (a -ℤ b)
+sub_cut a b f g = wrapping_sub_is w16 a b f g ∙ wrap_cut (a -ℤ b)
+
+-- of numbers whose low 16 bits are those of x and y
+pub sum_cut : (a b x y : ℤ) → SFits w16 a → SFits w16 b → mod16 a ≡ mod16 x → mod16 b ≡ mod16 y → int_wrapping_add w16 a b ≡ cut (x +ℤ y)
+sum_cut a b x y f g e h = add_cut a b f g ∙ add_same a b x y e h
+
+pub difference_cut : (a b x y : ℤ) → SFits w16 a → SFits w16 b → mod16 a ≡ mod16 x → mod16 b ≡ mod16 y → int_wrapping_sub w16 a b ≡ cut (x -ℤ y)
+difference_cut a b x y f g e h = sub_cut a b f g ∙ sub_same a b x y e h
 
 -- ---- the upper half of a product
 
