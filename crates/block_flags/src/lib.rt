@@ -27,15 +27,16 @@ pub fn flag_blocks(
 {
     let Taken { full: j, bits: m } = taken;
     if partly == 1 {
-        flags[first..first + count].copy_from_slice(&bits[m..m + count]);
-        return Taken {
+        buffer::copy(&mut flags[first..first + count], &bits[m..m + count]);
+        Taken {
             full: j,
             bits: m + count,
-        };
-    }
-    buffer::fill_bytes(flags, first, count, full[j]);
-    Taken {
-        full: j + 1,
-        bits: m,
+        }
+    } else {
+        buffer::fill_bytes(flags, first, count, full[j]);
+        Taken {
+            full: j + 1,
+            bits: m,
+        }
     }
 }

@@ -1,6 +1,6 @@
 -- Facts for a loop over rows. Assumes nothing.
 use Prim.Native.Nat.{ℕ, zero, suc, ◌+◌, ◌-◌, ◌*◌, ◌≤◌, ◌<◌}
-use native.Mathlib.Nat.{mul-le-mul_right, lt_of_mul-lt-mul_right, eq_of_mul-eq-mul_right, zero-lt-suc, suc-mul, add-mul, le_trans, le_of_eq}
+use native.Mathlib.Nat.{mul-le-mul_right, lt_of_mul-lt-mul_right, eq_of_mul-eq-mul_right, zero-lt-suc, mul-zero, suc-mul, add-mul, le_trans, le_of_eq}
 use native.Mathlib.Omega.{arith}
 use mathlib.Core.Path.{◌≡◌, refl, sym, ap, ◌∙◌}
 use mathlib.Core.List.{List, [], ◌++◌}
@@ -13,6 +13,11 @@ use Rattle.output.specs.Output.{part}
 -- while something is left there is a row more
 pub row_left : (r rows row at from : ℕ) → 0 < from → at ≡ r * row → at + from ≡ rows * row → r < rows
 row_left r rows row at from h a s = lt_of_mul-lt-mul_right row (omega (arith, h, a, s))
+
+-- and rows have samples
+pub row_some : (rows row at from : ℕ) → 0 < from → at + from ≡ rows * row → 0 < row
+row_some rows zero at from h s = omega (arith, h, s, mul-zero rows)
+row_some rows (suc row) at from h s = omega arith
 
 -- a row more fits
 pub row_fits : (r rows row : ℕ) → r < rows → r * row + row ≤ rows * row
