@@ -1,11 +1,9 @@
 // The edges of a block: which are wanted, and the loop filter at those.
 #![tactic(auto)]
 
-ghost use Rattle.std.specs.Prelude.{◌≡◌, true, false, not, cond, ◌+◌, ◌*◌, ◌-◌, ◌≤◌, ◌<◌, length};
-ghost use Rattle.ways.specs.Loops.{when};
-ghost use Rattle.ways.specs.Ways.{edge, edges_at};
+ghost use Rattle.std.specs.Prelude.{◌≡◌, true, false, not, cond, ◌+◌, ◌*◌, ◌≤◌, ◌<◌, length};
+ghost use Rattle.ways.specs.Ways.{edges_at};
 ghost use Rattle.edge_filter.specs.Filter.{filtered};
-ghost use Rattle.edge_filter.specs.Edge.{Runs};
 ghost use Rattle.block_edges.specs.Flags.{coded_at};
 
 // The edges of a block that are wanted.
