@@ -35,14 +35,17 @@ fn filter_block_at(
     block_edges::filter_block(s, corner, row, 0 < x, 0 < y, right, upper, limit);
 }
 
-// How many of the a blocks from number n on stand before the first coded one.
+// How many of the a blocks from number n on come before the first coded one. As `find` over the range it takes twice as long.
 fn uncoded_before(records: &[u32], n: usize, a: usize) -> usize
     requires { n + a ≤ length records.now }
     ensures { (result ≤ a) × NoneCoded records.now n result }
 {
-    (0..a)
-        .find(|x| block_edges::is_coded(records, n + *x))
-        .unwrap_or(a)
+    for x in 0..a {
+        if block_edges::is_coded(records, n + x) {
+            return x;
+        }
+    }
+    a
 }
 
 // A row of blocks, from its first coded one on: a row in which nothing is coded is passed over.
