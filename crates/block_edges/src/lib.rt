@@ -1,36 +1,13 @@
 // The edges of a block: which are wanted, and the loop filter at those.
 #![tactic(auto)]
 
-ghost use Rattle.std.specs.Prelude.{◌≡◌, true, false, not, cond, ◌+◌, ◌*◌, ◌-◌, ◌≤◌, ◌<◌, length};
-ghost use Rattle.ways.specs.Loops.{when};
-ghost use Rattle.ways.specs.Ways.{edge, edges_at};
+ghost use Rattle.std.specs.Prelude.{◌≡◌, true, false, not, cond, ◌+◌, ◌*◌, ◌≤◌, ◌<◌, length};
+ghost use Rattle.ways.specs.Ways.{edges_at};
 ghost use Rattle.edge_filter.specs.Filter.{filtered};
-ghost use Rattle.edge_filter.specs.Edge.{Runs};
 ghost use Rattle.block_edges.specs.Flags.{coded_at};
 
-// The left (step 1) or lower (step a row) edge of a block, if it is wanted.
-fn edge_before(s: &mut [u8], wanted: bool, corner: usize, along: usize, step: usize, limit: u32)
-    requires { (wanted ≡ true → 2 * step ≤ corner) × (corner + 7 * along + step < length s.old) × (limit ≤ 127) × Runs along step }
-    ensures { s.new ≡ when wanted (edge (filtered limit) (corner - 2 * step) along step) s.old }
-{
-    if !wanted {
-        return;
-    }
-    edge_filter::filter_edge(s, corner - 2 * step, along, step, limit);
-}
-
-// The right or upper edge of a block, if it is wanted.
-fn edge_behind(s: &mut [u8], wanted: bool, corner: usize, along: usize, step: usize, limit: u32)
-    requires { (wanted ≡ true → corner + 7 * along + step * 9 < length s.old) × (limit ≤ 127) × Runs along step }
-    ensures { s.new ≡ when wanted (edge (filtered limit) (corner + 6 * step) along step) s.old }
-{
-    if !wanted {
-        return;
-    }
-    edge_filter::filter_edge(s, corner + 6 * step, along, step, limit);
-}
-
 // The edges of a block that are wanted.
+#[tactic(auto, unfolding(ways::specs::Ways::edges_at))]
 pub fn filter_block(
     s: &mut [u8],
     corner: usize,
@@ -45,13 +22,22 @@ pub fn filter_block(
         × (right ≡ true → corner + 7 * row + 9 < length s.old) × (upper ≡ true → corner + 7 + row * 9 < length s.old) × (limit ≤ 127) × (8 ≤ row) }
     ensures { s.new ≡ edges_at (filtered limit) corner row left lower right upper s.old }
 {
-    edge_before(s, left, corner, row, 1, limit);
-    edge_before(s, lower, corner, 1, row, limit);
-    edge_behind(s, right, corner, row, 1, limit);
-    edge_behind(s, upper, corner, 1, row, limit);
+    if left {
+        edge_filter::filter_edge(s, corner - 2, row, 1, limit);
+    }
+    if lower {
+        edge_filter::filter_edge(s, corner - 2 * row, 1, row, limit);
+    }
+    if right {
+        edge_filter::filter_edge(s, corner + 6, row, 1, limit);
+    }
+    if upper {
+        edge_filter::filter_edge(s, corner + 6 * row, 1, row, limit);
+    }
 }
 
 // Is block n coded?
+#[tactic(auto, unfolding(crate::specs::Flags::coded_at))]
 pub fn is_coded(records: &[u32], n: usize) -> bool
     requires { n < length records.now }
     ensures { result ≡ coded_at records.now n }
@@ -64,8 +50,5 @@ pub fn is_open(records: &[u32], there: bool, n: usize) -> bool
     requires { there ≡ true → n < length records.now }
     ensures { result ≡ cond there (not (coded_at records.now n)) false }
 {
-    if !there {
-        return false;
-    }
-    !is_coded(records, n)
+    there && !is_coded(records, n)
 }

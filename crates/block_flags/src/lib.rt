@@ -11,18 +11,6 @@ pub struct Taken {
     pub bits: usize,
 }
 
-// Copies `count` bytes of `from`, from `at` on, to `bytes`, from `to` on.
-fn copy(bytes: &mut [u8], to: usize, from: &[u8], at: usize, count: usize)
-    requires { (to + count ≤ length bytes.old) × (at + count ≤ length from.now) }
-    ensures { bytes.new ≡ take to bytes.old ++ take count (drop at from.now) ++ drop (to + count) bytes.old }
-{
-    let mut k = 0;
-    while k < count {
-        bytes[to + k] = from[at + k];
-        k += 1;
-    }
-}
-
 // The flags of one super block, whose blocks are `count` from `first` on.
 pub fn flag_blocks(
     flags: &mut [u8],
@@ -37,18 +25,18 @@ pub fn flag_blocks(
     ensures value { result ≡ taken_next partly count taken }
     ensures flags_after { flags.new ≡ take first flags.old ++ block_flags partly count full.now bits.now taken ++ drop (first + count) flags.old }
 {
-    let j = taken.full;
-    let m = taken.bits;
+    let Taken { full: j, bits: m } = taken;
     if partly == 1 {
-        copy(flags, first, bits, m, count);
-        return Taken {
+        buffer::copy(&mut flags[first..first + count], &bits[m..m + count]);
+        Taken {
             full: j,
             bits: m + count,
-        };
-    }
-    buffer::fill_bytes(flags, first, count, full[j]);
-    Taken {
-        full: j + 1,
-        bits: m,
+        }
+    } else {
+        buffer::fill_bytes(flags, first, count, full[j]);
+        Taken {
+            full: j + 1,
+            bits: m,
+        }
     }
 }

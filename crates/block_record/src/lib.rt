@@ -35,6 +35,7 @@ fn vector_number(v: Vector) -> u32
     x + y * 64
 }
 
+#[tactic(auto, unfolding(crate::specs::Packed::vector_at))]
 fn vector_at(n: u32) -> Vector
     ensures { result ≡ vector_at n }
 {
@@ -46,6 +47,7 @@ fn vector_at(n: u32) -> Vector
     }
 }
 
+#[tactic(auto, using(crate::proofs::Laws::prediction_lt), unfolding(crate::specs::Packed::prediction_number))]
 fn prediction_number(p: Prediction) -> u32
     requires { PredictionInRange p }
     ensures { (result ≡ prediction_number p) × (result < 16384) }
@@ -57,45 +59,39 @@ fn prediction_number(p: Prediction) -> u32
     }
 }
 
+#[tactic(auto, unfolding(crate::specs::Packed::prediction_at))]
 fn prediction_at(n: u32) -> Prediction
     ensures { result ≡ prediction_at n }
 {
-    let code = n % 4;
-    if code == 0 {
-        return Prediction::None;
+    match n % 4 {
+        0 => Prediction::None,
+        1 => Prediction::Previous(vector_at(n / 4)),
+        _ => Prediction::Golden(vector_at(n / 4)),
     }
-    let v = vector_at(n / 4);
-    if code == 1 {
-        return Prediction::Previous(v);
-    }
-    Prediction::Golden(v)
 }
 
 // A record as a number.
+#[tactic(auto, unfolding(crate::specs::Packed::packed))]
 fn pack(r: BlockRecord) -> u32
     requires { InRange r }
     ensures { result ≡ packed r }
 {
-    let p = r.prediction;
-    let n = prediction_number(p) * 8 + r.qi_index * 2;
-    if r.coded {
-        return n + 1;
-    }
-    n
+    prediction_number(r.prediction) * 8 + r.qi_index * 2 + u32::from(r.coded)
 }
 
+#[tactic(auto, unfolding(crate::specs::Packed::unpacked))]
 pub fn unpack(n: u32) -> BlockRecord
     ensures { result ≡ unpacked n }
 {
-    let p = prediction_at(n / 8);
     BlockRecord {
-        coded: n % 2 == 1,
-        qi_index: n / 2 % 4,
-        prediction: p,
+        coded: is_coded(n),
+        qi_index: qi_index(n),
+        prediction: prediction_at(n / 8),
     }
 }
 
 // Whether the block of a packed record is coded.
+#[tactic(auto, unfolding(crate::specs::Packed::unpacked))]
 pub fn is_coded(n: u32) -> bool
     ensures { result ≡ (unpacked n).coded }
 {
@@ -103,6 +99,7 @@ pub fn is_coded(n: u32) -> bool
 }
 
 // The qi index of a packed record.
+#[tactic(auto, unfolding(crate::specs::Packed::unpacked))]
 pub fn qi_index(n: u32) -> u32
     ensures { result ≡ (unpacked n).qi_index }
 {
@@ -110,6 +107,7 @@ pub fn qi_index(n: u32) -> u32
 }
 
 // The packed record of a coded block of which nothing else is known yet.
+#[tactic(auto, unfolding(crate::specs::Packed::packed, crate::specs::Packed::prediction_number))]
 pub fn now_coded() -> u32
     ensures { result ≡ packed now_coded }
 {
@@ -117,17 +115,15 @@ pub fn now_coded() -> u32
 }
 
 // The reference of a packed record's prediction: 0 none, 1 previous, 2 golden.
+#[tactic(auto, using(crate::proofs::Laws::reference_low, crate::proofs::Laws::reference_high), unfolding(crate::specs::Packed::unpacked))]
 pub fn reference(n: u32) -> usize
     ensures { (result ≡ reference_of (unpacked n).prediction) × (result ≤ 2) }
 {
-    let code = (n / 8 % 4) as usize;
-    if code < 2 {
-        return code;
-    }
-    2
+    usize::min((n / 8 % 4) as usize, 2)
 }
 
 // A packed record with another prediction.
+#[tactic(auto, unfolding(crate::specs::Packed::packed, crate::specs::Packed::unpacked))]
 pub fn with_prediction(n: u32, p: Prediction) -> u32
     requires { PredictionInRange p }
     ensures { result ≡ packed (with_prediction p (unpacked n)) }
@@ -140,11 +136,8 @@ pub fn with_qi_index(n: u32, k: u32) -> u32
     requires { PredictionInRange (unpacked n).prediction × (k ≤ 2) }
     ensures { result ≡ packed (with_qi_index k (unpacked n)) }
 {
-    let r = unpack(n);
-    let p = r.prediction;
     pack(BlockRecord {
-        coded: r.coded,
         qi_index: k,
-        prediction: p,
+        ..unpack(n)
     })
 }

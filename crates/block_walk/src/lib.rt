@@ -1,4 +1,4 @@
-// The place of a block by its raster number, for most without a division: the blocks of a super block stand in four rows, and those of the next one mostly in the same four.
+// The place of a block by its raster number, for most without a division: the blocks of a super block lie in four rows, and those of the next one mostly in the same four.
 #![tactic(auto)]
 
 ghost use Rattle.std.specs.Prelude.{◌≡◌, ◌≤◌, ◌<◌};
@@ -26,35 +26,25 @@ fn band_from(format: PixelFormat, w: u64, h: u64, n: u64) -> Band
     let q = geometry::plane_of(format, w, h, b.plane);
     let first = n - b.x;
     let end = first + 4 * q.across;
-    let behind = (q.offset + q.length) / 64;
-    if behind < end {
-        return Band {
-            plane: b.plane,
-            y: b.y,
-            first: first,
-            end: behind,
-        };
-    }
+    let past = (q.offset + q.length) / 64;
     Band {
         plane: b.plane,
         y: b.y,
-        first: first,
-        end: end,
+        first,
+        end: u64::min(end, past),
     }
 }
 
-// A band with block n: this one, if it stands in it.
+// A band with block n: this one, if n lies in it.
 pub fn band_with(format: PixelFormat, w: u64, h: u64, band: Band, n: u64) -> Band
     requires { (w ≤ largest) × (h ≤ largest) × IsBand format w h band × (n < blocks_of format w h) }
     ensures { InBand format w h result n }
 {
-    if n < band.first {
-        return band_from(format, w, h, n);
+    if band.first <= n && n < band.end {
+        band
+    } else {
+        band_from(format, w, h, n)
     }
-    if n < band.end {
-        return band;
-    }
-    band_from(format, w, h, n)
 }
 
 // Block n of a band.
@@ -75,7 +65,7 @@ pub fn block_in(format: PixelFormat, w: u64, h: u64, band: Band, n: u64) -> Bloc
     }
     Block {
         plane: band.plane,
-        x: x,
-        y: y,
+        x,
+        y,
     }
 }

@@ -55,22 +55,15 @@ pub fn list_coded(
     ensures records_after { records.new ≡ map packed (coded_records format w h flags.now) }
     ensures coded_after { coded.new ≡ coded_blocks format w h flags.now ++ drop (length (coded_blocks format w h flags.now)) coded.old }
 {
-    let sizes = geometry::sizes(format, w, h);
-    let supers = sizes.super_blocks as usize;
-    let mut count: usize = 0;
-    let mut k: usize = 0;
-    while k < supers {
-        let s = geometry::super_block(format, w, h, k as u64);
+    let mut count = 0;
+    for k in 0..geometry::sizes(format, w, h).super_blocks {
+        let s = geometry::super_block(format, w, h, k);
         let start = s.first as usize;
         let end = start + s.count as usize;
         count = list_super(format, w, h, flags, start, end, records, coded, count);
-        k += 1;
     }
     let luma = geometry::plane_of(format, w, h, 0);
     let n = (luma.length / 64) as usize;
     let first = coded_flags::count_ones(&flags[..n]);
-    Listed {
-        count: count,
-        luma: first,
-    }
+    Listed { count, luma: first }
 }

@@ -159,7 +159,7 @@ pub fn all_tables() -> [i32; 1280]
     TABLES
 }
 
-// What chroma sample i adds by itself: Cb 0 to 255, and behind them Cr, these with the half.
+// What chroma sample i adds by itself: Cb 0 to 255, and after them Cr, these with the half.
 pub fn part_of(tables: &[i32], i: usize) -> Chroma
     requires { (tables.now ≡ contributions) × (i < 512) }
     ensures { result ≡ part_of i }
@@ -187,9 +187,7 @@ pub fn put_part(c: Chroma, rows: &mut [i32], at: usize)
     requires { at + 3 ≤ length rows.old }
     ensures { take (at + 3) rows.new ≡ take at rows.old ++ three c }
 {
-    let red = c.red;
-    let green = c.green;
-    let blue = c.blue;
+    let Chroma { red, green, blue } = c;
     rows[at] = red;
     rows[at + 1] = green;
     rows[at + 2] = blue;
@@ -201,22 +199,10 @@ pub fn fill_chroma_rows(tables: &[i32], rows: &mut [i32])
     requires { (tables.now ≡ contributions) × (length rows.old ≡ 4608) }
     ensures { rows.new ≡ chroma_rows }
 {
-    let mut k: usize = 0;
-    while k < 512 {
+    for k in 0..512 {
         let c = part_of(tables, k);
         put_part(c, rows, 9 * k);
         put_part(c, rows, 9 * k + 3);
         put_part(c, rows, 9 * k + 6);
-        k += 1;
     }
-}
-
-// The same, by value.
-pub fn chroma_rows(tables: &[i32]) -> [i32; 4608]
-    requires { tables.now ≡ contributions }
-    ensures { result ≡ chroma_rows }
-{
-    let mut rows = [0i32; 4608];
-    fill_chroma_rows(tables, &mut rows);
-    rows
 }

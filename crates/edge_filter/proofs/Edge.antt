@@ -13,7 +13,7 @@ use Rattle.ways.specs.Ways.{across_edge, edge}
 use Rattle.ways.specs.Corner.{row_at}
 use Rattle.ways.proofs.Steps.{Stays, set_stays, up_to_stays, up_to_same}
 use Rattle.edge_filter.specs.Filter.{filtered}
-use Rattle.edge_filter.specs.Edge.{crossed, NewSides, Fours, of_four, Pair, Pairs, pairs_at, Runs, in_row, in_column}
+use Rattle.edge_filter.specs.Edge.{crossed, NewSides, Fours, of_four, Pairs, pairs_at, Runs, in_row, in_column}
 
 -- ---- reading first
 module _ (L at along step : ℕ) (s : List ℕ) where
@@ -132,15 +132,7 @@ pub column_runs : (along step : ℕ) → Runs along step → (along ≡ 1 → �
 column_runs along step (in_row e h) n = absurd (n e)
 column_runs along step (in_column e h) n = (e, h)
 
--- ---- lists that grow by an element
-module _ (P : ℕ → ℕ → Type 0) (t : List ℕ) (i v : ℕ) (l : i < length t) (p : P i v) (h : (j : ℕ) → j < i → P j (get_or t j 0)) where
-  pub set_more : (j : ℕ) → j < i + 1 → P j (get_or (set t i v) j 0)
-  set_more j k = go (ℕ_discrete j i)
-    where
-      go : Dec (j ≡ i) → P j (get_or (set t i v) j 0)
-      go (yes e) = rw (e, get_or-set_same t i v 0 l) p
-      go (no n) = rw (get_or-set_other t i j v 0 n) (h j (omega arith))
-
+-- ---- a list that grows by an element in each half
 module _ (q : ℕ → ℕ × ℕ) (t : List ℕ) (i a b : ℕ) (size : length t ≡ 16) (below : i < 8) (e₁ : a ≡ (q i).0) (e₂ : b ≡ (q i).1)
     (h : (j : ℕ) → j < i → (get_or t j 0 ≡ (q j).0) × (get_or t (8 + j) 0 ≡ (q j).1)) where
   pub sides_more : (j : ℕ) → j < i + 1 → (get_or (set (set t i a) (8 + i) b) j 0 ≡ (q j).0) × (get_or (set (set t i a) (8 + i) b) (8 + j) 0 ≡ (q j).1)
@@ -157,10 +149,3 @@ module _ (q : ℕ → ℕ × ℕ) (t : List ℕ) (i a b : ℕ) (size : length t 
       second (no n) =
           get_or-set_other (set t i a) (8 + i) (8 + j) b 0 (λ e. n (omega arith))
           ∙ get_or-set_other t i (8 + j) a 0 (λ e. omega arith) ∙ (h j (omega arith)).1
-
--- two numbers below 256 as one
-pub pair_of : (q : ℕ × ℕ) (a b : ℕ) → a < 256 → a ≡ q.0 → b ≡ q.1 → Pair q (a + 256 * b)
-pair_of q a b h e₁ e₂ =
-    let m : (a + 256 * b) % 256 ≡ a = omega arith in
-    let n : (a + 256 * b) / 256 ≡ b = omega arith in
-    record { p1 = m ∙ e₁; p2 = n ∙ e₂ }

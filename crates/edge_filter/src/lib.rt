@@ -26,33 +26,16 @@ fn falling(limit: u32, n: u16) -> u16
     ensures { result ≡ 2 * limit - n }
 {
     let twice = (2 * limit) as u16;
-    if n < twice {
-        return twice - n;
-    }
-    0
+    twice.saturating_sub(n)
 }
 
 // f of the magnitude n of R: the less of n and 2 L - n.
+#[tactic(auto, unfolding(crate::specs::Filter::tent_of))]
 fn tent(limit: u32, n: u16) -> u16
     requires { limit ≤ 127 }
     ensures { (result ≡ tent_of limit n) × (result ≤ 127) }
 {
-    let m = falling(limit, n);
-    if n < m {
-        return n;
-    }
-    m
-}
-
-// |R|
-fn magnitude(r: i16) -> u16
-    requires { nat_abs r ≤ 256 }
-    ensures { result ≡ nat_abs r }
-{
-    if r < 0 {
-        return -r as u16;
-    }
-    r as u16
+    n.min(falling(limit, n))
 }
 
 // f of R. The sign comes last, so that no jump depends on it.
@@ -60,11 +43,8 @@ fn limited(limit: u32, r: i16) -> i16
     requires { (limit ≤ 127) × (nat_abs r ≤ 256) }
     ensures { (result ≡ limited_of limit r) × (nat_abs result ≤ 127) }
 {
-    let t = tent(limit, magnitude(r)) as i16;
-    if r < 0 {
-        return -t;
-    }
-    t
+    let t = tent(limit, r.unsigned_abs()) as i16;
+    if r < 0 { -t } else { t }
 }
 
 // What becomes of four samples across an edge.
@@ -81,20 +61,18 @@ fn sides(limit: u32, p0: u8, p1: u8, p2: u8, p3: u8) -> NewPair
     }
 }
 
-// An edge along a row, whose p0 stand from `at` on: the 8 new p1, then the 8 new p2.
+// An edge along a row, whose p0 lie from `at` on: the 8 new p1, then the 8 new p2.
 // They are made in an array of their own, which nothing else can refer to, so that all 8 are made at once.
 fn row_sides(s: &[u8], at: usize, row: usize, limit: u32) -> [u8; 16]
     requires { (at + row * 3 + 7 < length s.now) × (limit ≤ 127) }
     ensures { NewSides (crossed limit at 1 row s.now) result }
 {
-    let mut t = [0u8; 16];
-    let mut k: usize = 0;
-    while k < 8 {
+    let mut t = [0; 16];
+    for k in 0..8 {
         let i = at + k;
         let q = sides(limit, s[i], s[i + row], s[i + row * 2], s[i + row * 3]);
         t[k] = q.p1;
         t[8 + k] = q.p2;
-        k += 1;
     }
     t
 }
@@ -114,10 +92,7 @@ fn four(s: &[u8], at: usize) -> u32
     requires { at + 3 < length s.now }
     ensures { Four s.now at result }
 {
-    s[at] as u32
-        + 256 * (s[at + 1] as u32)
-        + 65536 * (s[at + 2] as u32)
-        + 16777216 * (s[at + 3] as u32)
+    u32::from_le_bytes([s[at], s[at + 1], s[at + 2], s[at + 3]])
 }
 
 // The samples of an edge along a column: four of each row, the first at `at`.
@@ -125,49 +100,37 @@ fn fours(s: &[u8], at: usize, row: usize) -> [u32; 8]
     requires { at + 7 * row + 3 < length s.now }
     ensures { Fours s.now at row result }
 {
-    let mut t = [0u32; 8];
-    let mut k: usize = 0;
-    while k < 8 {
-        t[k] = four(s, at + k * row);
-        k += 1;
+    let mut t = [0; 8];
+    for (k, n) in t.iter_mut().enumerate() {
+        *n = four(s, at + k * row);
     }
     t
 }
 
 // What becomes of each four: the new p1, and 256 times the new p2.
-fn column_sides(t: &[u32], limit: u32) -> [u16; 8]
-    requires { (length t.now ≡ 8) × (limit ≤ 127) }
+fn column_sides(t: &[u32; 8], limit: u32) -> [u16; 8]
+    requires { limit ≤ 127 }
     ensures { Pairs limit t.now result }
 {
-    let mut r = [0u16; 8];
-    let mut k: usize = 0;
-    while k < 8 {
-        let n = t[k];
-        let q = sides(
-            limit,
-            (n % 256) as u8,
-            (n / 256 % 256) as u8,
-            (n / 65536 % 256) as u8,
-            (n / 16777216) as u8,
-        );
-        r[k] = q.p1 as u16 + 256 * (q.p2 as u16);
-        k += 1;
+    let mut r = [0; 8];
+    for (k, n) in t.iter().enumerate() {
+        let [p0, p1, p2, p3] = n.to_le_bytes();
+        let q = sides(limit, p0, p1, p2, p3);
+        r[k] = u16::from_le_bytes([q.p1, q.p2]);
     }
     r
 }
 
-// Each pair in its row, behind the p0.
-fn write_pairs(s: &mut [u8], at: usize, row: usize, r: &[u16])
-    requires { (at + 7 * row + 2 < length s.old) × (length r.now ≡ 8) }
+// Each pair in its row, after the p0.
+fn write_pairs(s: &mut [u8], at: usize, row: usize, r: &[u16; 8])
+    requires { at + 7 * row + 2 < length s.old }
     ensures { s.new ≡ pairs_at r.now at row s.old }
 {
-    let mut k: usize = 0;
-    while k < 8 {
+    for (k, n) in r.iter().enumerate() {
         let i = at + k * row;
-        let n = r[k];
-        s[i + 1] = (n % 256) as u8;
-        s[i + 2] = (n / 256) as u8;
-        k += 1;
+        let [p1, p2] = n.to_le_bytes();
+        s[i + 1] = p1;
+        s[i + 2] = p2;
     }
 }
 
@@ -188,7 +151,7 @@ pub fn filter_edge(s: &mut [u8], at: usize, along: usize, step: usize, limit: u3
 {
     if along == 1 {
         filter_row_edge(s, at, step, limit);
-        return;
+    } else {
+        filter_column_edge(s, at, along, limit);
     }
-    filter_column_edge(s, at, along, limit);
 }

@@ -60,8 +60,7 @@ fn chroma_across(format: PixelFormat, w: u64) -> u64
     ensures { (result ≡ chroma_across format w) × (result ≤ 131070) }
 {
     match format {
-        PixelFormat::Chroma420 => w,
-        PixelFormat::Chroma422 => w,
+        PixelFormat::Chroma420 | PixelFormat::Chroma422 => w,
         PixelFormat::Chroma444 => 2 * w,
     }
 }
@@ -72,8 +71,7 @@ fn chroma_up(format: PixelFormat, h: u64) -> u64
 {
     match format {
         PixelFormat::Chroma420 => h,
-        PixelFormat::Chroma422 => 2 * h,
-        PixelFormat::Chroma444 => 2 * h,
+        PixelFormat::Chroma422 | PixelFormat::Chroma444 => 2 * h,
     }
 }
 
@@ -133,10 +131,10 @@ pub fn sizes(format: PixelFormat, w: u64, h: u64) -> FrameSizes
         macro_blocks: h * w,
         blocks: buffer / 64,
         super_blocks: n + m + m,
-        buffer: buffer,
-        luma: luma,
-        cb: cb,
-        cr: cr,
+        buffer,
+        luma,
+        cb,
+        cr,
     }
 }
 
@@ -341,7 +339,7 @@ fn one_of_four(plane: u64, x: u64, y: u64, j: u64) -> Block
     ensures { result ≡ get_or (four_of plane x y) j (block 0 0 0) }
 {
     Block {
-        plane: plane,
+        plane,
         x: 2 * x + j % 2,
         y: 2 * y + j / 2,
     }
@@ -356,14 +354,10 @@ pub fn block_of_macro(format: PixelFormat, x: u64, y: u64, k: u64) -> Block
         return one_of_four(0, x, y, k);
     }
     match format {
-        PixelFormat::Chroma420 => Block {
-            plane: k - 3,
-            x: x,
-            y: y,
-        },
+        PixelFormat::Chroma420 => Block { plane: k - 3, x, y },
         PixelFormat::Chroma422 => Block {
             plane: k / 2 - 1,
-            x: x,
+            x,
             y: 2 * y + k % 2,
         },
         PixelFormat::Chroma444 => one_of_four(k / 4, x, y, k % 4),
@@ -374,15 +368,13 @@ pub fn block_of_macro(format: PixelFormat, x: u64, y: u64, k: u64) -> Block
 pub fn macro_of_block(format: PixelFormat, b: Block) -> Place
     ensures { result ≡ macro_of format b }
 {
-    let plane = b.plane;
-    let x = b.x;
-    let y = b.y;
+    let Block { plane, x, y } = b;
     if plane == 0 {
         return Place { x: x / 2, y: y / 2 };
     }
     match format {
-        PixelFormat::Chroma420 => Place { x: x, y: y },
-        PixelFormat::Chroma422 => Place { x: x, y: y / 2 },
+        PixelFormat::Chroma420 => Place { x, y },
+        PixelFormat::Chroma422 => Place { x, y: y / 2 },
         PixelFormat::Chroma444 => Place { x: x / 2, y: y / 2 },
     }
 }

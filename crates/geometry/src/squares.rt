@@ -1,16 +1,10 @@
 // The super blocks of a plane of w by h blocks as squares of 4 by 4, and the walk inside one.
-ghost use Rattle.std.specs.Prelude.{◌≡◌, ℕ, ◌+◌, ◌*◌, ◌/◌, ◌≤◌, ◌<◌, min};
+ghost use Rattle.std.specs.Prelude.{◌≡◌, ℕ, ◌+◌, ◌*◌, ◌/◌, ◌≤◌, ◌<◌};
 ghost use Rattle.geometry.specs.Square.{reach, SpotOf};
 ghost use Rattle.geometry.specs.Order.{block_walk};
 ghost use Rattle.geometry.specs.Rank.{rank_in, in_corner};
 
 use crate::Place;
-
-pub(crate) fn lesser(a: u64, b: u64) -> u64
-    ensures { result ≡ min a b }
-{
-    if a < b { a } else { b }
-}
 
 // The square that holds (x, y): the number of its first place, and how much of it lies in the plane.
 #[derive(Clone, Copy)]
@@ -26,12 +20,12 @@ pub(crate) fn square_of(w: u64, h: u64, x: u64, y: u64) -> Square
 {
     let a = 4 * (x / 4);
     let b = 4 * (y / 4);
-    let u = lesser(4, w - a);
-    let v = lesser(4, h - b);
+    let u = u64::min(4, w - a);
+    let v = u64::min(4, h - b);
     Square {
         first: b * w + a * v,
-        u: u,
-        v: v,
+        u,
+        v,
     }
 }
 
@@ -51,14 +45,14 @@ pub(crate) fn square_at(w: u64, h: u64, i: u64) -> Spot
 {
     let b = 4 * (i / (4 * w));
     let q = i % (4 * w);
-    let v = lesser(4, h - b);
+    let v = u64::min(4, h - b);
     let a = 4 * (q / (4 * v));
-    let u = lesser(4, w - a);
+    let u = u64::min(4, w - a);
     Spot {
-        a: a,
-        b: b,
-        u: u,
-        v: v,
+        a,
+        b,
+        u,
+        v,
         rest: q % (4 * v),
     }
 }

@@ -5,9 +5,7 @@ use mathlib.Core.List.{List}
 use Prim.Native.Nat.{ℕ, zero, suc, ◌+◌, ◌*◌, ◌≤◌, ◌<◌}
 use native.Mathlib.Nat.{mul-le-mul_left, mul-le-mul_right}
 use native.Mathlib.Omega.{arith}
-use lib.Arith.{lt_of_le-ne}
-use lib.Dec.{ltb, eqb}
-use borrow.Author.Tests.{eqb-true, eqb-false}
+use lib.Dec.{ltb}
 use Rattle.geometry.specs.Sample.{sample_in}
 use Rattle.ways.specs.Loops.{up_to}
 use Rattle.ways.specs.Ways.{edges_at}
@@ -47,15 +45,7 @@ module _ (records : List ℕ) (L first a u y x : ℕ) (s : List ℕ) where
       let c : 64 * first + (8 * y * (8 * a) + 8 * x) ≡ 64 * first + sample_in a x y 0 0 = omega arith in
       rw e (λ i. edges_at (filtered L) (c i) (8 * a) (ltb 0 x) (ltb 0 y) (er i) (eu i) s)
 
--- ---- blocks before the first coded one
-pub none_more : (records : List ℕ) (n m : ℕ) → NoneCoded records n m → coded_at records (n + m) ≡ false → NoneCoded records n (m + 1)
-none_more records n m before here k h = go (eqb k m) refl
-  where
-    go : (t : Bool) → eqb k m ≡ t → coded_at records (n + k) ≡ false
-    go true e = ap (λ (j : ℕ). coded_at records (n + j)) (eqb-true k m e) ∙ here
-    go false e = before k (lt_of_le-ne (omega arith) (eqb-false k m e))
-
--- nothing is done at them
+-- ---- blocks before the first coded one: nothing is done at them
 pub none_steps : (records : List ℕ) (L first a u y : ℕ) (s : List ℕ) (m : ℕ) → NoneCoded records (first + y * a) m → s ≡ up_to m (block_step records L first a u y) s
 unfolding up_to
 none_steps records L first a u y s zero h = refl
@@ -63,7 +53,3 @@ none_steps records L first a u y s (suc m) h =
     let e : first + y * a + m ≡ first + (y * a + m) = omega arith in
     none_steps records L first a u y s m (λ k l. h k (omega arith))
     ∙ uncoded_step records L first a u y m (up_to m (block_step records L first a u y) s) (ap (coded_at records) (sym e) ∙ h m (omega arith))
-
--- a row in its plane
-pub row_in : (a u y : ℕ) → y < u → y * a + a ≤ u * a
-row_in a u y h = let m : suc y * a ≤ u * a = mul-le-mul_right a h in omega arith

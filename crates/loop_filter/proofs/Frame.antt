@@ -63,8 +63,8 @@ module _ (f : PixelFormat) (w h : ℕ) where
         ∙ up_to_same (up f h p) (λ y. over (in_turn (λ x. block p x y ∷ []) (across f w p)) step)
         (row_steps records L (blocks_before f w h p) (across f w p) (up f h p)) (λ y l. row_is p y) s
 
-    pub planes_all : (s : List ℕ) → steps 2 (steps 1 (steps 0 s)) ≡ filter_all f w h (coded_by f w h records) (filtered L) s
-    unfolding filter_all raster grid up_to
+    pub planes_all : (s : List ℕ) → up_to 3 steps s ≡ filter_all f w h (coded_by f w h records) (filtered L) s
+    unfolding filter_all raster grid
     planes_all s =
         let rows : ℕ → List Block = λ p. in_turn (λ y. in_turn (λ x. block p x y ∷ []) (across f w p)) (up f h p) in
         sym (over_turns rows 3 step s ∙ up_to_same 3 (λ p. over (rows p) step) steps (λ p l. plane_is p) s)

@@ -9,14 +9,11 @@ pub fn lengths_reach(lengths: &[u64], room: u64) -> bool
     ensures { result ≡ leb (total lengths.now) room }
 {
     let mut left = room;
-    let mut i = 0;
-    while i < lengths.len() {
-        let n = lengths[i];
-        if left < n {
+    for n in lengths {
+        if left < *n {
             return false;
         }
-        left -= n;
-        i += 1;
+        left -= *n;
     }
     true
 }

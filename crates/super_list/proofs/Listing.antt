@@ -4,11 +4,10 @@ use native.Mathlib.Omega.{arith}
 use native.Mathlib.Numerals.{add-one}
 use mathlib.Core.Path.{◌≡◌, refl, sym, ap, ◌∙◌, subst}
 use mathlib.Core.List.{List, [], ◌∷◌, ◌++◌, append-nil, append_assoc}
-use mathlib.Core.Bool.{Bool, true, false, not, ◌&&◌}
+use mathlib.Core.Bool.{Bool, true, false}
 use lib.Dec.{eqb}
 use lib.ListN.{length, get_or, take, drop, set, take-append-drop, drop_of_length-le}
 use lib.Seq.{take-suc-set, drop-set-lt, drop-drop, length-take-le}
-use borrow.Author.Tests.{eqb-true, eqb-false, not-true}
 use Rattle.bitstream.specs.Reading.{choose}
 use Rattle.block_record.specs.Record.{now_coded}
 use Rattle.block_record.specs.Packed.{packed}
@@ -87,6 +86,13 @@ module _ (bs flags records coded : List ℕ) (count i : ℕ) where
   goes_on records' coded' count' i' g hb hf hc records'' coded'' count'' en er ec =
       λ records₀ coded₀ l. listing_by bs flags records₀ coded₀ records' coded' count' i' (g records₀ coded₀ l) hb hf hc records'' coded'' count'' en er ec
 
+  -- the same, where the number of the block and the number of what is done are known by equations
+  pub goes_next : (records' coded' : List ℕ) (count' i' n next : ℕ) → Goes bs flags records coded count i records' coded' count' i' → i' < length bs → i' < length flags → count' < length coded' → n ≡ get_or bs i' 0 → next ≡ i' + 1
+      → (records'' coded'' : List ℕ) (count'' : ℕ) → let t = eqb (get_or flags i' 0) 1 in
+      count'' ≡ choose t (count' + 1) count' → records'' ≡ choose t (set records' n (packed now_coded)) records' → coded'' ≡ choose t (set coded' count' n) coded'
+      → Goes bs flags records coded count i records'' coded'' count'' next
+  goes_next records' coded' count' i' n next g hb hf hc e d records'' coded'' count'' en er ec = rw d (goes_on records' coded' count' i' g hb hf hc records'' coded'' count'' en (rw (← e) er) (rw (← e) ec))
+
   pub goes_none : Goes bs flags records coded count i records coded count (i + 0)
   goes_none = let z : i ≡ i + 0 = omega arith in λ records₀ coded₀ g. subst (λ (k : ℕ). Listing bs flags records₀ coded₀ records coded count k) z g
 
@@ -108,23 +114,3 @@ counts_on a b count count' i l e = rw e (go (eqb a b))
     go : (t : Bool) → choose t (count + 1) count ≤ i + 1
     go true = omega arith
     go false = omega arith
-
-module _ (flags : List ℕ) (first : ℕ) where
-  pub none_first : NoneSet flags first first
-  unfolding NoneSet
-  none_first i a b = absurd (omega arith)
-
-  pub none_next : (end : ℕ) (t : Bool) → (t ≡ true → NoneSet flags first end) → (t && not (eqb (get_or flags end 0) 1)) ≡ true → NoneSet flags first (end + 1)
-  unfolding NoneSet
-  none_next end t k g i a b = go (eqb i end) refl
-    where
-      both : (s t : Bool) → (s && t) ≡ true → (s ≡ true) × (t ≡ true)
-      both true t e = (refl, e)
-      both false t e = let z : ◌≡◌ {A = ℕ} 0 1 = cc in absurd (omega arith)
-
-      less : (x n : ℕ) → x < n + 1 → (x ≡ n → ⊥) → x < n
-      less x n l o = omega (arith, l, o)
-
-      go : (d : Bool) → eqb i end ≡ d → get_or flags i 0 ≡ 1 → ⊥
-      go true d = subst (λ (j : ℕ). get_or flags j 0 ≡ 1 → ⊥) (sym (eqb-true i end d)) (eqb-false (get_or flags end 0) 1 (not-true (eqb (get_or flags end 0) 1) (both t (not (eqb (get_or flags end 0) 1)) g).1))
-      go false d = k (both t (not (eqb (get_or flags end 0) 1)) g).0 i a (less i end b (eqb-false i end d))

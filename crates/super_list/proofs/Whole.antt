@@ -2,7 +2,7 @@
 use Prim.Native.Nat.{ℕ, zero, suc, ◌+◌, ◌-◌, ◌*◌, ◌/◌, ◌%◌, ◌≤◌, ◌<◌}
 use native.Mathlib.Omega.{arith}
 use native.Mathlib.Nat.{add-mul, mul-le-mul, le_of_suc-le-suc, not-suc-le-zero}
-use mathlib.Core.Path.{◌≡◌, refl, sym, ap, ◌∙◌}
+use mathlib.Core.Path.{◌≡◌, refl, sym, ap, ◌∙◌, subst}
 use mathlib.Core.List.{List, [], ◌∷◌}
 use mathlib.Core.Bool.{Bool, true, false, cond}
 use lib.Dec.{ltb}
@@ -10,16 +10,17 @@ use lib.ListN.{length, get_or}
 use Rattle.geometry.specs.declared.PixelFormat.{PixelFormat}
 use Rattle.geometry.specs.declared.Place.{Place}
 use Rattle.geometry.specs.declared.Block.{Block}
-use Rattle.geometry.specs.Sizes.{across, up, blocks_before, blocks_of, super_blocks_of}
+use Rattle.geometry.specs.declared.Plane.{Plane}
+use Rattle.geometry.specs.Sizes.{across, up, blocks_before, blocks_of, super_blocks_of, plane_of}
 use Rattle.geometry.specs.Order.{at, block_walk, keep, present, shifted, square}
-use Rattle.geometry.specs.Frame.{block, in_plane, frame_order, super_blocks_before, super_block_in, super_block_of}
+use Rattle.geometry.specs.Frame.{InFrame, block, in_plane, frame_order, super_blocks_before, super_block_in, super_block_of}
 use Rattle.geometry.specs.Raster.{raster_number}
 use Rattle.geometry.proofs.Lists.{turn_at, shifted_at, shifted_length}
-use Rattle.geometry.proofs.FrameLaws.{in_plane_length}
+use Rattle.geometry.proofs.FrameLaws.{in_plane_length, frame_back}
 use Rattle.geometry.proofs.SuperBlockLaws.{frame_flat}
 use Rattle.coded_flags.specs.Coded.{order}
 use Rattle.super_list.specs.Listing.{walk_places, WholeAt}
-use Rattle.coded_flags.proofs.Order.{order_at}
+use Rattle.coded_flags.proofs.Order.{order_at, order_small}
 use Rattle.coded_flags.proofs.Spread.{first_of}
 
 -- ---- a square that lies whole in its plane
@@ -134,17 +135,24 @@ module _ (f : PixelFormat) (w h : ℕ) where
       let s = ap (λ (i : ℕ). get_or (frame_order f w h) i (block 0 0 0)) z ∙ here 0 (omega arith) in
       here j g ∙ super_whole k e j g ∙ ap (λ (b : Block). block b.plane (b.x + get_or walk_places j 0 % 4) (b.y + get_or walk_places j 0 / 4)) (sym s)
 
+  -- a block of the frame's order lies in the frame
+  pub inside : (i : ℕ) → i < blocks_of f w h → (b : Block) → b ≡ get_or (frame_order f w h) i (block 0 0 0) → InFrame f w h b
+  inside i l b e = subst (InFrame f w h) (sym e) (frame_back f w h i l).0
+
   -- the number of a block by that of the first one
-  pub whole_number : (i : ℕ) → WholeAt f w h i → i + 16 ≤ blocks_of f w h → (b : Block) → b ≡ get_or (frame_order f w h) i (block 0 0 0) → (corner a : ℕ) → corner ≡ raster_number f w h b → a ≡ across f w b.plane
-      → (j : ℕ) → j < 16 → corner + get_or walk_places j 0 / 4 * a + get_or walk_places j 0 % 4 ≡ get_or (order f w h) (i + j) 0
+  pub whole_number : (i : ℕ) → WholeAt f w h i → i + 16 ≤ blocks_of f w h → (b : Block) → b ≡ get_or (frame_order f w h) i (block 0 0 0) → (corner : ℕ) → corner ≡ raster_number f w h b → (q : Plane) → q ≡ plane_of f w h b.plane
+      → (place j : ℕ) → j < 16 → place ≡ get_or walk_places j 0 → let n = corner + place / 4 * q.across + place % 4 in (n ≡ get_or (order f w h) (i + j) 0) × (n < blocks_of f w h)
   unfolding WholeAt raster_number
-  whole_number i z m b e corner a ec ea j l =
-      let x = get_or walk_places j 0 % 4 in
-      let y = get_or walk_places j 0 / 4 in
+  whole_number i z m b e corner ec q eq place j l ep =
+      let x = place % 4 in
+      let y = place / 4 in
       let n = across f w b.plane in
       let r : blocks_before f w h b.plane + (b.y * n + b.x) + y * n + x ≡ blocks_before f w h b.plane + ((b.y + y) * n + (b.x + x)) = omega (arith, add-mul b.y y n) in
-      (λ d. ec d + y * ea d + x)
+      let is : corner + y * q.across + x ≡ get_or (order f w h) (i + j) 0 =
+      (λ d. ec d + y * (eq d).across + x)
       ∙ r
       ∙ ap (λ (c : Block). raster_number f w h (block c.plane (c.x + x) (c.y + y))) e
+      ∙ ap (λ (p : ℕ). let c = get_or (frame_order f w h) i (block 0 0 0) in raster_number f w h (block c.plane (c.x + p % 4) (c.y + p / 4))) ep
       ∙ ap (raster_number f w h) (sym (z j l))
-      ∙ sym (order_at f w h (i + j) (omega arith))
+      ∙ sym (order_at f w h (i + j) (omega arith)) in
+      (is, omega (arith, order_small f w h (i + j) (omega arith)))

@@ -69,10 +69,8 @@ pub fn list_cut(
     ensures { (result ≤ end) × Goes (order format w h) flags.now records.old coded.old before first records.new coded.new result (end) }
 {
     let mut count = before;
-    let mut i = first;
-    while i < end {
+    for i in first..end {
         count = list_block(format, w, h, i, flags[i], records, coded, count);
-        i += 1;
     }
     count
 }
@@ -94,31 +92,25 @@ pub fn list_whole(
 {
     let b = geometry::block_at(format, w, h, first as u64);
     let corner = geometry::raster_number(format, w, h, b);
-    let plane = geometry::plane_of(format, w, h, b.plane);
-    let a = plane.across;
-    let walk = WALK;
+    let across = geometry::plane_of(format, w, h, b.plane).across;
     let mut count = before;
-    let mut j: usize = 0;
-    while j < 16 {
-        let place = walk[j] as u64;
-        let n = corner + place / 4 * a + place % 4;
+    for (j, place) in WALK.iter().enumerate() {
+        let place = u64::from(*place);
+        let n = corner + place / 4 * across + place % 4;
         count = list_number(n, flags[first + j], records, coded, count);
-        j += 1;
     }
     count
 }
 
-// Is none of the flags from `first` to before `end` 1?
+// Is none of the flags from `first` to before `end` 1? The loop looks at all of them, so that the compiler takes sixteen at a time.
+#[tactic(auto, unfolding(crate::specs::Listing::NoneSet))]
 pub fn none_set(flags: &[u8], first: usize, end: usize) -> bool
     requires { (first ≤ end) × (end ≤ length flags.now) }
     ensures { result ≡ true → NoneSet flags.now first end }
 {
     let mut none = true;
-    let mut i = first;
-    while i < end {
-        let set = flags[i] == 1;
-        none = none & !set;
-        i += 1;
+    for flag in &flags[first..end] {
+        none &= *flag != 1;
     }
     none
 }

@@ -25,10 +25,6 @@ module _ (first row rows t : ℕ) (previous new : List ℕ) where
   abbrev pub strip_at : ℕ → List ℕ
   strip_at y = strip_map (first + t * y * row) row (reach t rows y) t previous new
 
-  pub strips_all : in_turn strip_at (tiles t rows) ≡ plane_map first row rows t previous new
-  unfolding plane_map
-  strips_all = refl
-
   pub no_strip : (map : List ℕ) → take 0 map ≡ in_turn strip_at 0
   unfolding in_turn
   no_strip map = refl

@@ -1,13 +1,11 @@
 -- Bytes of tiles, row by row of samples. Assumes nothing.
 use Prim.Native.Nat.{ℕ, ◌+◌, ◌*◌, ◌/◌, ◌%◌, ◌≤◌, ◌<◌}
-use native.Mathlib.Nat.{mul_assoc, zero-add, eq-or-lt_of_le}
+use native.Mathlib.Nat.{mul_assoc, zero-add}
 use native.Mathlib.Omega.{arith}
 use mathlib.Core.Path.{◌≡◌, refl, sym, ap, ◌∙◌, subst}
 use mathlib.Core.Bool.{Bool, true, false, ◌||◌}
 use mathlib.Core.List.{List}
-use mathlib.Core.Logic.{◌⊎◌, inl, inr}
-use lib.ListN.{length, get_or, set, replicate, length-replicate, get_or-replicate}
-use lib.Seq.{get_or-set_same, get_or-set_other}
+use lib.ListN.{length, get_or, replicate, length-replicate, get_or-replicate}
 use Rattle.bitstream.specs.Lists.{tabulated}
 use Rattle.bitstream.specs.Reading.{choose}
 use Rattle.bitstream.proofs.Lists.{tabulated_length, tabulated_at, tabulated_same, tabulated_is}
@@ -18,15 +16,7 @@ use Rattle.tile_map.specs.Tiles.{some, differ, flag, changed_in, strip_map, IsTi
 use Rattle.tile_map.proofs.Some.{some_more, differ_part}
 
 -- ---- one byte
--- what was 1 stays 1
-pub byte_kept : (d : Bool) (byte : ℕ) → (byte ≡ 0 → ⊥) → byte ≤ 1 → byte ≡ choose d 1 byte
-byte_kept true byte some small = omega arith
-byte_kept false byte some small = refl
-
-pub byte_set : (d : Bool) (byte : ℕ) → d ≡ true → 1 ≡ choose d 1 byte
-byte_set d byte h = rw h
-
-pub byte_left : (d : Bool) (byte : ℕ) → d ≡ false → byte ≡ choose d 1 byte
+byte_left : (d : Bool) (byte : ℕ) → d ≡ false → byte ≡ choose d 1 byte
 byte_left d byte h = rw h
 
 pub flag_small : (b : Bool) → flag b ≤ 1
@@ -38,18 +28,6 @@ flag_or true true = refl
 flag_or true false = refl
 flag_or false true = refl
 flag_or false false = refl
-
--- ---- bytes set one after the other
-module _ (l : List ℕ) (f : ℕ → ℕ) (x v : ℕ) (there : x < length l) where
-  pub set_front : v ≡ f x → ((i : ℕ) → i < x → get_or l i 0 ≡ f i) → (i : ℕ) → i < x + 1 → get_or (set l x v) i 0 ≡ f i
-  set_front e h i k = by (eq-or-lt_of_le (omega arith))
-    where
-      by : (i ≡ x) ⊎ (i < x) → get_or (set l x v) i 0 ≡ f i
-      by (inl q) = ap (λ (j : ℕ). get_or (set l x v) j 0) q ∙ get_or-set_same l x v 0 there ∙ e ∙ ap f (sym q)
-      by (inr s) = get_or-set_other l x i v 0 (omega arith) ∙ h i s
-
-  pub set_rest : ((i : ℕ) → x ≤ i → get_or l i 0 ≡ f i) → (i : ℕ) → x + 1 ≤ i → get_or (set l x v) i 0 ≡ f i
-  set_rest h i k = get_or-set_other l x i v 0 (omega arith) ∙ h i (omega arith)
 
 -- ---- where the tiles of a row lie
 module _ (t row x : ℕ) (there : x < tiles t row) (tile : IsTile t) where
@@ -66,17 +44,18 @@ module _ (t row x : ℕ) (there : x < tiles t row) (tile : IsTile t) where
       omega (arith, tile.1, p)
 
 -- ---- a row of samples that marks tiles
-module _ (previous new : List ℕ) (from row t : ℕ) (tile : IsTile t) (map : List ℕ) (size : length map ≡ tiles t row) where
-  abbrev pub marked_at : ℕ → ℕ
-  marked_at x = choose (differ previous new (from + t * x) (reach t row x)) 1 (get_or map x 0)
+-- the byte of tile x after it
+abbrev pub marked_at : (previous new : List ℕ) (from row t : ℕ) → List ℕ → ℕ → ℕ
+marked_at previous new from row t map x = choose (differ previous new (from + t * x) (reach t row x)) 1 (get_or map x 0)
 
-  pub marked_is : (l : List ℕ) → length l ≡ length map → ((x : ℕ) → x < length map → get_or l x 0 ≡ marked_at x) → l ≡ marked previous new from row t map
+module _ (previous new : List ℕ) (from row t : ℕ) (map : List ℕ) where
+  pub marked_is : (l : List ℕ) → length l ≡ length map → ((x : ℕ) → x < length map → get_or l x 0 ≡ marked_at previous new from row t map x) → l ≡ marked previous new from row t map
   unfolding marked
-  marked_is l e h = tabulated_is marked_at (length map) l e h
+  marked_is l e h = tabulated_is (marked_at previous new from row t map) (length map) l e h
 
   -- a row that is the same marks none
-  pub marked_none : differ previous new from row ≡ false → map ≡ marked previous new from row t map
-  marked_none same =
+  pub marked_none : IsTile t → length map ≡ tiles t row → differ previous new from row ≡ false → map ≡ marked previous new from row t map
+  marked_none tile size same =
       marked_is map refl (λ x l.
       let r = reach_inside t row x (omega (arith, size)) tile in
       byte_left (differ previous new (from + t * x) (reach t row x)) (get_or map x 0) (differ_part previous new from row (from + t * x) (reach t row x) (omega arith) (omega (arith, r)) same))

@@ -1,7 +1,7 @@
 // Which tiles of a plane changed: one byte to a tile.
 #![tactic(auto)]
 
-ghost use Rattle.std.specs.Prelude.{◌≡◌, ◌+◌, ◌*◌, ◌%◌, ◌≤◌, ◌<◌, min, length};
+ghost use Rattle.std.specs.Prelude.{◌≡◌, ◌+◌, ◌*◌, ◌%◌, ◌≤◌, ◌<◌, length};
 ghost use Rattle.bitstream.specs.Reading.{choose};
 ghost use Rattle.geometry.specs.Sizes.{squares as tiles, blocks_of, largest};
 ghost use Rattle.tile_map.specs.Tiles.{differ, strip_map, plane_map, map_length, tile_map, IsTile, Both, Flags, marked};
@@ -9,42 +9,32 @@ ghost use Rattle.tile_map.specs.Tiles.{differ, strip_map, plane_map, map_length,
 use geometry::PixelFormat;
 
 // Whether some of the n samples from `at` on differs. The loop looks at all of them, so that the compiler takes sixteen at a time.
+#[tactic(auto, using(crate::proofs::Some::differ_none, crate::proofs::Some::differ_more))]
 fn differ(previous: &[u8], new: &[u8], at: usize, n: usize) -> bool
     requires { Both previous.now new.now at n }
     ensures { result ≡ differ previous.now new.now at n }
 {
     let mut found = false;
-    let mut i: usize = 0;
-    while i < n {
-        let k = at + i;
-        found = found | (previous[k] != new[k]);
-        i += 1;
+    for i in 0..n {
+        found |= previous[at + i] != new[at + i];
     }
     found
 }
 
-// The same of a few eights: eight samples are one comparison.
+// The same of a few eights: eight samples are one comparison. As a `for` over the eights the compiler takes several of them at a time, and a map takes
+// up to twice as long.
+#[tactic(auto, using(crate::proofs::Some::differ_none, crate::proofs::Some::differ_add))]
 fn eights_differ(previous: &[u8], new: &[u8], at: usize, n: usize) -> bool
     requires { Both previous.now new.now at n × (n % 8 ≡ 0) }
     ensures { result ≡ differ previous.now new.now at n }
 {
     let mut found = false;
-    let mut i: usize = 0;
+    let mut i = 0;
     while i < n {
-        let eight = differ(previous, new, at + i, 8);
-        found = found | eight;
+        found |= differ(previous, new, at + i, 8);
         i += 8;
     }
     found
-}
-
-fn lesser(a: usize, b: usize) -> usize
-    ensures { result ≡ min a b }
-{
-    if a < b {
-        return a;
-    }
-    b
 }
 
 // The byte of a tile after n samples more. A tile that is known to have changed is not looked at.
@@ -52,13 +42,11 @@ fn mark(byte: u8, previous: &[u8], new: &[u8], at: usize, n: usize) -> u8
     requires { (byte ≤ 1) × Both previous.now new.now at n × (n % 8 ≡ 0) }
     ensures { result ≡ choose (differ previous.now new.now at n) 1 byte }
 {
-    if byte != 0 {
-        return byte;
+    if byte == 0 && eights_differ(previous, new, at, n) {
+        1
+    } else {
+        byte
     }
-    if eights_differ(previous, new, at, n) {
-        return 1;
-    }
-    byte
 }
 
 // Marks the tiles in which a row of samples differs.
@@ -66,24 +54,22 @@ fn mark_tiles(previous: &[u8], new: &[u8], from: usize, row: usize, tile: usize,
     requires { IsTile tile × (row % 8 ≡ 0) × Both previous.now new.now from row × (length map.old ≡ tiles tile row) × Flags map.old }
     ensures { map.new ≡ marked previous.now new.now from row tile map.old }
 {
-    let mut x: usize = 0;
-    while x < map.len() {
+    for (x, byte) in map.iter_mut().enumerate() {
         let column = tile * x;
-        let n = lesser(tile, row - column);
-        map[x] = mark(map[x], previous, new, from + column, n);
-        x += 1;
+        let n = usize::min(tile, row - column);
+        *byte = mark(*byte, previous, new, from + column, n);
     }
 }
 
 // The same, with one look at the whole row before: most rows of most frames are as they were.
+#[tactic(auto, using(crate::proofs::Strips::marked_none))]
 fn mark_row(previous: &[u8], new: &[u8], from: usize, row: usize, tile: usize, map: &mut [u8])
     requires { IsTile tile × (row % 8 ≡ 0) × Both previous.now new.now from row × (length map.old ≡ tiles tile row) × Flags map.old }
     ensures { map.new ≡ marked previous.now new.now from row tile map.old }
 {
-    if !differ(previous, new, from, row) {
-        return;
+    if differ(previous, new, from, row) {
+        mark_tiles(previous, new, from, row, tile, map);
     }
-    mark_tiles(previous, new, from, row, tile, map);
 }
 
 // A row of tiles: so many rows of samples, from `from` on.
@@ -101,12 +87,8 @@ fn write_tile_row(
 {
     let n = map.len();
     buffer::clear_bytes(map, n);
-    let mut at = from;
-    let mut r: usize = 0;
-    while r < rows {
-        mark_row(previous, new, at, row, tile, map);
-        at += row;
-        r += 1;
+    for r in 0..rows {
+        mark_row(previous, new, from + r * row, row, tile, map);
     }
 }
 
@@ -126,16 +108,12 @@ fn write_tiles(
 {
     let across = (row + (tile - 1)) / tile;
     let up = (rows + (tile - 1)) / tile;
-    let mut at: usize = 0;
-    let mut y: usize = 0;
-    while y < up {
+    for y in 0..up {
         let r = tile * y;
-        let n = lesser(tile, rows - r);
+        let n = usize::min(tile, rows - r);
         let from = first + r * row;
-        let end = at + across;
-        write_tile_row(previous, new, from, row, n, tile, &mut map[at..end]);
-        at = end;
-        y += 1;
+        let at = y * across;
+        write_tile_row(previous, new, from, row, n, tile, &mut map[at..at + across]);
     }
 }
 

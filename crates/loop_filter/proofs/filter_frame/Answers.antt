@@ -1,23 +1,14 @@
--- `loop_filter::filter_frame` meets its contract.
--- Assumes nothing.
-use mathlib.Core.Path.{◌≡◌, sym, ap, ◌∙◌}
-use Prim.Native.Nat.{ℕ}
-use native.Mathlib.Omega.{arith}
-use Rattle.ways.specs.Ways.{filter_all}
-use Rattle.edge_filter.specs.Filter.{filtered}
-use Rattle.block_edges.specs.Flags.{coded_by}
-use Rattle.loop_filter.proofs.Frame.{steps, planes_all}
+use Rattle.std.proofs.Common.{◌≡◌, sym, ◌∙◌, arith}
+use Rattle.loop_filter.proofs.Frame.{planes_all}
 use Rattle.loop_filter.proofs.Zero.{zero_filter}
 use Rattle.loop_filter.proofs.filter_frame.Goals as goal
 
 pub returns-then-limit-eq0 : goal.returns-then-limit-eq0
-returns-then-limit-eq0 c = let coded = coded_by c.args.format c.args.w c.args.h c.args.records.now in
-    let e : 0 ≡ c.args.limit = omega arith in
-    sym (zero_filter c.args.new.now (λ i. omega (arith, c.slice_known-1.given i)) c.args.format c.args.w c.args.h coded)
-    ∙ ap (λ (L : ℕ). filter_all c.args.format c.args.w c.args.h coded (filtered L) c.args.new.now) e
+returns-then-limit-eq0 c =
+    let e : c.args.limit ≡ 0 = omega arith in
+    rw e (sym (zero_filter c.args.new.now (λ i. omega (arith, c.type_inv.new i)) c.args.format c.args.w c.args.h _))
 
 pub returns : goal.returns
-returns c = let plane = steps c.args.format c.args.w c.args.h c.args.records.now c.args.limit in
-    c.filter_frame_plane-3.ensures
-    ∙ ap (plane 2) (c.filter_frame_plane-2.ensures ∙ ap (plane 1) c.filter_frame_plane.ensures)
-    ∙ planes_all c.args.format c.args.w c.args.h c.args.records.now c.args.limit c.args.new.now
+returns c =
+    let e : c.loop-p.p ≡ 3 = omega arith in
+    rw e at c.loop-p.invariant ∙ planes_all c.args.format c.args.w c.args.h c.args.records.now c.args.limit c.args.new.now

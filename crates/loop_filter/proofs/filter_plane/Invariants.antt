@@ -1,14 +1,8 @@
--- `loop_filter::filter_plane` meets its contract. The loop's invariant: y of the steps are made.
--- Assumes nothing.
-use mathlib.Core.Path.{◌≡◌}
-use Prim.Native.Nat.{◌-◌, ◌≤◌}
-use lib.ListN.{length}
+-- `loop_filter::filter_plane` meets its contract. The loop's invariant: y of the steps are made. Assumes nothing.
+use Rattle.std.proofs.Common.{◌≡◌}
 use Rattle.ways.specs.Loops.{up_to}
 use Rattle.loop_filter.specs.Plane.{row_steps}
 use Rattle.loop_filter.proofs.filter_plane.Given as goal
 
 abbrev pub invariant-loop-y : goal.invariant-loop-y
-invariant-loop-y l = (l.y ≤ l.u) × (length l.s ≡ length l.initial.s) × (l.s ≡ up_to l.y (row_steps l.records l.limit l.first l.a l.u) l.initial.s)
-
-abbrev pub decreases-loop-y : goal.decreases-loop-y
-decreases-loop-y l = l.u - l.y
+invariant-loop-y l = l.s ≡ up_to l.y (row_steps l.records l.limit l.first l.a l.u) l.initial.s

@@ -1,6 +1,5 @@
 -- `tile_map::eights_differ` meets its contract. The loop's invariant: what was found among the first i. Assumes nothing.
-use Prim.Native.Nat.{◌-◌, ◌%◌, ◌≤◌}
-use mathlib.Core.Path.{◌≡◌}
+use Rattle.std.proofs.Common.{◌≡◌, ◌≤◌, ◌-◌, ◌%◌}
 use Rattle.tile_map.specs.Tiles.{differ}
 use Rattle.tile_map.proofs.eights_differ.Given as goal
 

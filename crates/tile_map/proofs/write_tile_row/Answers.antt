@@ -1,9 +1,4 @@
-use Prim.Native.Nat.{ℕ, ◌*◌}
-use native.Mathlib.Nat.{suc-mul, zero-mul}
-use native.Mathlib.Omega.{arith}
-use mathlib.Core.Path.{◌≡◌, sym, ap, ◌∙◌, subst}
-use mathlib.Core.List.{List}
-use lib.ListN.{length}
+use Rattle.std.proofs.Common.{ℕ, ◌+◌, ◌*◌, List, length, ap, sym, ◌∙◌, subst, arith}
 use Rattle.buffer.proofs.Laws.{cleared_all}
 use Rattle.rows.proofs.Facts.{row_fits}
 use Rattle.tile_map.specs.Tiles.{marked, Flags}
@@ -11,22 +6,16 @@ use Rattle.tile_map.proofs.Strips.{strip_none, strip_more, strip_length, strip_f
 use Rattle.tile_map.proofs.write_tile_row.Goals as goal
 
 pub loop-r-init : goal.loop-r-init
-loop-r-init c = let e : 0 * c.args.row ≡ 0 = zero-mul c.args.row in (
-  omega arith,
-  omega (arith, e),
-  c.clear_bytes.ensures ∙ cleared_all 0 c.args.map.now ∙ strip_none c.args.previous.now c.args.new.now c.args.from c.args.row c.args.tile c.args.map.now c.requires.3,
-)
+loop-r-init c = c.clear_bytes.ensures ∙ cleared_all 0 c.args.map.now ∙ strip_none c.args.previous.now c.args.new.now c.args.from c.args.row c.args.tile c.args.map.now c.requires.3
 
 pub mark_row-requires : goal.mark_row-requires
-mark_row-requires c = let h = row_fits c.loop-r.r c.args.rows c.args.row c.loop-r-test.true in
-    let size = ap (λ (m : List ℕ). length m) c.loop-r.invariant.2 ∙ strip_length c.args.previous.now c.args.new.now c.args.from c.args.row c.args.tile c.loop-r.r in
-    (c.requires.0, c.requires.1, (omega (arith, h, c.loop-r.invariant.1, c.requires.2.0), omega (arith, h, c.loop-r.invariant.1, c.requires.2.1)), size, subst (λ (m : List ℕ). Flags m) (sym c.loop-r.invariant.2) (strip_flags c.args.previous.now c.args.new.now c.args.from c.args.row c.args.tile c.loop-r.r))
+mark_row-requires c =
+    let h = row_fits c.loop-r.r c.args.rows c.args.row c.loop-r-test.true in
+    let size = ap (λ (m : List ℕ). length m) c.loop-r.invariant ∙ strip_length c.args.previous.now c.args.new.now c.args.from c.args.row c.args.tile c.loop-r.r in
+    (c.requires.0, c.requires.1, (omega arith, omega arith), size, subst Flags (sym c.loop-r.invariant) (strip_flags c.args.previous.now c.args.new.now c.args.from c.args.row c.args.tile c.loop-r.r))
 
 pub loop-r-preserved : goal.loop-r-preserved
-loop-r-preserved c = let s = suc-mul c.loop-r.r c.args.row in (
-  omega arith,
-  omega (arith, c.loop-r.invariant.1, s),
-  c.mark_row.ensures
-      ∙ (λ i. marked c.args.previous.now c.args.new.now (c.loop-r.invariant.1 i) c.args.row c.args.tile (c.loop-r.invariant.2 i))
-      ∙ strip_more c.args.previous.now c.args.new.now c.args.from c.args.row c.args.tile c.loop-r.r,
-)
+loop-r-preserved c =
+    c.mark_row.ensures
+    ∙ ap (marked c.args.previous.now c.args.new.now (c.args.from + c.loop-r.r * c.args.row) c.args.row c.args.tile) c.loop-r.invariant
+    ∙ strip_more c.args.previous.now c.args.new.now c.args.from c.args.row c.args.tile c.loop-r.r

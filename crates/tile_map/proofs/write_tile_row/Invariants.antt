@@ -1,11 +1,7 @@
 -- `tile_map::write_tile_row` meets its contract. The loop's invariant: what r rows say. Assumes nothing.
-use Prim.Native.Nat.{◌+◌, ◌-◌, ◌*◌, ◌≤◌}
-use mathlib.Core.Path.{◌≡◌}
+use Rattle.std.proofs.Common.{◌≡◌}
 use Rattle.tile_map.specs.Tiles.{strip_map}
 use Rattle.tile_map.proofs.write_tile_row.Given as goal
 
 abbrev pub invariant-loop-r : goal.invariant-loop-r
-invariant-loop-r l = (l.r ≤ l.rows) × (l.at ≡ l.from + l.r * l.row) × (l.map ≡ strip_map l.from l.row l.r l.tile l.previous l.new)
-
-abbrev pub decreases-loop-r : goal.decreases-loop-r
-decreases-loop-r l = l.rows - l.r
+invariant-loop-r l = l.map ≡ strip_map l.from l.row l.r l.tile l.previous l.new

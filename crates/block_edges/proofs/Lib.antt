@@ -1,2 +1,0 @@
--- Facts: a step or a neighbour that is wanted or not. Assumes nothing.
-pub mod Facts

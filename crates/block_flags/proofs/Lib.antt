@@ -1,2 +1,0 @@
--- Flags: what the functions' proofs need. Assumes nothing.
-pub mod Flags

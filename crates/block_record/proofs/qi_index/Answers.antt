@@ -1,8 +1,0 @@
--- `block_record::qi_index` meets its contract. Assumes nothing.
-use mathlib.Core.Path.{refl}
-use Rattle.block_record.specs.Packed.{unpacked}
-use Rattle.block_record.proofs.qi_index.Goals as goal
-
-pub returns : goal.returns
-unfolding unpacked
-returns c = refl
