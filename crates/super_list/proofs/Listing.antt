@@ -87,11 +87,13 @@ module _ (bs flags records coded : List ℕ) (count i : ℕ) where
       λ records₀ coded₀ l. listing_by bs flags records₀ coded₀ records' coded' count' i' (g records₀ coded₀ l) hb hf hc records'' coded'' count'' en er ec
 
   -- the same, where the number of the block and the number of what is done are known by equations
-  pub goes_next : (records' coded' : List ℕ) (count' i' n next : ℕ) → Goes bs flags records coded count i records' coded' count' i' → i' < length bs → i' < length flags → count' < length coded' → n ≡ get_or bs i' 0 → next ≡ i' + 1
+  pub goes_next : (records' coded' : List ℕ) (count' i' n next : ℕ) → Goes bs flags records coded count i records' coded' count' i' → i' < length bs → i' < length flags
+      → count' < length coded' → n ≡ get_or bs i' 0 → next ≡ i' + 1
       → (records'' coded'' : List ℕ) (count'' : ℕ) → let t = eqb (get_or flags i' 0) 1 in
       count'' ≡ choose t (count' + 1) count' → records'' ≡ choose t (set records' n (packed now_coded)) records' → coded'' ≡ choose t (set coded' count' n) coded'
       → Goes bs flags records coded count i records'' coded'' count'' next
-  goes_next records' coded' count' i' n next g hb hf hc e d records'' coded'' count'' en er ec = rw d (goes_on records' coded' count' i' g hb hf hc records'' coded'' count'' en (rw (← e) er) (rw (← e) ec))
+  goes_next records' coded' count' i' n next g hb hf hc e d records'' coded'' count'' en er ec =
+      rw d (goes_on records' coded' count' i' g hb hf hc records'' coded'' count'' en (rw (← e) er) (rw (← e) ec))
 
   pub goes_none : Goes bs flags records coded count i records coded count (i + 0)
   goes_none = let z : i ≡ i + 0 = omega arith in λ records₀ coded₀ g. subst (λ (k : ℕ). Listing bs flags records₀ coded₀ records coded count k) z g

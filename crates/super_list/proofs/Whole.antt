@@ -140,7 +140,8 @@ module _ (f : PixelFormat) (w h : ℕ) where
   inside i l b e = subst (InFrame f w h) (sym e) (frame_back f w h i l).0
 
   -- the number of a block by that of the first one
-  pub whole_number : (i : ℕ) → WholeAt f w h i → i + 16 ≤ blocks_of f w h → (b : Block) → b ≡ get_or (frame_order f w h) i (block 0 0 0) → (corner : ℕ) → corner ≡ raster_number f w h b → (q : Plane) → q ≡ plane_of f w h b.plane
+  pub whole_number : (i : ℕ) → WholeAt f w h i → i + 16 ≤ blocks_of f w h → (b : Block) → b ≡ get_or (frame_order f w h) i (block 0 0 0)
+      → (corner : ℕ) → corner ≡ raster_number f w h b → (q : Plane) → q ≡ plane_of f w h b.plane
       → (place j : ℕ) → j < 16 → place ≡ get_or walk_places j 0 → let n = corner + place / 4 * q.across + place % 4 in (n ≡ get_or (order f w h) (i + j) 0) × (n < blocks_of f w h)
   unfolding WholeAt raster_number
   whole_number i z m b e corner ec q eq place j l ep =

@@ -36,7 +36,8 @@ list_super-count-requires c =
 pub loop-k-preserved : goal.loop-k-preserved
 loop-k-preserved c =
     let s = c.super_block-s.ensures in
-    let next : c.super_block-s.result.first + c.super_block-s.result.count ≡ first_of c.args.format c.args.w c.args.h (c.loop-k.k + 1) = omega (arith, first_next c.args.format c.args.w c.args.h c.loop-k.k) in
+    let next : c.super_block-s.result.first + c.super_block-s.result.count ≡ first_of c.args.format c.args.w c.args.h (c.loop-k.k + 1) =
+    omega (arith, first_next c.args.format c.args.w c.args.h c.loop-k.k) in
     rw (← next) (c.list_super-count.ensures.0, c.list_super-count.ensures.1 _ _ (rw s.0 c.loop-k.invariant.1))
 
 pub slice_bounds-count_ones-end : goal.slice_bounds-count_ones-end
@@ -47,11 +48,15 @@ unfolding coded_blocks coded_luma
 returns c =
     let supers : c.sizes-k-end.result.super_blocks ≡ super_blocks_of c.args.format c.args.w c.args.h = ap (λ (s : FrameSizes). s.super_blocks) c.sizes-k-end.ensures in
     let z : c.loop-k.k ≡ super_blocks_of c.args.format c.args.w c.args.h = omega arith in
-    let y : first_of c.args.format c.args.w c.args.h c.loop-k.k ≡ blocks_of c.args.format c.args.w c.args.h = ap (first_of c.args.format c.args.w c.args.h) z ∙ first_all c.args.format c.args.w c.args.h in
+    let y : first_of c.args.format c.args.w c.args.h c.loop-k.k ≡ blocks_of c.args.format c.args.w c.args.h =
+    ap (first_of c.args.format c.args.w c.args.h) z ∙ first_all c.args.format c.args.w c.args.h in
     let r : length (order c.args.format c.args.w c.args.h) ≤ first_of c.args.format c.args.w c.args.h c.loop-k.k = omega (arith, order_length c.args.format c.args.w c.args.h) in
     let m : c.loop-k.count ≤ length c.loop-k.coded = omega arith in
     let l = c.loop-k.invariant.1 in record {
-      value = listed_by c.args.format c.args.w c.args.h c.args.flags.now _ _ (listing_count _ _ _ _ _ _ _ _ l r m) (c.count_ones-first.ensures.0 ∙ ap (λ (k : ℕ). ones (take k c.args.flags.now)) (luma_blocks c.args.format c.args.w c.args.h c.plane_of-luma.result c.plane_of-luma.ensures));
-      records_after = listing_marks _ _ _ _ _ _ _ _ l r m ∙ ap (set_at (packed now_coded) (coded_blocks c.args.format c.args.w c.args.h c.args.flags.now)) c.requires.3 ∙ sym (records_packed c.args.format c.args.w c.args.h c.args.flags.now);
+      value = listed_by c.args.format c.args.w c.args.h c.args.flags.now _ _ (listing_count _ _ _ _ _ _ _ _ l r m)
+          (c.count_ones-first.ensures.0 ∙ ap (λ (k : ℕ). ones (take k c.args.flags.now))
+          (luma_blocks c.args.format c.args.w c.args.h c.plane_of-luma.result c.plane_of-luma.ensures));
+      records_after = listing_marks _ _ _ _ _ _ _ _ l r m
+          ∙ ap (set_at (packed now_coded) (coded_blocks c.args.format c.args.w c.args.h c.args.flags.now)) c.requires.3 ∙ sym (records_packed c.args.format c.args.w c.args.h c.args.flags.now);
       coded_after = listing_numbers _ _ _ _ _ _ _ _ l r m;
     }

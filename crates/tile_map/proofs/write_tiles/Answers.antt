@@ -28,7 +28,8 @@ loop-y-preserved c =
     let t = tiles c.args.tile c.args.row in
     let room : c.loop-y.y * t + t ≤ length c.loop-y.map = omega (arith, row_fits c.loop-y.y (tiles c.args.tile c.args.rows) t c.loop-y-test.true) in
     let next : (c.loop-y.y + 1) * t ≡ c.loop-y.y * t + t = omega arith in
-    rw next (strips_more c.args.first c.args.row c.args.rows c.args.tile c.args.previous.now c.args.new.now c.loop-y.y (c.loop-y.y * t) c.loop-y.map _ room c.loop-y.invariant (rw c.min-n.ensures at c.write_tile_row.ensures))
+    rw next (strips_more c.args.first c.args.row c.args.rows c.args.tile c.args.previous.now c.args.new.now
+    c.loop-y.y (c.loop-y.y * t) c.loop-y.map _ room c.loop-y.invariant (rw c.min-n.ensures at c.write_tile_row.ensures))
 
 pub returns : goal.returns
 unfolding plane_map
