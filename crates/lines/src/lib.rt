@@ -53,14 +53,12 @@ fn upper_product(c: u16, x: i16) -> i16
     (((w * (c as i32 - 65536)) >> 16) + w) as i16
 }
 
-#[tactic(auto, using(crate::proofs::Low16::add_cut, crate::proofs::Low16::sub_cut))]
 fn weighted_sum(c: u16, x: i16, d: u16, y: i16) -> i16
     ensures { result ≡ cut (upper_product c x +ℤ upper_product d y) }
 {
     upper_product(c, x).wrapping_add(upper_product(d, y))
 }
 
-#[tactic(auto, using(crate::proofs::Low16::add_cut, crate::proofs::Low16::sub_cut))]
 fn weighted_difference(c: u16, x: i16, d: u16, y: i16) -> i16
     ensures { result ≡ cut (upper_product c x -ℤ upper_product d y) }
 {

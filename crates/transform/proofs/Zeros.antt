@@ -21,7 +21,12 @@ abbrev pub zeros : Line
 zeros = record { x0 = pos 0; x1 = pos 0; x2 = pos 0; x3 = pos 0; x4 = pos 0; x5 = pos 0; x6 = pos 0; x7 = pos 0 }
 
 -- a line that equals it, as the code tests that
-pub all_zero : (l : Line) → not (int_eq l.x0 (pos 0) && (int_eq l.x1 (pos 0) && (int_eq l.x2 (pos 0) && (int_eq l.x3 (pos 0) && (int_eq l.x4 (pos 0) && (int_eq l.x5 (pos 0) && (int_eq l.x6 (pos 0) && int_eq l.x7 (pos 0)))))))) ≡ false → l ≡ zeros
+abbrev is_zero : Line → Bool
+is_zero l =
+    int_eq l.x0 (pos 0) && (int_eq l.x1 (pos 0) && (int_eq l.x2 (pos 0) && (int_eq l.x3 (pos 0)
+    && (int_eq l.x4 (pos 0) && (int_eq l.x5 (pos 0) && (int_eq l.x6 (pos 0) && int_eq l.x7 (pos 0)))))))
+
+pub all_zero : (l : Line) → not (is_zero l) ≡ false → l ≡ zeros
 all_zero l e =
     let zero = λ (x : ℤ) (t : int_eq x (pos 0) ≡ true). (Decides-int_eq x (pos 0)).0 t in
     let p0 = and_parts _ _ (not-false _ e) in
