@@ -1,6 +1,6 @@
 -- What a band says of its blocks. Assumes nothing.
 use mathlib.Core.Path.{◌≡◌, refl, sym, ap, ◌∙◌, subst}
-use Prim.Native.Nat.{ℕ, min, suc, ◌+◌, ◌-◌, ◌*◌, ◌/◌, ◌≤◌, ◌<◌}
+use Prim.Native.Nat.{ℕ, suc, ◌+◌, ◌-◌, ◌*◌, ◌/◌, ◌≤◌, ◌<◌}
 use native.Mathlib.Nat.{suc-mul, mul-le-mul_right, lt_of_mul-lt-mul_right}
 use native.Mathlib.Omega.{arith}
 use Rattle.geometry.specs.declared.PixelFormat.{PixelFormat}
@@ -63,10 +63,10 @@ module _ (f : PixelFormat) (w h : ℕ) where
           let m : q.length ≡ 64 * plane_blocks f w h b.plane = ap (λ (q : Plane). q.length) g in
           omega (arith, o, m, before_next f w h b.plane)
 
-      in_four : n < n - b.x + 4 * q.across
+      pub in_four : n < n - b.x + 4 * q.across
       in_four = omega (arith, wide, column_below, in_frame.column)
 
-      in_plane : n < (q.offset + q.length) / 64
+      pub in_plane : n < (q.offset + q.length) / 64
       in_plane =
           omega (
             arith,
@@ -78,15 +78,15 @@ module _ (f : PixelFormat) (w h : ℕ) where
             mul-le-mul_right (across f w b.plane) in_frame.row,
           )
 
-      pub from_row : (end : ℕ) → end ≡ min (n - b.x + 4 * q.across) ((q.offset + q.length) / 64)
+      pub from_row : (end : ℕ) → end ≤ (q.offset + q.length) / 64 → end ≤ n - b.x + 4 * q.across → n < end
           → InBand f w h (record { plane = b.plane; y = b.y; first = n - b.x; end = end }) n
-      from_row end m = record {
+      from_row end hp hr hn = record {
         band = record {
           of_three = in_frame.of_three;
           start = omega (arith, row_start);
-          in_plane = omega (arith, behind);
-          four_rows = omega (arith, wide);
+          in_plane = omega (arith, behind, hp);
+          four_rows = omega (arith, wide, hr);
         };
         from = omega (arith, column_below);
-        before = omega (arith, in_four, in_plane);
+        before = hn;
       }

@@ -206,3 +206,13 @@ pub fn fill_chroma_rows(tables: &[i32], rows: &mut [i32])
         put_part(c, rows, 9 * k + 6);
     }
 }
+
+// The same, by value.
+pub fn chroma_rows(tables: &[i32]) -> [i32; 4608]
+    requires { tables.now ≡ contributions }
+    ensures { result ≡ chroma_rows }
+{
+    let mut rows = [0i32; 4608];
+    fill_chroma_rows(tables, &mut rows);
+    rows
+}

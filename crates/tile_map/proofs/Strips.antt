@@ -16,7 +16,7 @@ use Rattle.tile_map.specs.Tiles.{some, differ, flag, changed_in, strip_map, IsTi
 use Rattle.tile_map.proofs.Some.{some_more, differ_part}
 
 -- ---- one byte
-byte_left : (d : Bool) (byte : ℕ) → d ≡ false → byte ≡ choose d 1 byte
+pub byte_left : (d : Bool) (byte : ℕ) → d ≡ false → byte ≡ choose d 1 byte
 byte_left d byte h = rw h
 
 pub flag_small : (b : Bool) → flag b ≤ 1

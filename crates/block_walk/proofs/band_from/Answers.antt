@@ -1,7 +1,7 @@
 -- `block_walk::band_from` meets its contract. Assumes nothing.
 use Rattle.std.proofs.Common.{arith}
 use Rattle.geometry.proofs.SizeLaws.{sizes_small, plane_of_small}
-use Rattle.block_walk.proofs.Bands.{in_frame, column_below, from_row}
+use Rattle.block_walk.proofs.Bands.{in_frame, column_below, in_four, in_plane, from_row}
 use Rattle.block_walk.proofs.band_from.Goals as goal
 
 pub plane_of-q-requires : goal.plane_of-q-requires
@@ -25,4 +25,9 @@ overflow_add-end c =
     )
 
 pub returns : goal.returns
-returns c = from_row c.args.format c.args.w c.args.h c.args.n c.requires.2 c.raster_block-b.result c.raster_block-b.ensures c.plane_of-q.result c.plane_of-q.ensures _ c.min.ensures
+returns c =
+    let four = in_four c.args.format c.args.w c.args.h c.args.n c.requires.2 c.raster_block-b.result c.raster_block-b.ensures c.plane_of-q.result c.plane_of-q.ensures in
+    let inside = in_plane c.args.format c.args.w c.args.h c.args.n c.requires.2 c.raster_block-b.result c.raster_block-b.ensures c.plane_of-q.result c.plane_of-q.ensures in
+    let end = c.min.ensures in
+    from_row c.args.format c.args.w c.args.h c.args.n c.requires.2 c.raster_block-b.result c.raster_block-b.ensures c.plane_of-q.result c.plane_of-q.ensures
+    _ (omega (arith, end)) (omega (arith, end)) (omega (arith, end, four, inside))
